@@ -1,13 +1,29 @@
-// A library with one function.
+//! What every layer of the gateway stands on: texts, lists and buffers, moments, and the traits of the
+//! outside (files, sinks, a door of connections, a clock) with objects in memory that keep them.
 #![tactic(auto)]
 
-ghost use Rattle.std.specs.Prelude.{◌≡◌};
-ghost use Rattle.gw_base.specs.Echo.{echo_of};
+mod absent;
+mod buffer;
+mod clock;
+mod door;
+mod files;
+mod list;
+mod memory_files;
+mod memory_sink;
+mod moment;
+mod sink;
+mod text;
+mod wire_kind;
 
-// The `ensures` clause is the contract: what `echo` returns is `echo_of` of its argument, a definition
-// in `specs/Echo.antt`, which a caller's clause can cite too.
-pub fn echo(x: usize) -> usize
-    ensures { result ≡ echo_of x }
-{
-    x
-}
+pub use absent::{NoClock, NoDoor};
+pub use buffer::Buf;
+pub use clock::Clock;
+pub use door::{Door, Entry, Mark};
+pub use files::{FileFault, Files, Got};
+pub use list::{Bytes, List};
+pub use memory_files::MemoryFiles;
+pub use memory_sink::MemorySink;
+pub use moment::Moment;
+pub use sink::{Failed, Sink, put_all};
+pub use text::Text;
+pub use wire_kind::WireKind;

@@ -1,0 +1,99 @@
+//! A list of values, and bytes as a list of them. Contracts see the list alone, and not its room.
+ghost use Rattle.std.specs.Prelude.{◌≡◌, ◌==◌, ◌++◌, ◌∷◌, [], length, OnOk, OnErr, IfOk};
+
+use std::alloc::{AllocError, Global};
+use std::marker::Model;
+
+/// A list of values. A contract sees it as the list of them.
+#[derive(Debug, Drop)]
+pub struct List<T> {
+    items: Vec<T>,
+}
+
+/// A list of bytes.
+pub type Bytes = List<u8>;
+
+impl<T> Model for List<T> {
+    ghost use Rattle.std.specs.Prelude.{List};
+
+    ghost Value = { List T };
+
+    ghost view = { λ a. a.items.items };
+}
+
+impl<T> List<T> {
+    /// An empty list, which takes no memory.
+    pub fn new(alloc: Global) -> List<T>
+        ensures empty { result ≡ [] }
+    {
+        List {
+            items: Vec::new(alloc),
+        }
+    }
+
+    /// The list of a vector's elements, which takes no memory.
+    pub fn from_vec(items: Vec<T>) -> List<T>
+        ensures same { result ≡ items.items }
+    {
+        List { items }
+    }
+
+    /// The vector of the elements, which takes no memory.
+    pub fn into_vec(self) -> Vec<T>
+        ensures same { result.items ≡ self }
+    {
+        let List { items } = self;
+        items
+    }
+
+    /// The number of elements.
+    pub fn len(&self) -> usize
+        ensures value { result ≡ length self.now }
+    {
+        self.items.len()
+    }
+
+    /// Whether there is no element.
+    pub fn is_empty(&self) -> bool
+        ensures value { result ≡ (length self.now == 0) }
+    {
+        self.items.is_empty()
+    }
+
+    /// The elements, in order.
+    pub fn as_slice(&self) -> &[T]
+        ensures same { result.now ≡ self.now }
+    {
+        self.items.as_slice()
+    }
+}
+
+impl<T: Drop> List<T> {
+    /// Adds an element at the end. For want of memory the list stays and the element is dropped.
+    pub fn push(&mut self, value: T) -> Result<(), AllocError>
+        ensures added { OnOk result (self.new ≡ self.old ++ value ∷ []) }
+        ensures kept { OnErr result (self.new ≡ self.old) }
+    {
+        self.items.push(value)?;
+        Ok(())
+    }
+}
+
+impl List<u8> {
+    /// The bytes of a slice, copied.
+    pub fn copied(alloc: Global, bytes: &[u8]) -> Result<Bytes, AllocError>
+        ensures same { IfOk result (λ list. list ≡ bytes.now) }
+    {
+        Ok(List {
+            items: Vec::from_slice(alloc, bytes)?,
+        })
+    }
+
+    /// Adds bytes at the end. For want of memory the list stays as it was.
+    pub fn extend(&mut self, bytes: &[u8]) -> Result<(), AllocError>
+        ensures added { OnOk result (self.new ≡ self.old ++ bytes.now) }
+        ensures kept { OnErr result (self.new ≡ self.old) }
+    {
+        self.items.extend_from_slice(bytes)
+    }
+}
