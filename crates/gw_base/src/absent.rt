@@ -1,6 +1,6 @@
 //! A door and a clock that are not there: each call fails and raises the count, and nothing is told.
-ghost use Rattle.std.specs.Prelude.{◌≡◌, true, None, IsErr};
-ghost use Rattle.gw_base.specs.Count.{counted};
+ghost use Rattle.std.specs.Prelude.{◌≡◌, ◌≤◌, true, None, IsErr};
+ghost use Rattle.gw_base.specs.Count.{Rose, counted};
 
 use crate::clock::Clock;
 use crate::door::{Door, Mark};
@@ -62,6 +62,8 @@ impl Sink for NoDoor {
     fn write(&mut self, _piece: &[u8]) -> Result<usize, Failed>
         ensures fails { IsErr result }
         ensures counts { self.new ≡ counted self.old }
+        ensures cause { Rose self.old self.new }
+        ensures never_falls { self.old ≤ self.new }
     {
         self.faults = self.faults.saturating_add(1);
         Err(Failed)
@@ -72,6 +74,8 @@ impl Door for NoDoor {
     fn next(&mut self) -> Result<bool, Failed>
         ensures fails { IsErr result }
         ensures counts { self.new ≡ counted self.old }
+        ensures cause { Rose self.old self.new }
+        ensures never_falls { self.old ≤ self.new }
     {
         self.faults = self.faults.saturating_add(1);
         Err(Failed)
@@ -80,6 +84,8 @@ impl Door for NoDoor {
     fn read(&mut self, _buf: &mut [u8]) -> Result<usize, Failed>
         ensures fails { IsErr result }
         ensures counts { self.new ≡ counted self.old }
+        ensures cause { Rose self.old self.new }
+        ensures never_falls { self.old ≤ self.new }
     {
         self.faults = self.faults.saturating_add(1);
         Err(Failed)
@@ -98,6 +104,8 @@ impl Clock for NoClock {
     fn now(&mut self) -> Result<Moment, Failed>
         ensures fails { IsErr result }
         ensures counts { self.new ≡ counted self.old }
+        ensures cause { Rose self.old self.new }
+        ensures never_falls { self.old ≤ self.new }
     {
         self.faults = self.faults.saturating_add(1);
         Err(Failed)

@@ -11,25 +11,29 @@ use std::marker::Model;
 #[derive(Debug, Drop)]
 pub struct Buf {
     bytes: Vec<u8>,
+    spare: usize,
 }
 
 impl Model for Buf {
-    ghost use Rattle.std.specs.Prelude.{◌-◌, ℕ, vec_len, vec_capacity};
+    ghost use Rattle.std.specs.Prelude.{◌+◌, ◌≤◌, vec_len, vec_capacity};
     ghost use Rattle.gw_base.specs.Written.{Written};
 
     ghost Value = { Written };
 
-    ghost view = { λ b. record { bytes = b.bytes.items; spare = vec_capacity b.bytes - vec_len b.bytes } };
+    ghost view = { λ b. record { bytes = b.bytes.items; spare = b.spare } };
+
+    ghost invariant = { λ b. vec_len b.bytes + b.spare ≤ vec_capacity b.bytes };
 }
 
 impl Buf {
-    /// An empty buffer with room for at least that many bytes.
-    pub fn with_room(room: usize, alloc: Global) -> Result<Buf, AllocError>
+    /// An empty buffer with room for that many bytes.
+    pub fn with_room(alloc: Global, room: usize) -> Result<Buf, AllocError>
         ensures empty { IfOk result (λ buf. buf.bytes ≡ []) }
-        ensures room { IfOk result (λ buf. room ≤ buf.spare) }
+        ensures room { IfOk result (λ buf. buf.spare ≡ room) }
     {
         Ok(Buf {
             bytes: Vec::with_capacity(alloc, room)?,
+            spare: room,
         })
     }
 
@@ -39,6 +43,7 @@ impl Buf {
         ensures bytes { self.new.bytes ≡ self.old.bytes ++ byte ∷ [] }
         ensures spare { self.new.spare ≡ self.old.spare - 1 }
     {
+        self.spare -= 1;
         self.bytes.push(byte).unwrap();
     }
 
@@ -48,7 +53,15 @@ impl Buf {
         ensures bytes { self.new.bytes ≡ self.old.bytes ++ bytes.now }
         ensures spare { self.new.spare ≡ self.old.spare - length bytes.now }
     {
+        self.spare -= bytes.len();
         self.bytes.extend_from_slice(bytes).unwrap();
+    }
+
+    /// How many more bytes it takes.
+    pub fn spare(&self) -> usize
+        ensures value { result ≡ self.now.spare }
+    {
+        self.spare
     }
 
     /// The bytes that were written.
@@ -62,7 +75,7 @@ impl Buf {
     pub fn into_bytes(self) -> Bytes
         ensures same { result ≡ self.bytes }
     {
-        let Buf { bytes } = self;
+        let Buf { bytes, spare: _ } = self;
         List::from_vec(bytes)
     }
 }

@@ -4,6 +4,7 @@
 
 mod absent;
 mod buffer;
+mod calls;
 mod clock;
 mod door;
 mod files;

@@ -1,20 +1,21 @@
 //! Files in memory.
-ghost use Rattle.std.specs.Prelude.{◌≡◌, ◌≢◌, ◌++◌, true, false, [], Ok, Err, Some, None, MatchOption};
+ghost use Rattle.std.specs.Prelude.{◌≡◌, ◌≢◌, ◌++◌, ◌≤◌, ℕ, List, true, false, if◌then◌else◌, length, Ok, Err, Some, None, IfSome, IsErrOf, option_map};
+ghost use Rattle.gw_base.specs.Count.{Rose};
 ghost use Rattle.gw_base.specs.Directory.{bytes_of, IsRead, IsLonger};
-ghost use Rattle.gw_base.specs.Memory.{Calls, Folder, fails_next, after_call, after_fault};
+ghost use Rattle.gw_base.specs.Memory.{Folder, fails_next, after_call, after_fault};
 
+use crate::calls::Plan;
 use crate::files::{FileFault, Files, Got};
 use crate::list::{Bytes, List};
 use crate::text::Text;
 use std::marker::Model;
 
-/// Files in memory, with the numbers of the reads that are to fail. It tells its files.
+/// Files in memory, with the numbers of the reads that are to fail. It tells its files. A contract sees
+/// the files and the calls.
 #[derive(Debug, Drop)]
 pub struct MemoryFiles {
     files: List<(Text, Bytes)>,
-    fails: List<u64>,
-    made: u64,
-    faults: u64,
+    calls: Plan,
 }
 
 impl Model for MemoryFiles {
@@ -22,7 +23,7 @@ impl Model for MemoryFiles {
 
     ghost Value = { Folder };
 
-    ghost view = { λ m. record { files = m.files; calls = record { fails = m.fails; made = m.made; faults = m.faults } } };
+    ghost view = { λ m. record { files = m.files; calls = m.calls } };
 }
 
 impl MemoryFiles {
@@ -33,21 +34,21 @@ impl MemoryFiles {
     {
         MemoryFiles {
             files,
-            fails,
-            made: 0,
-            faults: 0,
+            calls: Plan::new(fails),
         }
     }
+}
 
-    // The bytes of the first file of that name.
-    fn find(&self, name: &str) -> Option<&Bytes> {
-        for (held, bytes) in self.files.as_slice() {
-            if held.as_str() == name {
-                return Some(bytes);
-            }
+// The bytes of the first file of that name.
+fn file_of<'a>(files: &'a [(Text, Bytes)], name: &str) -> Option<&'a Bytes>
+    ensures { option_map (λ bytes. bytes.now) result ≡ bytes_of files.now name.now }
+{
+    for (held, bytes) in files {
+        if held.as_str() == name {
+            return Some(bytes);
         }
-        None
     }
+    None
 }
 
 impl Files for MemoryFiles {
@@ -56,12 +57,10 @@ impl Files for MemoryFiles {
     ghost faults = { λ m. m.calls.faults };
 
     fn read_file(&mut self, name: &str, limit: u64, into: &mut Bytes) -> Result<Got, FileFault> {
-        self.made = self.made.saturating_add(1);
-        if self.fails.as_slice().contains(&self.made) {
-            self.faults = self.faults.saturating_add(1);
+        if !self.calls.begin(true) {
             return Err(FileFault::Failed);
         }
-        let Some(bytes) = self.find(name) else {
+        let Some(bytes) = file_of(self.files.as_slice(), name) else {
             return Ok(Got::Missing);
         };
         if limit < bytes.len() as u64 {

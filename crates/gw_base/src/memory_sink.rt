@@ -1,7 +1,10 @@
 //! A sink in memory.
 ghost use Rattle.std.specs.Prelude.{◌≡◌, ◌+◌, ◌-◌, ◌≤◌, ◌<◌, ◌++◌, ◌&&◌, true, false, not, nat_le, [], length, Ok, Some, IsErr, IfOk};
+ghost use Rattle.gw_base.specs.Count.{Rose};
 ghost use Rattle.gw_base.specs.Memory.{Board, fails_next, fits_next, after_call, after_fault};
 
+use crate::buffer::Buf;
+use crate::calls::Plan;
 use crate::list::List;
 use crate::sink::{Failed, Sink};
 use std::alloc::{AllocError, Global};
@@ -12,37 +15,27 @@ use std::marker::Model;
 /// its whole piece. A contract sees what is written, the room that is left, and the calls.
 #[derive(Debug, Drop)]
 pub struct MemorySink {
-    written: Vec<u8>,
-    room: usize,
-    fails: List<u64>,
-    made: u64,
-    faults: u64,
+    written: Buf,
+    calls: Plan,
 }
 
 impl Model for MemorySink {
-    ghost use Rattle.std.specs.Prelude.{◌≡◌, ◌+◌, ◌≤◌, vec_len, vec_capacity};
     ghost use Rattle.gw_base.specs.Memory.{Board};
 
     ghost Value = { Board };
 
-    ghost view = { λ s. record { written = s.written.items; room = s.room; calls = record { fails = s.fails; made = s.made; faults = s.faults } } };
-
-    ghost invariant = { λ s. vec_len s.written + s.room ≤ vec_capacity s.written };
+    ghost view = { λ s. record { written = s.written.bytes; room = s.written.spare; calls = s.calls } };
 }
 
 impl MemorySink {
     /// An empty sink with room for that many bytes, which are taken at once. `fails` has the numbers,
     /// from 1, of the writes that are to fail.
-    pub fn make(room: u64, fails: List<u64>, alloc: Global) -> Result<MemorySink, AllocError>
+    pub fn make(alloc: Global, room: u64, fails: List<u64>) -> Result<MemorySink, AllocError>
         ensures made { IfOk result (λ sink. sink ≡ record { written = []; room = room; calls = record { fails = fails; made = 0; faults = 0 } }) }
     {
-        let room = room as usize;
         Ok(MemorySink {
-            written: Vec::with_capacity(alloc, room)?,
-            room,
-            fails,
-            made: 0,
-            faults: 0,
+            written: Buf::with_room(alloc, room as usize)?,
+            calls: Plan::new(fails),
         })
     }
 
@@ -61,16 +54,18 @@ impl Sink for MemorySink {
 
     fn write(&mut self, piece: &[u8]) -> Result<usize, Failed>
         requires { 0 < length piece.now }
+        // A write goes well exactly where it is not to fail and its piece fits, and then takes all of it.
         ensures went { fits_next self.old piece.now ≡ true → (result ≡ Ok (length piece.now)) × (self.new ≡ record { written = self.old.written ++ piece.now; room = self.old.room - length piece.now; calls = after_call self.old.calls }) }
         ensures failed { fits_next self.old piece.now ≡ false → IsErr result × (self.new ≡ record { written = self.old.written; room = self.old.room; calls = after_fault self.old.calls }) }
+
+        ensures cause { IsErr result → Rose self.old.calls.faults self.new.calls.faults }
+        ensures never_falls { self.old.calls.faults ≤ self.new.calls.faults }
     {
-        self.made = self.made.saturating_add(1);
-        if self.fails.as_slice().contains(&self.made) || self.room < piece.len() {
-            self.faults = self.faults.saturating_add(1);
+        let fits = piece.len() <= self.written.spare();
+        if !self.calls.begin(fits) {
             return Err(Failed);
         }
-        self.room -= piece.len();
-        self.written.extend_from_slice(piece).unwrap();
+        self.written.put_slice(piece);
         Ok(piece.len())
     }
 }

@@ -41,7 +41,8 @@ pub fn put_all<S: Sink>(sink: &mut S, bytes: &[u8]) -> Result<(), Failed>
 {
     let mut done = 0;
     while done < bytes.len() {
-        done += sink.write(&bytes[done..])?;
+        let (_, rest) = bytes.split_at(done);
+        done += sink.write(rest)?;
     }
     Ok(())
 }
