@@ -13,6 +13,8 @@ mod memory_files;
 mod memory_sink;
 mod moment;
 mod sink;
+#[cfg(test)]
+mod tests;
 mod text;
 mod wire_kind;
 

@@ -1,5 +1,5 @@
 //! Files in memory.
-ghost use Rattle.std.specs.Prelude.{◌≡◌, ◌≢◌, ◌++◌, ◌≤◌, ℕ, List, true, false, if◌then◌else◌, length, Ok, Err, Some, None, IfSome, IsErrOf, option_map};
+ghost use Rattle.std.specs.Prelude.{◌≡◌, ◌≢◌, ◌++◌, ◌≤◌, ℕ, List, true, false, if◌then◌else◌, length, Ok, Err, Some, None, IsErrOf, option_map};
 ghost use Rattle.gw_base.specs.Count.{Rose};
 ghost use Rattle.gw_base.specs.Directory.{bytes_of, IsRead, IsLonger};
 ghost use Rattle.gw_base.specs.Memory.{Folder, fails_next, after_call, after_fault};
@@ -56,7 +56,21 @@ impl Files for MemoryFiles {
 
     ghost faults = { λ m. m.calls.faults };
 
-    fn read_file(&mut self, name: &str, limit: u64, into: &mut Bytes) -> Result<Got, FileFault> {
+    fn read_file(&mut self, name: &str, limit: u64, into: &mut Bytes) -> Result<Got, FileFault>
+        ensures appended { result ≡ Ok Got.Whole → (bytes : List ℕ) × (length bytes ≤ limit) × (into.new ≡ into.old ++ bytes) }
+        ensures kept { result ≢ Ok Got.Whole → into.new ≡ into.old }
+        ensures whole { result ≡ Ok Got.Whole → IsRead (bytes_of self.old.files name.now) limit into.old into.new }
+        ensures missing { result ≡ Ok Got.Missing → bytes_of self.old.files name.now ≡ None }
+        ensures too_long { result ≡ Ok Got.TooLong → IsLonger (bytes_of self.old.files name.now) limit }
+        ensures cause { IsErrOf result FileFault.Failed → Rose self.old.calls.faults self.new.calls.faults }
+        ensures never_falls { self.old.calls.faults ≤ self.new.calls.faults }
+
+        // It fails exactly where the call's number is among those that are to fail.
+        ensures fails { fails_next self.old.calls ≡ true → result ≡ Err FileFault.Failed }
+        ensures goes { fails_next self.old.calls ≡ false → result ≢ Err FileFault.Failed }
+        ensures files { self.new.files ≡ self.old.files }
+        ensures calls { self.new.calls ≡ (if fails_next self.old.calls then after_fault self.old.calls else after_call self.old.calls) }
+    {
         if !self.calls.begin(true) {
             return Err(FileFault::Failed);
         }
