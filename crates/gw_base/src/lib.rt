@@ -11,6 +11,7 @@ mod files;
 mod list;
 mod memory_files;
 mod memory_sink;
+mod messages;
 mod moment;
 mod sink;
 #[cfg(test)]
@@ -26,6 +27,10 @@ pub use files::{FileFault, Files, Got};
 pub use list::{Bytes, List};
 pub use memory_files::MemoryFiles;
 pub use memory_sink::MemorySink;
+pub use messages::{
+    Alert, Entity, Event, Feed, Period, Selector, StopUpdate, Translation, TripDescriptor,
+    TripUpdate,
+};
 pub use moment::Moment;
 pub use sink::{Failed, Sink, put_all};
 pub use text::Text;
