@@ -1,13 +1,14 @@
-// A library with one function.
+//! Service days and moments: dates in the two spellings of GTFS and SIRI, UTC moments, and zones.
+//! Days are numbers of days since 1970-01-01, moments seconds since 1970-01-01T00:00:00Z.
 #![tactic(auto)]
 
-ghost use Rattle.std.specs.Prelude.{◌≡◌};
-ghost use Rattle.service_day.specs.Echo.{echo_of};
+mod day_texts;
+mod days;
+mod digits;
+#[cfg(test)]
+mod tests;
+mod utc;
 
-// The `ensures` clause is the contract: what `echo` returns is `echo_of` of its argument, a definition
-// in `specs/Echo.antt`, which a caller's clause can cite too.
-pub fn echo(x: usize) -> usize
-    ensures { result ≡ echo_of x }
-{
-    x
-}
+pub use day_texts::{day_compact, day_text, read_day};
+pub use days::{Day, DayForm};
+pub use utc::{read_utc, write_moment};

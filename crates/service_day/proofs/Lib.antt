@@ -1,0 +1,4 @@
+pub mod DayLemmas
+pub mod DayTextLemmas
+pub mod FormLemmas
+pub mod UtcLemmas

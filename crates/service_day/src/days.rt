@@ -1,0 +1,105 @@
+//! A service day: a date of the years 0001 to 9999, held as its number of days since 1970-01-01.
+//! The calendar is `jiff`'s.
+ghost use Rattle.std.specs.Prelude.{◌≡◌, ◌/◌, ◌<◌, pos, unsigned_abs};
+ghost use Rattle.jiff_core.specs.Calendar.{weekday_number};
+ghost use Rattle.jiff_core.specs.Date.{epoch_day};
+ghost use Rattle.service_day.specs.Days.{IsDay, date_number, year_of, month_of, day_of_month};
+ghost use Rattle.service_day.specs.Utc.{IsMoment};
+
+use jiff_core::civil::Date;
+use std::marker::Model;
+
+/// A date of the years 0001 to 9999. A contract sees its number of days since 1970-01-01.
+#[derive(Clone, Copy, Debug, PartialEq, Eq, PartialOrd, Ord)]
+pub struct Day {
+    number: i32,
+}
+
+impl Model for Day {
+    ghost use Rattle.std.specs.Prelude.{ℤ};
+    ghost use Rattle.service_day.specs.Days.{IsDay};
+
+    ghost Value = { ℤ };
+
+    ghost view = { λ day. day.number };
+
+    ghost invariant = { λ day. IsDay day.number };
+
+    ghost inverse = { λ number. record { number = number } };
+}
+
+/// How a date is spelled.
+#[derive(Clone, Copy, Debug, PartialEq, Eq)]
+pub enum DayForm {
+    /// `YYYY-MM-DD`, the extended format of ISO 8601.
+    Dashed,
+    /// `YYYYMMDD`, the basic format of ISO 8601 and the Date type of GTFS.
+    Compact,
+    /// One of the two.
+    Either,
+}
+
+impl Day {
+    /// Days since 1970-01-01.
+    pub fn number(&self) -> i32
+        ensures value { result ≡ self.now }
+        ensures range { IsDay result }
+    {
+        self.number
+    }
+
+    /// The day of the week: 0 on Monday to 6 on Sunday.
+    pub fn weekday(&self) -> u8
+        ensures { result ≡ weekday_number self.now }
+    {
+        (self.number + 3).rem_euclid(7) as u8
+    }
+
+    /// The day with this year, month and day of the month, if the calendar has it in 0001 to 9999.
+    pub(crate) fn from_parts(year: u32, month: u32, day: u32) -> Option<Day>
+        ensures { result ≡ date_number year month day }
+    {
+        if year < 1 || year > 9999 || month > 12 || day > 31 {
+            return None;
+        }
+        match Date::new(year as i16, month as i8, day as i8) {
+            Ok(date) => Some(Day {
+                number: date.to_unix_epoch_day(),
+            }),
+            Err(_) => None,
+        }
+    }
+
+    /// The date of the calendar.
+    pub(crate) fn date(self) -> Date
+        ensures value { epoch_day result ≡ self }
+        ensures range { IsDay self }
+    {
+        match Date::from_unix_epoch_day(self.number as i64) {
+            Ok(date) => date,
+            Err(_) => unreachable!(),
+        }
+    }
+
+    /// The year, the month and the day of the month.
+    pub(crate) fn parts(self) -> (u32, u32, u32)
+        ensures year { result.0 ≡ year_of self }
+        ensures month { result.1 ≡ month_of self }
+        ensures day { result.2 ≡ day_of_month self }
+        ensures within { IsDay self }
+        ensures digits { (result.0 < 10000) × (result.1 < 100) × (result.2 < 100) }
+    {
+        let date = self.date();
+        (date.year as u32, date.month as u32, date.day as u32)
+    }
+
+    /// The UTC date of a moment.
+    pub(crate) fn at_moment(secs: i64) -> Day
+        requires { IsMoment secs }
+        ensures { result ≡ pos (unsigned_abs secs / 86400) }
+    {
+        Day {
+            number: (secs / 86_400) as i32,
+        }
+    }
+}
