@@ -1,0 +1,2 @@
+mod FieldLengths
+mod HeaderLemmas

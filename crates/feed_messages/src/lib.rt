@@ -1,0 +1,11 @@
+//! The messages of GTFS Realtime 2.0 in protobuf's encoding. What is written is the bytes that the
+//! definitions of `specs/Written.antt` name.
+#![tactic(auto)]
+
+mod cancelled;
+mod header;
+#[cfg(test)]
+mod tests;
+
+pub use cancelled::cancelled_bytes;
+pub use header::{HeaderBytes, header_bytes};

@@ -1,0 +1,95 @@
+//! What one journey of a delivery says, and why it is set aside.
+use gw_base::Moment;
+use serde_json::Value;
+use service_day::{Day, DayForm, read_day, read_utc};
+use stop_schedule::{Timetable, TripNo};
+
+/// A journey that is cancelled, as was recorded at a moment. Ordered by service day and then trip.
+#[derive(Clone, Copy, Debug, PartialEq, Eq, PartialOrd, Ord)]
+pub struct Cancelled {
+    /// The service day.
+    pub day: Day,
+    /// The trip.
+    pub trip: TripNo,
+    /// When it was recorded.
+    pub recorded: Moment,
+}
+
+/// Why an item is set aside.
+#[derive(Clone, Copy, Debug, PartialEq, Eq)]
+pub enum Aside {
+    /// It isn't a cancelled journey of the plain form, or the journey stood in the delivery before.
+    NotYet,
+    /// No trip has its id.
+    UnknownJourney,
+    /// Its day isn't in the window.
+    OutOfWindow,
+}
+
+/// The days for which journeys are taken.
+#[derive(Clone, Copy, Debug)]
+pub struct Window {
+    /// The first day.
+    pub first: Day,
+    /// How many days, from 1 to 32.
+    pub days: u8,
+}
+
+impl Window {
+    /// Whether a day is one of them.
+    pub fn contains(&self, day: Day) -> bool {
+        let first = self.first.number();
+        first <= day.number() && day.number() - first < i32::from(self.days)
+    }
+}
+
+// A cancelled journey as it is spelled: its moment, its day and its trip's id.
+#[derive(Clone, Copy)]
+struct Spelling<'a> {
+    recorded: Moment,
+    day: Day,
+    trip_id: &'a str,
+}
+
+// The text under a name.
+fn text_at<'a>(item: &'a Value, name: &str) -> Option<&'a str> {
+    item.get(name)?.as_str()
+}
+
+// A cancelled journey in the plain form (SIRI 2.0, EstimatedVehicleJourney with Cancellation).
+fn spelled(item: &Value) -> Option<Spelling<'_>> {
+    let recorded = Moment::new(read_utc(text_at(item, "RecordedAtTime")?)?)?;
+    let reference = item.get("FramedVehicleJourneyRef")?;
+    let day = read_day(text_at(reference, "DataFrameRef")?, DayForm::Dashed)?;
+    let trip_id = text_at(reference, "DatedVehicleJourneyRef")?;
+    if trip_id.is_empty() || item.get("ExtraJourney").is_some() {
+        return None;
+    }
+    if item.get("Cancellation")?.as_bool()? {
+        Some(Spelling {
+            recorded,
+            day,
+            trip_id,
+        })
+    } else {
+        None
+    }
+}
+
+/// The cancelled journey that an item is, or why it is set aside.
+pub fn verdict(item: &Value, table: &Timetable, window: &Window) -> Result<Cancelled, Aside> {
+    let Some(spelled) = spelled(item) else {
+        return Err(Aside::NotYet);
+    };
+    let Some(trip) = table.find_trip(spelled.trip_id) else {
+        return Err(Aside::UnknownJourney);
+    };
+    if !window.contains(spelled.day) {
+        return Err(Aside::OutOfWindow);
+    }
+    Ok(Cancelled {
+        day: spelled.day,
+        trip,
+        recorded: spelled.recorded,
+    })
+}

@@ -1,0 +1,61 @@
+//! The program `gateway`: deliveries of SIRI 2.0 over one GTFS Schedule folder become a GTFS Realtime 2.0
+//! feed. `main` hands the real words and devices to the top call.
+#![tactic(auto)]
+
+mod delivery;
+mod devices;
+mod feed;
+mod frame;
+mod item;
+mod outcome;
+mod report;
+mod top;
+mod words;
+
+use devices::{DirFiles, StdSink};
+use gw_base::{NoClock, NoDoor, Text};
+use std::alloc::Global;
+use std::env;
+use std::io;
+use std::process::ExitCode;
+
+const USAGE: &str = "\
+usage: gateway to-gtfsrt --gtfs DIR --zone-rule RULE --from YYYY-MM-DD --days N --at YYYY-MM-DDThh:mm:ssZ --et FILE
+
+to-gtfsrt reads the GTFS folder DIR and the SIRI estimated timetable FILE, and writes a GTFS Realtime feed
+to standard output and a report to standard error.
+";
+
+const VERSION: &str = concat!("gateway ", "0.1.0", "\n");
+
+// The words of the command line behind the program's name.
+fn words_of(rt: &HostRuntime, alloc: Global) -> io::Result<Vec<Text>> {
+    let mut words = Vec::new(alloc);
+    for word in env::args(rt)?.skip(1) {
+        words.push(Text::from_string(word))?;
+    }
+    Ok(words)
+}
+
+fn main(rt: HostRuntime) -> ExitCode {
+    let alloc = rt.alloc();
+    let mut out = StdSink::new(rt.stdout());
+    let mut err = StdSink::new(rt.stderr());
+    let status = match words_of(&rt, alloc) {
+        Ok(words) => match words.as_slice() {
+            [word] if word.as_str() == "--help" => top::print(&mut out, USAGE),
+            [word] if word.as_str() == "--version" => top::print(&mut out, VERSION),
+            words => top::gateway(
+                alloc,
+                words,
+                &mut DirFiles::new(alloc, &rt),
+                &mut NoDoor::new(),
+                &mut NoClock::new(),
+                &mut out,
+                &mut err,
+            ),
+        },
+        Err(_) => top::no_memory(&mut err),
+    };
+    ExitCode::from(status)
+}
