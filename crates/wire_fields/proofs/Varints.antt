@@ -1,0 +1,70 @@
+-- How long a number's spelling is, and how it goes on byte by byte.
+use Rattle.std.proofs.Common.{◌≡◌, ℕ, zero, suc, ◌+◌, ◌*◌, ◌/◌, ◌%◌, ◌^◌, ◌<◌, ◌≤◌, [], ◌∷◌, length, refl, arith, inl, inr}
+use Rattle.std.proofs.lemmas.Bool.{cases_lt, le-ltb, lt-ltb}
+use Rattle.std.proofs.lemmas.Nat.{div_below}
+use Rattle.std.proofs.Math.Nat.{pow-suc}
+use Rattle.wire_fields.specs.Spelling.{seven_bits_each, varint}
+
+-- a number below 128 is its own spelling
+pub last_byte : (most number : ℕ) → number < 128 → seven_bits_each (suc most) number ≡ number ∷ []
+unfolding seven_bits_each
+last_byte most number lt = rw (lt-ltb number 128 lt) refl
+
+-- a greater one has its seven lowest bits first
+pub first_byte : (most number : ℕ) → 128 ≤ number → seven_bits_each (suc most) number ≡ (number % 128 + 128) ∷ seven_bits_each most (number / 128)
+unfolding seven_bits_each
+first_byte most number le = rw (le-ltb number 128 le) refl
+
+length-seven_bits_each : (k most number : ℕ) → suc k ≤ most → number < 128 ^ suc k → (1 ≤ length (seven_bits_each most number)) × (length (seven_bits_each most number) ≤ suc k)
+length-seven_bits_each k zero number fits lt = absurd (omega arith)
+length-seven_bits_each zero (suc most) number fits lt =
+    rw (last_byte most number lt) (omega arith, omega arith)
+length-seven_bits_each (suc k) (suc most) number fits lt =
+    elim (cases_lt number 128) [
+      | inl below ↦ rw (last_byte most number below) (omega arith, omega arith)
+      | inr above ↦
+          let power : 128 ^ suc (suc k) ≡ 128 ^ suc k * 128 = pow-suc 128 (suc k) in
+          let less : number / 128 < 128 ^ suc k = div_below number 128 (128 ^ suc k) (omega arith) (omega (arith, power, lt)) in
+          let shorter = length-seven_bits_each k most (number / 128) (omega arith) less in
+          rw (first_byte most number above) (omega arith, omega (arith, shorter.1))
+    ]
+
+not_last : (next number : ℕ) → number / 128 < 128 ^ next → 128 ≤ number → 0 < next
+not_last zero number less above = absurd (omega (arith, less))
+not_last (suc next) number less above = omega arith
+
+-- with one byte less to spell it in, the number without its seven lowest bits
+pub one_more : (left next number : ℕ) → left ≡ suc next → 128 ≤ number → number < 128 ^ left
+    → (0 < next) × (number / 128 < 128 ^ next) × (seven_bits_each left number ≡ (number % 128 + 128) ∷ seven_bits_each next (number / 128))
+one_more left next number e above below =
+    let below' : number < 128 ^ suc next = rw e at below in
+    let power : 128 ^ suc next ≡ 128 ^ next * 128 = pow-suc 128 next in
+    let less : number / 128 < 128 ^ next = div_below number 128 (128 ^ next) (omega arith) (omega (arith, power, below')) in
+    (not_last next number less above, less, rw e (first_byte next number above))
+
+-- the last byte
+pub no_more : (left next number : ℕ) → left ≡ suc next → number < 128 → seven_bits_each left number ≡ number ∷ []
+no_more left next number e lt = rw e (last_byte next number lt)
+
+-- a number below 128 ^ k is spelled in at most k bytes, k being 1 to 10
+pub length-varint_below : (k number : ℕ) → k < 10 → number < 128 ^ suc k → length (varint number) ≤ suc k
+unfolding varint
+length-varint_below k number lt below = (length-seven_bits_each k 10 number (omega arith) below).1
+
+-- the length of a spelling, by ranges
+pub length-varint_1 : (number : ℕ) → number < 128 → length (varint number) ≡ 1
+unfolding varint
+length-varint_1 number below = rw (last_byte 9 number below) refl
+
+pub length-varint_5 : (number : ℕ) → number < 2 ^ 35 → length (varint number) ≤ 5
+length-varint_5 number below = length-varint_below 4 number (omega arith) below
+
+pub length-varint_6 : (number : ℕ) → number < 2 ^ 42 → length (varint number) ≤ 6
+length-varint_6 number below = length-varint_below 5 number (omega arith) below
+
+pub length-varint_10 : (number : ℕ) → number < 2 ^ 64 → length (varint number) ≤ 10
+length-varint_10 number below = length-varint_below 9 number (omega arith) (omega arith)
+
+pub length-varint_some : (number : ℕ) → number < 2 ^ 64 → 1 ≤ length (varint number)
+unfolding varint
+length-varint_some number below = (length-seven_bits_each 9 10 number (omega arith) (omega arith)).0
