@@ -1,0 +1,4 @@
+pub mod FieldLemmas
+pub mod IdLemmas
+pub mod RowLemmas
+pub mod TripLemmas

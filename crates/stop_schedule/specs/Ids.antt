@@ -1,0 +1,21 @@
+-- Ids of trips, stops and routes.
+use Rattle.std.specs.Prelude.{◌&&◌, ℕ, Bool, true, not, nat_le, List, [], ◌∷◌, length}
+use Rattle.std.specs.List.{list_all, list_any}
+use Rattle.std.specs.Str.{bytes_eq, is_utf8}
+
+-- UTF-8 text of 1 to 200 bytes
+abbrev pub is_id : List ℕ → Bool
+is_id id = is_utf8 id && nat_le 1 (length id) && nat_le (length id) 200
+
+-- whether a list has that id
+abbrev pub has_id : List ℕ → List (List ℕ) → Bool
+has_id id ids = list_any (bytes_eq id) ids
+
+-- no id of the list stands in it again
+abbrev pub are_distinct : List (List ℕ) → Bool
+are_distinct [] = true
+are_distinct (id ∷ ids) = not (has_id id ids) && are_distinct ids
+
+-- each is an id, and none stands there twice
+abbrev pub are_ids : List (List ℕ) → Bool
+are_ids ids = list_all is_id ids && are_distinct ids

@@ -1,0 +1,50 @@
+//! The files of a folder, by name.
+ghost use Rattle.std.specs.Prelude.{◌≡◌, ◌≤◌, IfSome, IfOk, IsErrOf};
+ghost use Rattle.std.specs.String.{string_bytes};
+ghost use Rattle.gw_base.specs.Count.{Rose};
+ghost use Rattle.gw_base.specs.Directory.{bytes_of};
+ghost use Rattle.stop_schedule.specs.Answers.{GivesFile};
+ghost use Rattle.stop_schedule.specs.Timetable.{path_of};
+
+use crate::table_fault::TableFault;
+use crate::table_file::TableFile;
+use gw_base::{Bytes, FileFault, Files, Got, List};
+use std::alloc::{AllocError, Global};
+
+/// The bytes that a file has at most.
+const MAX_FILE_LEN: u64 = 268_435_456;
+
+// The name of a file in a folder.
+fn path(alloc: Global, dir: &str, file: TableFile) -> Result<String, AllocError>
+    ensures { IfOk result (λ path. string_bytes path ≡ path_of dir.now file) }
+{
+    let mut path = String::from_str(alloc, dir)?;
+    path.push_str("/")?;
+    path.push_str(file.name())?;
+    Ok(path)
+}
+
+/// The bytes of a file of a folder, of which there are at most 268,435,456.
+pub(crate) fn read_file<F: Files>(
+    alloc: Global,
+    files: &mut F,
+    dir: &str,
+    file: TableFile,
+) -> Result<Bytes, TableFault>
+    ensures exact { IfSome (F.told files.old) (λ told. GivesFile result file (bytes_of told (path_of dir.now file))) }
+    ensures cause { (at : TableFile) → IsErrOf result (TableFault.Failed at) → Rose (F.faults files.old) (F.faults files.new) }
+    ensures never_falls { F.faults files.old ≤ F.faults files.new }
+    ensures same { F.told files.new ≡ F.told files.old }
+{
+    let Ok(path) = path(alloc, dir, file) else {
+        return Err(TableFault::Memory);
+    };
+    let mut bytes = List::new(alloc);
+    match files.read_file(path.as_str(), MAX_FILE_LEN, &mut bytes) {
+        Ok(Got::Whole) => Ok(bytes),
+        Ok(Got::Missing) => Err(TableFault::Missing(file)),
+        Ok(Got::TooLong) => Err(TableFault::BadTable(file)),
+        Err(FileFault::Failed) => Err(TableFault::Failed(file)),
+        Err(FileFault::Memory) => Err(TableFault::Memory),
+    }
+}
