@@ -19,8 +19,8 @@ cancelled_update trip_id date recorded = record { trip = cancelled_trip trip_id 
 -- the entity that says so
 abbrev pub cancelled_entity : List ℕ → List ℕ → ℤ → Entity
 cancelled_entity trip_id date recorded = record {
-      id = entity_id trip_id date;
-      deleted = false;
-      trip_update = Some (cancelled_update trip_id date recorded);
-      alert = None;
-    }
+  id = entity_id trip_id date;
+  deleted = false;
+  trip_update = Some (cancelled_update trip_id date recorded);
+  alert = None;
+}

@@ -14,8 +14,11 @@ const CANCELED: u64 = 3;
 
 // Room that is enough for the messages of a trip whose id has at most 200 bytes, from the inmost to the field.
 const TRIP_ROOM: usize = 300;
+
 const UPDATE_ROOM: usize = 400;
+
 const ENTITY_ROOM: usize = 700;
+
 const FIELD_ROOM: usize = 800;
 
 // Adds a field of bytes where the room is ample, without counting the bytes of its tag and its length.
