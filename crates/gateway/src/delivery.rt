@@ -1,4 +1,9 @@
 //! A delivery of estimated timetables: which of its journeys are taken, and which are set aside.
+ghost use Rattle.std.specs.Prelude.{◌≡◌, ◌<◌, None, length, IfOk, IfSome, IsSome, IsErrOf};
+ghost use Rattle.std.specs.List.{AllByRecursion};
+ghost use Rattle.gateway.specs.Frame.{journeys_of};
+ghost use Rattle.gateway.specs.Items.{setting_of, Sorts};
+
 use crate::frame::{FrameFault, journeys};
 use crate::item::{Aside, Cancelled, Window, verdict};
 use indexmap::IndexSet;
@@ -16,6 +21,7 @@ pub enum DeliveryFault {
 }
 
 impl From<AllocError> for DeliveryFault {
+    ghost use Rattle.std.specs.Prelude.{◌≡◌};
     ghost use Rattle.gateway.specs.declared.delivery.DeliveryFault.TheVariants.{Memory};
 
     ghost from_gives = { λ _ e. e ≡ Memory };
@@ -26,6 +32,7 @@ impl From<AllocError> for DeliveryFault {
 }
 
 impl<T: Drop> From<AllocFailed<T>> for DeliveryFault {
+    ghost use Rattle.std.specs.Prelude.{◌≡◌};
     ghost use Rattle.gateway.specs.declared.delivery.DeliveryFault.TheVariants.{Memory};
 
     ghost from_gives = { λ _ e. e ≡ Memory };
@@ -77,7 +84,12 @@ pub fn read_delivery(
     body: &[u8],
     table: &Timetable,
     window: &Window,
-) -> Result<Delivery, DeliveryFault> {
+) -> Result<Delivery, DeliveryFault>
+    ensures sorted { IfOk result (λ delivery. IfSome (journeys_of body.now) (Sorts (setting_of table.now window.now) delivery)) }
+    ensures found { IfOk result (λ delivery. IsSome (journeys_of body.now)) }
+    ensures trips { IfOk result (λ delivery. AllByRecursion (λ journey. journey.trip.0 < length table.now.trips) delivery.taken.items) }
+    ensures fault { IsErrOf result DeliveryFault.BadDelivery → journeys_of body.now ≡ None }
+{
     let root = match Value::from_slice(alloc, body) {
         Ok(root) => root,
         Err(fault) if fault.is_memory() => return Err(DeliveryFault::Memory),

@@ -1,4 +1,7 @@
 //! The feed of cancelled journeys.
+ghost use Rattle.std.specs.Prelude.{◌<◌, length};
+ghost use Rattle.std.specs.List.{AllByRecursion};
+
 use crate::item::Cancelled;
 use feed_messages::{cancelled_bytes, header_bytes};
 use gw_base::Moment;
@@ -16,7 +19,9 @@ pub fn feed_bytes(
     at: Moment,
     table: &Timetable,
     journeys: &[Cancelled],
-) -> Result<Vec<u8>, AllocError> {
+) -> Result<Vec<u8>, AllocError>
+    requires { AllByRecursion (λ journey. journey.trip.0 < length table.now.trips) journeys.now }
+{
     let mut ordered = Vec::from_slice(alloc, journeys)?;
     ordered.sort()?;
     let mut feed = Vec::from_slice(alloc, header_bytes(at).as_slice())?;

@@ -1,5 +1,9 @@
 //! The plain frame of an estimated timetable: the way down from the root of a delivery to its journeys
 //! (SIRI 2.0, ServiceDelivery to EstimatedVehicleJourney; in JSON after SIRI Lite).
+ghost use Rattle.std.specs.Prelude.{◌≡◌, Some, None, map, IfOk, IsErrOf};
+ghost use Rattle.serde_json.specs.View.{view};
+ghost use Rattle.gateway.specs.Frame.{journeys_in};
+
 use serde_json::Value;
 use std::alloc::{AllocError, AllocFailed, Global};
 
@@ -13,6 +17,7 @@ pub enum FrameFault {
 }
 
 impl From<AllocError> for FrameFault {
+    ghost use Rattle.std.specs.Prelude.{◌≡◌};
     ghost use Rattle.gateway.specs.declared.frame.FrameFault.TheVariants.{Memory};
 
     ghost from_gives = { λ _ e. e ≡ Memory };
@@ -23,6 +28,7 @@ impl From<AllocError> for FrameFault {
 }
 
 impl<T: Drop> From<AllocFailed<T>> for FrameFault {
+    ghost use Rattle.std.specs.Prelude.{◌≡◌};
     ghost use Rattle.gateway.specs.declared.frame.FrameFault.TheVariants.{Memory};
 
     ghost from_gives = { λ _ e. e ≡ Memory };
@@ -63,7 +69,10 @@ fn below<'a>(
 }
 
 /// The journeys of a delivery, in document order.
-pub fn journeys(alloc: Global, root: &Value) -> Result<Vec<&Value>, FrameFault> {
+pub fn journeys(alloc: Global, root: &Value) -> Result<Vec<&Value>, FrameFault>
+    ensures found { IfOk result (λ items. journeys_in (view root.now) ≡ Some (map (λ item. view item.now) items.items)) }
+    ensures fault { IsErrOf result FrameFault.NotFrame → journeys_in (view root.now) ≡ None }
+{
     if root.get("Siri").is_some() {
         return Err(FrameFault::NotFrame);
     }

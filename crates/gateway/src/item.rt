@@ -1,4 +1,9 @@
 //! What one journey of a delivery says, and why it is set aside.
+ghost use Rattle.std.specs.Prelude.{◌≡◌, ◌<◌, length, IfOk, option_map};
+ghost use Rattle.serde_json.specs.View.{view};
+ghost use Rattle.gateway.specs.Journeys.{in_window, spelt, verdict};
+ghost use Rattle.gateway.specs.Items.{setting_of, spelt_of};
+
 use gw_base::Moment;
 use serde_json::Value;
 use service_day::{Day, DayForm, read_day, read_utc};
@@ -57,7 +62,9 @@ fn text_at<'a>(item: &'a Value, name: &str) -> Option<&'a str> {
 }
 
 // A cancelled journey in the plain form (SIRI 2.0, EstimatedVehicleJourney with Cancellation).
-fn spelled(item: &Value) -> Option<Spelling<'_>> {
+fn spelled(item: &Value) -> Option<Spelling<'_>>
+    ensures { option_map spelt_of result ≡ spelt (view item.now) }
+{
     let recorded = Moment::new(read_utc(text_at(item, "RecordedAtTime")?)?)?;
     let reference = item.get("FramedVehicleJourneyRef")?;
     let day = read_day(text_at(reference, "DataFrameRef")?, DayForm::Dashed)?;
@@ -77,7 +84,10 @@ fn spelled(item: &Value) -> Option<Spelling<'_>> {
 }
 
 /// The cancelled journey that an item is, or why it is set aside.
-pub fn verdict(item: &Value, table: &Timetable, window: &Window) -> Result<Cancelled, Aside> {
+pub fn verdict(item: &Value, table: &Timetable, window: &Window) -> Result<Cancelled, Aside>
+    ensures value { result ≡ verdict (setting_of table.now window.now) (view item.now) }
+    ensures trip { IfOk result (λ journey. journey.trip.0 < length table.now.trips) }
+{
     let Some(spelled) = spelled(item) else {
         return Err(Aside::NotYet);
     };

@@ -91,17 +91,30 @@ fn to_gtfsrt<'a, F: Files>(
     Ok(Done { out, err })
 }
 
-/// What the words come to over the files. Nothing is written.
-pub fn outcome<'a, F: Files>(alloc: Global, words: &'a [Text], files: &mut F) -> Result<Done, Stop<'a>> {
-    match job(words) {
-        Ok(Work::ToGtfsrt {
+// Carries out a command.
+fn carried_out<'a, F: Files>(alloc: Global, work: &Work<'a>, files: &mut F) -> Result<Done, Stop<'a>> {
+    match work {
+        Work::ToGtfsrt {
             gtfs,
             zone: _,
             from,
             days,
             at,
             more,
-        }) => to_gtfsrt(alloc, files, gtfs, &Window { first: from, days }, at, &more[1]),
+        } => {
+            let window = Window {
+                first: *from,
+                days: *days,
+            };
+            to_gtfsrt(alloc, files, gtfs, &window, *at, &more[1])
+        }
+    }
+}
+
+/// What the words come to over the files. Nothing is written.
+pub fn outcome<'a, F: Files>(alloc: Global, words: &'a [Text], files: &mut F) -> Result<Done, Stop<'a>> {
+    match job(words) {
+        Ok(work) => carried_out(alloc, &work, files),
         Err(bad) => Err(Stop::BadWord(bad.at)),
     }
 }

@@ -1,4 +1,8 @@
 //! The words of a command line. Only exactly the lists of words of a command are accepted.
+ghost use Rattle.std.specs.Prelude.{◌≡◌, ◌<◌, IfOk, IfErr};
+ghost use Rattle.gateway.specs.Words.{IsToGtfsrt, IsRefusedAt, decimal_number};
+ghost use Rattle.gateway.specs.Works.{command_of};
+
 use gw_base::{Moment, Text};
 use service_day::{Day, DayForm, read_day, read_utc};
 
@@ -59,7 +63,9 @@ fn literal(words: &[Text], at: usize, expected: &str) -> Result<(), BadWord> {
 }
 
 // The word behind a flag that stands at a place. It isn't empty.
-fn behind<'a>(words: &'a [Text], at: usize, flag: &str) -> Result<&'a Text, BadWord> {
+fn behind<'a>(words: &'a [Text], at: usize, flag: &str) -> Result<&'a Text, BadWord>
+    requires { at < 100 }
+{
     literal(words, at, flag)?;
     match words.get(at + 1) {
         Some(word) if !word.as_str().is_empty() => Ok(word),
@@ -78,19 +84,15 @@ fn first_day(word: &Text) -> Option<Day> {
 }
 
 // A number in 1 to 10 decimal digits.
-fn number(word: &Text) -> Option<u64> {
-    let digits = word.as_str().as_bytes();
-    if digits.is_empty() || 10 < digits.len() {
+fn number(word: &Text) -> Option<u64>
+    ensures { result ≡ decimal_number word.now }
+{
+    let text = word.as_str();
+    let is_digits = text.as_bytes().iter().all(|digit| digit.is_ascii_digit());
+    if !is_digits || text.is_empty() || 10 < text.len() {
         return None;
     }
-    let mut value = 0;
-    for digit in digits {
-        if !digit.is_ascii_digit() {
-            return None;
-        }
-        value = 10 * value + u64::from(*digit - b'0');
-    }
-    Some(value)
+    text.parse::<u64>().ok()
 }
 
 // A number of days from 1 to 32, of which the last is still in 9997 when the first is `from`.
@@ -109,7 +111,10 @@ fn moment(word: &Text) -> Option<Moment> {
 }
 
 /// The command that the words are, or the word at fault. Takes no memory.
-pub fn job(words: &[Text]) -> Result<Work<'_>, BadWord> {
+pub fn job(words: &[Text]) -> Result<Work<'_>, BadWord>
+    ensures accepted { IfOk result (λ work. IsToGtfsrt words.now (command_of work)) }
+    ensures refused { IfErr result (λ bad. IsRefusedAt words.now bad.at) }
+{
     literal(words, 0, "to-gtfsrt")?;
     let gtfs = behind(words, 1, "--gtfs")?;
     let rule = behind(words, 3, "--zone-rule")?;
