@@ -1,6 +1,10 @@
+pub mod Endings
+pub mod Feeds
 pub mod Frame
 pub mod Items
 pub mod Journeys
+pub mod Outcomes
 pub mod Reports
+pub mod Stops
 pub mod Words
 pub mod Works

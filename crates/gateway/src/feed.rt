@@ -1,6 +1,6 @@
 //! The feed of cancelled journeys.
-ghost use Rattle.std.specs.Prelude.{◌<◌, length};
-ghost use Rattle.std.specs.List.{AllByRecursion};
+ghost use Rattle.std.specs.Prelude.{◌≡◌, ◌++◌, ◌<◌, length, All, IfOk, OnOk};
+ghost use Rattle.gateway.specs.Feeds.{IsFeed, entity_of};
 
 use crate::item::Cancelled;
 use feed_messages::{cancelled_bytes, header_bytes};
@@ -9,8 +9,21 @@ use service_day::day_compact;
 use std::alloc::{AllocError, Global};
 use stop_schedule::Timetable;
 
-// The bytes of an entity of a short trip id, for the room that is taken at once.
-const USUAL_ENTITY: usize = 64;
+// Adds the entity of a journey.
+fn add_entity(
+    feed: &mut Vec<u8>,
+    alloc: Global,
+    table: &Timetable,
+    journey: Cancelled,
+) -> Result<(), AllocError>
+    requires { journey.trip.0 < length table.now.trips }
+    ensures { OnOk result (feed.new.items ≡ feed.old.items ++ entity_of table.now.trips journey) }
+{
+    let id = table.trip_id(journey.trip);
+    let date = day_compact(journey.day);
+    let entity = cancelled_bytes(alloc, id, &date, journey.recorded)?;
+    feed.extend_from_slice(entity.as_slice())
+}
 
 /// The bytes of a full dataset that is made at that moment: its header, and an entity for each
 /// journey, by service day and then trip (GTFS Realtime, FeedMessage).
@@ -20,16 +33,14 @@ pub fn feed_bytes(
     table: &Timetable,
     journeys: &[Cancelled],
 ) -> Result<Vec<u8>, AllocError>
-    requires { AllByRecursion (λ journey. journey.trip.0 < length table.now.trips) journeys.now }
+    requires { All (λ journey. journey.trip.0 < length table.now.trips) journeys.now }
+    ensures { IfOk result (λ feed. IsFeed at table.now.trips journeys.now feed.items) }
 {
     let mut ordered = Vec::from_slice(alloc, journeys)?;
     ordered.sort()?;
     let mut feed = Vec::from_slice(alloc, header_bytes(at).as_slice())?;
-    feed.reserve(ordered.len().saturating_mul(USUAL_ENTITY))?;
-    for journey in &ordered {
-        let id = table.trip_id(journey.trip);
-        let entity = cancelled_bytes(alloc, id, &day_compact(journey.day), journey.recorded)?;
-        feed.extend_from_slice(entity.as_slice())?;
+    for journey in ordered.as_slice() {
+        add_entity(&mut feed, alloc, table, *journey)?;
     }
     Ok(feed)
 }

@@ -1,10 +1,16 @@
 //! The report on a delivery: a line for each item that was set aside, and a line with the counts.
+ghost use Rattle.std.specs.Prelude.{◌≡◌, ◌++◌, OnOk, IfOk};
+ghost use Rattle.gateway.specs.Reports.{aside_text, aside_line, count_line, report_text};
+
 use crate::delivery::Delivery;
 use crate::item::Aside;
+use itoa::Buffer;
 use std::alloc::{AllocError, Global};
 
 // The text of a fault.
-fn aside_text(aside: Aside) -> &'static str {
+fn aside_text(aside: Aside) -> &'static str
+    ensures { result.now ≡ aside_text aside }
+{
     match aside {
         Aside::NotYet => "NotYet",
         Aside::UnknownJourney => "UnknownJourney",
@@ -12,15 +18,41 @@ fn aside_text(aside: Aside) -> &'static str {
     }
 }
 
+// Adds the line of an item that is set aside.
+fn add_aside(report: &mut Vec<u8>, file: &str, item: u64, aside: Aside) -> Result<(), AllocError>
+    ensures { OnOk result (report.new.items ≡ report.old.items ++ aside_line file.now (item, aside)) }
+{
+    let mut digits = Buffer::new();
+    report.extend_from_slice(file.as_bytes())?;
+    report.extend_from_slice(b" aside ")?;
+    report.extend_from_slice(digits.format(item).as_bytes())?;
+    report.extend_from_slice(b" ")?;
+    report.extend_from_slice(aside_text(aside).as_bytes())?;
+    report.extend_from_slice(b"\n")
+}
+
+// Adds the line of counts.
+fn add_counts(report: &mut Vec<u8>, file: &str, taken: u64, aside: u64) -> Result<(), AllocError>
+    ensures { OnOk result (report.new.items ≡ report.old.items ++ count_line file.now taken aside) }
+{
+    let mut digits = Buffer::new();
+    report.extend_from_slice(file.as_bytes())?;
+    report.extend_from_slice(b" taken ")?;
+    report.extend_from_slice(digits.format(taken).as_bytes())?;
+    report.extend_from_slice(b" passed 0 aside ")?;
+    report.extend_from_slice(digits.format(aside).as_bytes())?;
+    report.extend_from_slice(b"\n")
+}
+
 /// The lines `FILE aside I FAULT` of each item set aside, and `FILE taken T passed P aside N`.
-pub fn report(alloc: Global, file: &str, delivery: &Delivery) -> Result<String, AllocError> {
-    let mut text = String::new(alloc);
-    for (item, why) in &delivery.aside {
-        let why = aside_text(*why);
-        text.push_str(format!(in alloc; "{file} aside {item} {why}\n")?.as_str())?;
+pub fn report(alloc: Global, file: &str, delivery: &Delivery) -> Result<Vec<u8>, AllocError>
+    ensures { IfOk result (λ report. report.items ≡ report_text file.now delivery.now.taken.items delivery.now.aside.items) }
+{
+    let mut report = Vec::new(alloc);
+    for (item, aside) in delivery.aside.as_slice() {
+        add_aside(&mut report, file, *item, *aside)?;
     }
-    let taken = delivery.taken.len();
-    let aside = delivery.aside.len();
-    text.push_str(format!(in alloc; "{file} taken {taken} passed 0 aside {aside}\n")?.as_str())?;
-    Ok(text)
+    let taken = delivery.taken.len() as u64;
+    add_counts(&mut report, file, taken, delivery.aside.len() as u64)?;
+    Ok(report)
 }

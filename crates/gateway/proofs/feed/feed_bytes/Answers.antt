@@ -1,0 +1,13 @@
+-- The sorted journeys are those that were handed in, so their trips are there.
+use Rattle.std.proofs.Common.{◌<◌, ◌≡◌, length, get_or, arith, ap, sym, subst}
+use Rattle.std.proofs.lemmas.List.Sorted.{All-permutation}
+use Rattle.gateway.specs.declared.item.Cancelled.{Cancelled}
+use Rattle.gateway.proofs.feed.feed_bytes.Goals as goal
+
+pub add_entity-requires : goal.add_entity-requires
+add_entity-requires c =
+    let P : Cancelled → Type 0 = λ journey. journey.trip.0 < length c.args.table.now.trips in
+    let all = All-permutation P c.args.journeys.now c.sort.new.self.items (rw c.in_ok-ordered.ensures.items at c.sort.ensures.permutation) c.requires in
+    let within : c.loop-journey.journey-index < length c.sort.new.self.items = omega (arith, ap length c.as_slice-journey-items.ensures.value) in
+    let here : P (get_or c.sort.new.self.items c.loop-journey.journey-index c.journey-item.result) = all c.loop-journey.journey-index c.journey-item.result within in
+    subst P (sym (c.journey-item.is)) (rw c.as_slice-journey-items.ensures.value here)

@@ -1,0 +1,11 @@
+-- the entities so far and those of what is left are the entities of all
+use Rattle.std.proofs.Common.{◌≡◌, ◌++◌, drop}
+use Rattle.std.specs.List.{flat_map}
+use Rattle.gateway.specs.Feeds.{entity_of}
+use Rattle.feed_messages.specs.Written.{header}
+use Rattle.gateway.proofs.feed.feed_bytes.Given as goal
+
+abbrev pub invariant-loop-journey : goal.invariant-loop-journey
+invariant-loop-journey l =
+    l.feed.items ++ flat_map (entity_of l.table.trips) (drop l.journey-index l.journey-items)
+    ≡ header l.fn.at ++ flat_map (entity_of l.table.trips) l.journey-items
