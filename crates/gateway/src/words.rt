@@ -1,7 +1,10 @@
 //! The words of a command line. Only exactly the lists of words of a command are accepted.
-ghost use Rattle.std.specs.Prelude.{◌≡◌, ◌<◌, IfOk, IfErr};
-ghost use Rattle.gateway.specs.Words.{IsToGtfsrt, IsRefusedAt, decimal_number};
+ghost use Rattle.std.specs.Prelude.{◌≡◌, ◌≢◌, ◌+◌, ◌<◌, ◌⊎◌, [], None, Some, IfOk, IfErr, slice_get};
+ghost use Rattle.std.specs.Str.{all_ascii_digits};
+ghost use Rattle.gateway.specs.Words as spec;
+ghost use Rattle.gateway.specs.Words.{IsToGtfsrt, IsRefusedAt, beginning, decimal_number};
 ghost use Rattle.gateway.specs.Works.{command_of};
+ghost use Rattle.service_day.specs.Utc.{utc_of};
 
 use gw_base::{Moment, Text};
 use service_day::{Day, DayForm, read_day, read_utc};
@@ -42,6 +45,7 @@ pub enum Work<'a> {
 
 // The first and the last day that a window may have: 1971-01-01 and 9997-12-31.
 const FIRST_DAY: i32 = 365;
+
 const LAST_DAY: i32 = 2_932_166;
 
 const MOST_DAYS: u64 = 32;
@@ -50,12 +54,18 @@ const MOST_DAYS: u64 = 32;
 const TO_GTFSRT_WORDS: usize = 13;
 
 // What a word is read as, or else the place of that word.
-fn read<T>(read: Option<T>, at: usize) -> Result<T, BadWord> {
+fn read<T>(read: Option<T>, at: usize) -> Result<T, BadWord>
+    ensures read { IfOk result (λ value. read ≡ Some value) }
+    ensures wrong { IfErr result (λ bad. (read ≡ None) × (bad.at ≡ at)) }
+{
     read.ok_or(BadWord { at: at as u64 })
 }
 
 // The word at a place, which is to be this one.
-fn literal(words: &[Text], at: usize, expected: &str) -> Result<(), BadWord> {
+fn literal(words: &[Text], at: usize, expected: &str) -> Result<(), BadWord>
+    ensures there { IfOk result (λ _. slice_get words.now at ≡ Some expected.now) }
+    ensures wrong { IfErr result (λ bad. (slice_get words.now at ≢ Some expected.now) × (bad.at ≡ at)) }
+{
     match words.get(at) {
         Some(word) if word.as_str() == expected => Ok(()),
         _ => Err(BadWord { at: at as u64 }),
@@ -65,6 +75,15 @@ fn literal(words: &[Text], at: usize, expected: &str) -> Result<(), BadWord> {
 // The word behind a flag that stands at a place. It isn't empty.
 fn behind<'a>(words: &'a [Text], at: usize, flag: &str) -> Result<&'a Text, BadWord>
     requires { at < 100 }
+    ensures read { IfOk result (λ word.
+        (slice_get words.now at ≡ Some flag.now)
+        × (slice_get words.now (at + 1) ≡ Some word.now)
+        × (word.now ≢ [])) }
+    ensures wrong { IfErr result (λ bad.
+        (slice_get words.now at ≢ Some flag.now) × (bad.at ≡ at)
+        ⊎ (slice_get words.now at ≡ Some flag.now)
+        × (slice_get words.now (at + 1) ≡ None ⊎ slice_get words.now (at + 1) ≡ Some [])
+        × (bad.at ≡ at + 1)) }
 {
     literal(words, at, flag)?;
     match words.get(at + 1) {
@@ -74,7 +93,9 @@ fn behind<'a>(words: &'a [Text], at: usize, flag: &str) -> Result<&'a Text, BadW
 }
 
 // A day from 1971 to 9997.
-fn first_day(word: &Text) -> Option<Day> {
+fn first_day(word: &Text) -> Option<Day>
+    ensures { result ≡ beginning word.now }
+{
     let day = read_day(word.as_str(), DayForm::Dashed)?;
     if FIRST_DAY <= day.number() && day.number() <= LAST_DAY {
         Some(day)
@@ -83,20 +104,28 @@ fn first_day(word: &Text) -> Option<Day> {
     }
 }
 
+// Each character is an ASCII digit.
+fn is_digits(text: &str) -> bool
+    ensures { result ≡ all_ascii_digits text.now }
+{
+    text.as_bytes().iter().all(|digit| digit.is_ascii_digit())
+}
+
 // A number in 1 to 10 decimal digits.
 fn number(word: &Text) -> Option<u64>
     ensures { result ≡ decimal_number word.now }
 {
     let text = word.as_str();
-    let is_digits = text.as_bytes().iter().all(|digit| digit.is_ascii_digit());
-    if !is_digits || text.is_empty() || 10 < text.len() {
+    if text.is_empty() || 10 < text.len() || !is_digits(text) {
         return None;
     }
     text.parse::<u64>().ok()
 }
 
 // A number of days from 1 to 32, of which the last is still in 9997 when the first is `from`.
-fn day_count(word: &Text, from: Day) -> Option<u8> {
+fn day_count(word: &Text, from: Day) -> Option<u8>
+    ensures { result ≡ spec.day_count from word.now }
+{
     let days = number(word)?;
     if 1 <= days && days <= MOST_DAYS && from.number() + (days as i32 - 1) <= LAST_DAY {
         Some(days as u8)
@@ -106,7 +135,9 @@ fn day_count(word: &Text, from: Day) -> Option<u8> {
 }
 
 // A moment in the form `YYYY-MM-DDThh:mm:ssZ`.
-fn moment(word: &Text) -> Option<Moment> {
+fn moment(word: &Text) -> Option<Moment>
+    ensures { result ≡ utc_of word.now }
+{
     Moment::new(read_utc(word.as_str())?)
 }
 
@@ -135,4 +166,130 @@ pub fn job(words: &[Text]) -> Result<Work<'_>, BadWord>
         at,
         more: &words[11..],
     })
+}
+
+#[cfg(test)]
+mod tests {
+    use super::*;
+    use std::alloc::{AllocError, Global};
+
+    const WORDS: [&str; 13] = [
+        "to-gtfsrt",
+        "--gtfs",
+        "folder",
+        "--zone-rule",
+        "CET-1CEST,M3.5.0,M10.5.0/3",
+        "--from",
+        "2024-05-01",
+        "--days",
+        "2",
+        "--at",
+        "2024-05-01T06:00:00Z",
+        "--et",
+        "delivery.json",
+    ];
+
+    fn texts(alloc: Global, words: &[&str]) -> Result<Vec<Text>, AllocError> {
+        let mut texts = Vec::new(alloc);
+        for word in words {
+            texts.push(Text::copied(alloc, word)?)?;
+        }
+        Ok(texts)
+    }
+
+    // Where the words are refused.
+    fn refused_at(alloc: Global, words: &[&str]) -> Result<Option<u64>, AllocError> {
+        Ok(match job(texts(alloc, words)?.as_slice()) {
+            Ok(_) => None,
+            Err(bad) => Some(bad.at),
+        })
+    }
+
+    #[test]
+    fn a_list_is_refused_at_its_first_wrong_word(rt: HostRuntime) -> Result<(), AllocError> {
+        let mut words = texts(rt.alloc(), &WORDS)?;
+        let Ok(
+            Work::ToGtfsrt {
+                gtfs,
+                zone: ZoneWord::Rule(rule),
+                from,
+                days,
+                at,
+                more,
+            },
+        ) = job(words.as_slice())
+        else {
+            assert!(rt; false, "refused");
+            return Ok(());
+        };
+        assert_eq!(rt; gtfs.as_str(), "folder");
+        assert_eq!(rt; rule.as_str(), "CET-1CEST,M3.5.0,M10.5.0/3");
+        assert_eq!(rt;
+            (from.number(), days, at.secs()),
+            (19_844, 2, 1_714_543_200)
+        );
+        assert_eq!(rt; more.len(), 2);
+        for n in 0..13 {
+            assert_eq!(rt;
+                refused_at(rt.alloc(), &WORDS[..n])?,
+                Some(n as u64),
+                "the first {n}"
+            );
+            let mut empty = WORDS;
+            empty[n] = "";
+            assert_eq!(rt;
+                refused_at(rt.alloc(), &empty)?,
+                Some(n as u64),
+                "an empty word at {n}"
+            );
+            let mut other = WORDS;
+            other[n] = "--sx";
+            let is_text = n == 2 || n == 4 || n == 12;
+            assert_eq!(rt;
+                refused_at(rt.alloc(), &other)?,
+                if is_text { None } else { Some(n as u64) },
+                "another word at {n}"
+            );
+        }
+        words.push(Text::copied(rt.alloc(), "--et")?)?;
+        let longer = job(words.as_slice());
+        assert!(rt; longer.is_err_and(|bad| bad.at == 13));
+        Ok(())
+    }
+
+    #[test]
+    fn days_counts_and_moments_are_read(rt: HostRuntime) -> Result<(), AllocError> {
+        for (from, days, at, wrong) in [
+            ("2023-02-29", "1", "1970-01-01T00:00:00Z", Some(6)),
+            ("1970-12-31", "1", "1970-01-01T00:00:00Z", Some(6)),
+            ("1971-01-01", "1", "1970-01-01T00:00:00Z", None),
+            ("19710101", "1", "1970-01-01T00:00:00Z", Some(6)),
+            ("9997-12-31", "1", "1970-01-01T00:00:00Z", None),
+            ("9997-12-31", "2", "1970-01-01T00:00:00Z", Some(8)),
+            ("9998-01-01", "1", "1970-01-01T00:00:00Z", Some(6)),
+            ("2024-05-01", "0", "1970-01-01T00:00:00Z", Some(8)),
+            ("2024-05-01", "32", "1970-01-01T00:00:00Z", None),
+            ("2024-05-01", "33", "1970-01-01T00:00:00Z", Some(8)),
+            ("2024-05-01", "+1", "1970-01-01T00:00:00Z", Some(8)),
+            ("2024-05-01", "1e0", "1970-01-01T00:00:00Z", Some(8)),
+            ("2024-05-01", "0000000032", "1970-01-01T00:00:00Z", None),
+            ("2024-05-01", "00000000001", "1970-01-01T00:00:00Z", Some(8)),
+            ("2024-05-01", "9999999999", "1970-01-01T00:00:00Z", Some(8)),
+            ("2024-05-01", "1", "1970-01-01T00:00:00", Some(10)),
+            ("2024-05-01", "1", "1969-12-31T23:59:59Z", Some(10)),
+            ("2024-05-01", "1", "9998-12-31T23:59:59Z", None),
+            ("2024-05-01", "1", "9999-01-01T00:00:00Z", Some(10)),
+        ] {
+            let mut words = WORDS;
+            words[6] = from;
+            words[8] = days;
+            words[10] = at;
+            assert_eq!(rt;
+                refused_at(rt.alloc(), &words)?,
+                wrong,
+                "{from} {days} {at}"
+            );
+        }
+        Ok(())
+    }
 }
