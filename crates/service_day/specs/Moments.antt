@@ -9,11 +9,12 @@ use Rattle.service_day.specs.declared.moments.Offset.{Offset}
 use Rattle.service_day.specs.declared.moments.Offset.TheVariants.{Local, Ahead}
 use Rattle.service_day.specs.declared.zones.Rules.{Rules}
 
+-- a value where there is one, then what is made of it
 infixl 10 ◌>>=◌
 abbrev ◌>>=◌ : {A B : Type 0} → Option A → (A → Option B) → Option B
 o >>= f = option_and_then f o
 
--- what a clock shows, a day and a second of it, where the text is `YYYY-MM-DDThh:mm:ss` of a year from 1970 to 9998
+-- the form of what a clock shows, where `0` stands for any digit
 abbrev pub shown_form : List ℕ
 shown_form = codes "0000-00-00T00:00:00"
 
@@ -22,6 +23,7 @@ abbrev pub clock_second : ℕ → ℕ → ℕ → Option ℕ
 clock_second hour minute second =
     if is_clock hour minute second then Some (3600 * hour + 60 * minute + second) else None
 
+-- the day and the second of it that a clock shows by the text, in a year from 1970 to 9998
 unfoldable pub shown_part : List ℕ → Option (ℤ × ℕ)
 shown_part text =
     if has_form shown_form text && nat_le 1970 (four_at text 0) && nat_le (four_at text 0) 9998

@@ -16,9 +16,9 @@ abbrev pub local_second : Rules → ℤ → ℕ → ℤ
 local_second zone day second = day *ℤ pos 86400 +ℤ pos second -ℤ local_offset zone (shown_at day second)
 
 -- the start of a service day, in seconds since 1970: local noon minus 12 hours
-abbrev pub start : Rules → ℤ → ℤ
+unfoldable pub start : Rules → ℤ → ℤ
 start zone day = local_second zone day 43200 -ℤ pos 43200
 
 -- the day on which the zone's clock stands at a moment
-abbrev pub local_day : Rules → ℤ → ℤ
+unfoldable pub local_day : Rules → ℤ → ℤ
 local_day zone secs = int_div_euclid (secs +ℤ offset_at zone (nanos_of_seconds secs)) (pos 86400)

@@ -7,6 +7,7 @@ ghost use Rattle.service_day.specs.Utc.{IsMoment};
 use crate::days::Day;
 use crate::digits::{four_at, has_form, is_digit, two_at};
 use crate::starts::local_second;
+use crate::utc::{LAST_MOMENT, is_clock};
 use crate::zones::Zone;
 
 /// An instant of the years 1970 to 9998 in UTC: seconds since 1970-01-01T00:00:00Z, and nanoseconds
@@ -49,9 +50,6 @@ const BEHIND: &[u8] = b"-00:00";
 
 /// The first part of a text, what the clock shows.
 const SHOWN_LEN: usize = 19;
-
-/// The last second of the year 9998.
-const LAST_MOMENT: i64 = 253_370_764_799;
 
 /// The instant that the text names: `YYYY-MM-DDThh:mm:ss` of a year from 1970 to 9998, then optionally a
 /// dot and 1 to 9 digits, then `Z`, `+hh:mm` or `-hh:mm` of at most 14:00, or nothing (ISO 8601). Nothing
@@ -119,7 +117,7 @@ fn second_of_day(hour: u32, minute: u32, second: u32) -> Option<u32>
     ensures value { result ≡ spec.clock_second hour minute second }
     ensures bound { IfSome result (λ of_day. of_day < 86400) }
 {
-    if hour >= 24 || minute >= 60 || second >= 60 {
+    if !is_clock(hour, minute, second) {
         return None;
     }
     Some(3600 * hour + 60 * minute + second)

@@ -1,5 +1,5 @@
 //! The starts of service days and the local dates of moments, in a zone.
-ghost use Rattle.std.specs.Prelude.{◌≡◌, ◌<◌, ◌≤ℤ◌, ◌+ℤ◌, ◌*ℤ◌, Ok, pos};
+ghost use Rattle.std.specs.Prelude.{◌≡◌, ◌<◌, ◌≤ℤ◌, ◌+ℤ◌, ◌*ℤ◌, Ok, IfOk, pos};
 ghost use Rattle.jiff_core.specs.Calendar.{IsBetween};
 ghost use Rattle.jiff_core.specs.Date.{epoch_day};
 ghost use Rattle.jiff_core.specs.DateTime.{civil_nanos};
@@ -19,7 +19,8 @@ use std::alloc::AllocError;
 /// choice, minus 12 hours (GTFS Schedule, the times of `stop_times.txt`). Takes no memory, and is always Ok.
 pub fn day_start(zone: &Zone, day: Day) -> Result<i64, AllocError>
     requires { IsServiceDay day }
-    ensures { result ≡ Ok (spec.start zone.now day) }
+    ensures value { result ≡ Ok (spec.start zone.now day) }
+    ensures range { IfOk result IsMoment }
 {
     Ok(start_of_day(zone, day))
 }
@@ -48,9 +49,11 @@ fn local_date(zone: &Zone, secs: i64) -> civil::Date
 }
 
 /// The start of a service day, in seconds since 1970.
+#[tactic(auto, unfolding(crate::specs::Starts::start))]
 pub(crate) fn start_of_day(zone: &Zone, day: Day) -> i64
     requires { IsServiceDay day }
-    ensures { result ≡ spec.start zone.now day }
+    ensures value { result ≡ spec.start zone.now day }
+    ensures range { IsMoment result }
 {
     local_second(zone, day, 43_200) - 43_200
 }

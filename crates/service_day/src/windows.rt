@@ -1,5 +1,6 @@
 //! Windows: up to 32 service days in a row, whose starts are computed once.
-ghost use Rattle.std.specs.Prelude.{◌≡◌, ◌≤◌, ◌+ℤ◌, ◌-ℤ◌, IsOk, IfOk, pos};
+ghost use Rattle.std.specs.Prelude.{◌≡◌, ◌≤◌, ◌+ℤ◌, ◌-ℤ◌, IsOk, IfOk, IfSome, pos};
+ghost use Rattle.service_day.specs.Utc.{IsMoment};
 ghost use Rattle.service_day.specs.Starts.{IsServiceDay};
 
 use crate::days::Day;
@@ -20,14 +21,16 @@ pub struct Window {
 }
 
 impl Model for Window {
-    ghost use Rattle.std.specs.Prelude.{◌≡◌, ◌≤◌, length, take};
+    ghost use Rattle.std.specs.Prelude.{◌≡◌, ◌≤◌, ◌<◌, ℕ, pos, length, take, slice_index_or};
+    ghost use Rattle.service_day.specs.Utc.{IsMoment};
     ghost use Rattle.service_day.specs.Windows.{DayStarts};
 
     ghost Value = { DayStarts };
 
     ghost view = { λ w. record { first = w.first; starts = take w.days w.starts } };
 
-    ghost invariant = { λ w. (w.days ≤ 32) × (length w.starts ≡ 32) };
+    ghost invariant = { λ w. (w.days ≤ 32) × (length w.starts ≡ 32)
+        × ((place : ℕ) → place < w.days → IsMoment (slice_index_or w.starts place (pos 0))) };
 }
 
 impl Window {
@@ -56,7 +59,8 @@ impl Window {
     /// The start of the day, in seconds since 1970; None exactly where the day isn't in the window.
     /// Takes no memory.
     pub fn start_of(&self, day: Day) -> Option<i64>
-        ensures { result ≡ start_in self.now day }
+        ensures value { result ≡ start_in self.now day }
+        ensures range { IfSome result IsMoment }
     {
         let place = day.number() - self.first.number();
         if place < 0 || place >= self.days as i32 {

@@ -18,12 +18,14 @@ shown_is c =
     there ∙ omega (arith, signed_arith)
 
 day_is : (c : goal.After-to_plain) → epoch_day c.to_plain.result ≡ local_day c.args.zone.now c.args.secs
+unfolding local_day
 day_is c = ap epoch_day (c.to_plain.ensures ∙ c.date.ensures) ∙ day_of_seconds c.to_datetime-shown.result _ (shown_is c)
 
 pub returns-clause-day : goal.returns-clause-day
 returns-clause-day c = day_is c
 
 pub returns-clause-year : goal.returns-clause-year
+unfolding local_day
 returns-clause-year c =
     let x = c.args.secs +ℤ offset_at c.args.zone.now (nanos_of_seconds c.args.secs) in
     let q = int_div_euclid-parts x 86400 (omega arith) in
