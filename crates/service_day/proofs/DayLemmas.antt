@@ -1,26 +1,17 @@
 -- The year, the month and the day of the month of a day number are those of the calendar.
-use Rattle.std.proofs.Common.{◌≡◌, ℕ, zero, suc, ◌+◌, ◌<◌, ◌≤◌, inl, inr, arith, refl, sym, ◌∙◌, ℤ, pos, neg_ℤ, ◌+ℤ◌, ◌-ℤ◌, ◌<ℤ◌, ◌≤ℤ◌, negsuc, unsigned_abs, int_le, Some, Bool, true, false, if◌then◌else◌}
+use Rattle.std.proofs.Common.{◌≡◌, ℕ, zero, suc, ◌+◌, ◌<◌, ◌≤◌, inl, inr, arith, refl, sym, ◌∙◌, ℤ, pos, neg_ℤ, ◌+ℤ◌, ◌-ℤ◌, ◌<ℤ◌, ◌≤ℤ◌, negsuc, unsigned_abs, int_le, Some, Bool, true, false, if◌then◌else◌, None}
 use Rattle.std.proofs.lemmas.Bool.{cases_order}
 use Rattle.std.proofs.lemmas.Bool.Decides.{nat_tests}
 use Rattle.std.proofs.lemmas.Int.{ints, by_lt_z}
-use Rattle.jiff_core.specs.Calendar.{day_count, days_from_civil, days_in_month, days_in_year}
+use Rattle.jiff_core.specs.Calendar.{IsBetween, IsCivilDate, day_count, days_from_civil, days_in_month, days_in_year}
 use Rattle.jiff_core.specs.Date.{epoch_day}
 use Rattle.jiff_core.specs.declared.civil.date.Date.{Date}
 use Rattle.jiff_core.proofs.SignedLemmas.{signed_arith}
 use Rattle.jiff_core.proofs.MarchLemmas.{day_count-early}
-use Rattle.jiff_core.proofs.CalendarLemmas.{days_from_civil-day_count, day_count-next_year, day_count-last_of_year, day_count-next_month, day_count-day, day_count-later_year, day_count-day_of_year}
+use Rattle.jiff_core.proofs.CalendarLemmas.{days_from_civil-day_count, day_count-next_year, day_count-last_of_year, day_count-next_month, day_count-day, day_count-later_year, day_count-day_of_year, day_of_year_bound, day_count-epoch}
 use Rattle.jiff_core.proofs.DateLemmas.{days_from_civil-max, days_from_civil-day, epoch_day_injective, epoch_day_range}
+pub use Rattle.service_day.specs.DateBounds.{last_start-low, last_start-high, year_low, year_high, month_low, month_high, day_low}
 use Rattle.service_day.specs.Days.{IsDay, is_date, date_number, last_start, year_of, month_of, day_of_month}
-
-last_start-low : (start : ℕ → ℤ) (n : ℤ) (low more : ℕ) → low ≤ last_start start n low more
-unfolding last_start
-last_start-low start n low zero = omega arith
-last_start-low start n low (suc more) = grind (arith, last_start-low start n low more)
-
-last_start-high : (start : ℕ → ℤ) (n : ℤ) (low more : ℕ) → last_start start n low more ≤ low + more
-unfolding last_start
-last_start-high start n low zero = omega arith
-last_start-high start n low (suc more) = grind (arith, last_start-high start n low more)
 
 last_start-starts : (start : ℕ → ℤ) (n : ℤ) (low more : ℕ) → start low ≤ℤ n → start (last_start start n low more) ≤ℤ n
 unfolding last_start
@@ -51,14 +42,6 @@ first_count = day_count-early _ 10000 1 1 refl (omega arith) (omega arith) (omeg
 first_day : days_from_civil (pos 1) 1 1 ≡ neg_ℤ (pos 719162)
 first_day = omega (arith, signed_arith, days_from_civil-day_count, first_count)
 
-pub year_low : (n : ℤ) → 1 ≤ year_of n
-unfolding year_of
-year_low n = last_start-low (λ year. days_from_civil (pos year) 1 1) n 1 9998
-
-pub year_high : (n : ℤ) → year_of n ≤ 9999
-unfolding year_of
-year_high n = last_start-high (λ year. days_from_civil (pos year) 1 1) n 1 9998
-
 year_starts : (n : ℤ) → IsDay n → days_from_civil (pos (year_of n)) 1 1 ≤ℤ n
 unfolding year_of
 year_starts n h = last_start-starts (λ year. days_from_civil (pos year) 1 1) n 1 9998 (rw first_day h.0)
@@ -73,14 +56,6 @@ year_ends n h = elim (cases_order (year_of n) 9999) [
   | inl last ↦ rw last (omega (arith, signed_arith, h.1, days_from_civil-day_count, days_from_civil-max, day_count-last_of_year (pos 9999)))
   | inr (inr gt) ↦ absurd (omega (arith, year_high n))
 ]
-
-pub month_low : (n : ℤ) → 1 ≤ month_of n
-unfolding month_of
-month_low n = last_start-low (λ month. days_from_civil (pos (year_of n)) month 1) n 1 11
-
-pub month_high : (n : ℤ) → month_of n ≤ 12
-unfolding month_of
-month_high n = last_start-high (λ month. days_from_civil (pos (year_of n)) month 1) n 1 11
 
 month_starts : (n : ℤ) → IsDay n → days_from_civil (pos (year_of n)) (month_of n) 1 ≤ℤ n
 unfolding month_of
@@ -104,10 +79,6 @@ abs_forward (negsuc k) h = absurd (omega (arith, signed_arith))
 -- from a day to a later one
 forward : (from to : ℤ) → from ≤ℤ to → to ≡ from +ℤ pos (unsigned_abs (to -ℤ from))
 forward from to h = omega (arith, signed_arith, abs_forward (to -ℤ from) (omega (arith, signed_arith)))
-
-pub day_low : (n : ℤ) → 1 ≤ day_of_month n
-unfolding day_of_month
-day_low n = omega arith
 
 pub day_high : (n : ℤ) → IsDay n → day_of_month n ≤ days_in_month (pos (year_of n)) (month_of n)
 unfolding day_of_month
@@ -151,3 +122,26 @@ day_of_date d h =
     (λ lt. omega (arith, signed_arith, first_count, day_count-later_year (pos 1) d.year (omega (arith, signed_arith)) lt, day_count-day_of_year d.year d.month d.day d.day_in.0))
     (λ le. let e : d.year ≡ pos 1 = omega (arith, signed_arith) in rw e (omega (arith, signed_arith, first_count, day_count-day_of_year (pos 1) d.month d.day d.day_in.0))) in
     omega (arith, signed_arith, high, low, days_from_civil-day_count)
+
+if_some : (found : Bool) (x n : ℤ) → (if found then Some x else None) ≡ Some n → (found ≡ true) × (x ≡ n)
+if_some true x n e = (refl, cc)
+if_some false x n e = cc
+
+civil_of : (y m d : ℕ) → is_date y m d ≡ true → IsCivilDate (pos y) m d
+civil_of y m d h = grind (arith, nat_tests, signed_arith)
+
+year_span : (y m d : ℕ) → 1970 ≤ y → y ≤ 9998 → IsCivilDate (pos y) m d → IsBetween (pos 0) (pos 2932531) (days_from_civil (pos y) m d)
+year_span y m d low high h =
+    let here = day_count-day_of_year (pos y) m d h.2.0 in
+    let bound = day_of_year_bound (pos y) m d h in
+    let later = day_count-later_year (pos y) (pos 9999) (omega (arith, signed_arith)) (omega (arith, signed_arith)) in
+    let first : day_count (pos 1970) 1 1 ≤ day_count (pos y) 1 1 = by_lt_z (pos 1970) (pos y)
+    (λ lt. omega (arith, day_count-later_year (pos 1970) (pos y) (omega (arith, signed_arith)) lt))
+    (λ le. let e : y ≡ 1970 = omega (arith, signed_arith) in rw e (omega arith)) in
+    omega (arith, signed_arith, here, bound, later, first, days_from_civil-day_count, days_from_civil-max, day_count-last_of_year (pos 9999), day_count-epoch)
+
+-- a date of the years 1970 to 9998 has a number from 0 to that of 9998-12-31
+pub day_in_years : (y m d : ℕ) (n : ℤ) → date_number y m d ≡ Some n → 1970 ≤ y → y ≤ 9998 → IsBetween (pos 0) (pos 2932531) n
+day_in_years y m d n e low high =
+    let both = if_some (is_date y m d) (days_from_civil (pos y) m d) n e in
+    rw (← both.1) (year_span y m d low high (civil_of y m d both.0))

@@ -1,6 +1,6 @@
 //! A service day: a date of the years 0001 to 9999, held as its number of days since 1970-01-01.
 //! The calendar is `jiff`'s.
-ghost use Rattle.std.specs.Prelude.{◌≡◌, ◌/◌, ◌<◌, pos, unsigned_abs};
+ghost use Rattle.std.specs.Prelude.{◌≡◌, ◌/◌, ◌<◌, ◌≤ℤ◌, ◌+ℤ◌, pos, unsigned_abs};
 ghost use Rattle.jiff_core.specs.Calendar.{weekday_number};
 ghost use Rattle.jiff_core.specs.Date.{epoch_day};
 ghost use Rattle.service_day.specs.Days.{IsDay, date_number, year_of, month_of, day_of_month};
@@ -63,10 +63,28 @@ impl Day {
             return None;
         }
         match Date::new(year as i16, month as i8, day as i8) {
-            Ok(date) => Some(Day {
-                number: date.to_unix_epoch_day(),
-            }),
+            Ok(date) => Some(Day::from_date(date)),
             Err(_) => None,
+        }
+    }
+
+    /// The day of a date.
+    pub(crate) fn from_date(date: Date) -> Day
+        requires { pos 1 ≤ℤ date.year }
+        ensures { result ≡ epoch_day date }
+    {
+        Day {
+            number: date.to_unix_epoch_day(),
+        }
+    }
+
+    /// The day that many days later.
+    pub(crate) fn later(self, days: u8) -> Day
+        requires { IsDay (self +ℤ pos days) }
+        ensures { result ≡ self +ℤ pos days }
+    {
+        Day {
+            number: self.number + days as i32,
         }
     }
 

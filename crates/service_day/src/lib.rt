@@ -5,10 +5,18 @@
 mod day_texts;
 mod days;
 mod digits;
+mod moments;
+mod starts;
 #[cfg(test)]
 mod tests;
 mod utc;
+mod windows;
+mod zones;
 
 pub use day_texts::{day_compact, day_text, read_day};
 pub use days::{Day, DayForm};
+pub use moments::{Instant, MomentFault, read_moment};
+pub use starts::{day_start, local_day};
 pub use utc::{read_utc, write_moment};
+pub use windows::Window;
+pub use zones::{Zone, ZoneFault};

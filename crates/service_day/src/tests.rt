@@ -1,3 +1,6 @@
+mod moments;
+mod zones;
+
 use crate::*;
 use std::test::Fail;
 

@@ -1,5 +1,5 @@
 //! UTC moments of the years 1970 to 9998 as texts, `YYYY-MM-DDThh:mm:ssZ`, read and written.
-ghost use Rattle.std.specs.Prelude.{◌≡◌, ◌/◌, ◌%◌, unsigned_abs, Some, length};
+ghost use Rattle.std.specs.Prelude.{◌≡◌, ◌+◌, ◌*◌, ◌/◌, ◌%◌, ◌<◌, ◌+ℤ◌, ◌*ℤ◌, pos, unsigned_abs, Some, length, IsTrue, IfSome};
 ghost use Rattle.service_day.specs.Utc as spec;
 ghost use Rattle.service_day.specs.Utc.{IsMoment, utc_of, moment_text};
 
@@ -9,14 +9,16 @@ use crate::digits::{four_at, has_form, two_at, two_digits};
 
 const UTC: &[u8] = b"0000-00-00T00:00:00Z";
 
-const LAST_MOMENT: i64 = 253_370_764_799;
+/// The last second of the year 9998.
+pub(crate) const LAST_MOMENT: i64 = 253_370_764_799;
 
 /// The seconds since 1970 that the text names in the form `YYYY-MM-DDThh:mm:ssZ` (ISO 8601). None exactly
 /// where the text has another form, the calendar has no such date, a clock no such time, or the year
 /// isn't in 1970 to 9998. Takes no memory.
 #[tactic(auto, unfolding(crate::specs::Utc::utc_of))]
 pub fn read_utc(text: &str) -> Option<i64>
-    ensures { result ≡ utc_of text.now }
+    ensures value { result ≡ utc_of text.now }
+    ensures range { IfSome result IsMoment }
 {
     let text = text.as_bytes();
     if !has_form(UTC, text) {
@@ -28,17 +30,40 @@ pub fn read_utc(text: &str) -> Option<i64>
 
 /// The seconds since 1970 of that time of the day, where a clock has it and a moment is there.
 fn moment_at(day: Day, hour: u32, minute: u32, second: u32) -> Option<i64>
-    ensures { result ≡ spec.moment_at (Some day) hour minute second }
+    ensures value { result ≡ spec.moment_at (Some day) hour minute second }
+    ensures range { IfSome result IsMoment }
 {
-    if hour >= 24 || minute >= 60 || second >= 60 {
+    if !is_clock(hour, minute, second) {
         return None;
     }
-    let of_day = 3600 * hour + 60 * minute + second;
-    let secs = day.number() as i64 * 86_400 + of_day as i64;
+    moment_if(seconds_at(day, 3600 * hour + 60 * minute + second))
+}
+
+/// The seconds from the start of 1970 to a second of a day.
+fn seconds_at(day: Day, of_day: u32) -> i64
+    requires { of_day < 86400 }
+    ensures { result ≡ day *ℤ pos 86400 +ℤ pos of_day }
+{
+    day.number() as i64 * 86_400 + of_day as i64
+}
+
+/// The seconds, where they are a moment's.
+fn moment_if(secs: i64) -> Option<i64>
+    ensures value { result ≡ spec.moment_if secs }
+    ensures range { IfSome result IsMoment }
+{
     if secs < 0 || secs > LAST_MOMENT {
         return None;
     }
     Some(secs)
+}
+
+/// Whether a clock shows that hour, minute and second.
+pub(crate) fn is_clock(hour: u32, minute: u32, second: u32) -> bool
+    ensures value { result ≡ spec.is_clock hour minute second }
+    ensures bound { IsTrue result → 3600 * hour + 60 * minute + second < 86400 }
+{
+    hour < 24 && minute < 60 && second < 60
 }
 
 /// The moment of that many seconds since 1970 as `YYYY-MM-DDThh:mm:ssZ`. Takes no memory.
