@@ -66,7 +66,10 @@ fn tables(rt: HostRuntime) -> Result<(), Fail> {
         (b"trip_id,x\nA,\xff\n", Some("A|")),
         (b"\xff,trip_id\n1,A\n", Some("A|")),
         // Quotes, commas and line breaks.
-        (b"x,trip_id\n\"1,2\",\"A\"\n\"3\"\"4\",\"B,C\"\n", Some("A|B,C|")),
+        (
+            b"x,trip_id\n\"1,2\",\"A\"\n\"3\"\"4\",\"B,C\"\n",
+            Some("A|B,C|"),
+        ),
         (b"trip_id\n\"A\nB\"\n", Some("A\nB|")),
         (b"trip_id\r\nA\r\nB\r\n", Some("A|B|")),
         (b"trip_id\nA\nB", Some("A|B|")),
@@ -108,7 +111,10 @@ fn missing_and_failed(rt: HostRuntime) -> Result<(), Fail> {
     let missing = read_timetable(alloc, &mut files, "g").err();
     assert_eq!(rt; missing, Some(TableFault::Missing(TableFile::Trips)));
     let mut files = List::new(alloc);
-    files.push((Text::copied(alloc, "g/trips.txt")?, List::copied(alloc, b"trip_id\nA\n")?))?;
+    files.push((
+        Text::copied(alloc, "g/trips.txt")?,
+        List::copied(alloc, b"trip_id\nA\n")?,
+    ))?;
     let mut fails = List::new(alloc);
     fails.push(1)?;
     let mut files = MemoryFiles::make(files, fails);
