@@ -7,7 +7,7 @@ use indexmap::IndexSet;
 use std::alloc::{AllocError, Global};
 use std::marker::Model;
 
-/// The bytes that an id has at most.
+// The bytes that an id has at most.
 const MAX_ID_LEN: usize = 200;
 
 // Whether bytes are as many as an id has.
