@@ -1,6 +1,5 @@
 -- Fields of a row by place, and the place of a column.
-use Rattle.std.proofs.Common.{◌≡◌, ◌∙◌, ◌<◌, ℕ, zero, suc, true, false, not, List, [], ◌∷◌, length, slice_get, nat_lt, unwrap_or, Option, Some, None, refl, sym, ap, arith}
-use Rattle.std.specs.List.{position_or_len}
+use Rattle.std.proofs.Common.{◌≡◌, ◌∙◌, ◌<◌, ℕ, zero, suc, true, false, List, [], ◌∷◌, length, slice_get, nat_lt, unwrap_or, Option, Some, None, refl, ap, arith}
 use Rattle.std.specs.Option.{option_map}
 use Rattle.std.specs.Str.{bytes_eq}
 use Rattle.std.proofs.lemmas.Bool.{lt-ltb}
@@ -35,14 +34,14 @@ pub column-found : (name : List ℕ) (row : List (List ℕ)) (place : ℕ) → p
     → ((k : ℕ) → k < place → bytes_eq (field_of k row) name ≡ false) → column name row ≡ Some place
 column-found name row place within here before =
     let first = position_or_len_is (λ field. bytes_eq (trimmed field) name) row place [] (omega arith)
-        (λ k below. rw (← unwrap_or-slice_get row k []) (before k below))
-        (λ _. rw (← unwrap_or-slice_get row place []) here) in
+    (λ k below. rw (← unwrap_or-slice_get row k []) (before k below))
+    (λ _. rw (← unwrap_or-slice_get row place []) here) in
     rw (first, lt-ltb place (length row) within) refl
 
 pub column-missing : (name : List ℕ) (row : List (List ℕ)) → ((k : ℕ) → k < length row → bytes_eq (field_of k row) name ≡ false) → column name row ≡ None
 column-missing name row none =
     let all = position_or_len_is (λ field. bytes_eq (trimmed field) name) row (length row) [] (omega arith)
-        (λ k below. rw (← unwrap_or-slice_get row k []) (none k below))
-        (λ past. absurd (omega (arith, past))) in
+    (λ k below. rw (← unwrap_or-slice_get row k []) (none k below))
+    (λ past. absurd (omega (arith, past))) in
     let past : nat_lt (length row) (length row) ≡ false = grind (arith, nat_tests) in
     rw (all, past) refl

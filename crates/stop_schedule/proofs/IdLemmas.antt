@@ -1,21 +1,20 @@
 -- Ids by place, and ids with one more.
-use Rattle.std.proofs.Common.{◌≡◌, ◌∙◌, ◌<◌, ◌≤◌, ◌+◌, ◌&&◌, ◌||◌, ℕ, zero, suc, Bool, true, false, cond, not, nat_le, nat_lt, List, [], ◌∷◌, ◌++◌, map, length, slice_get, position, Option, Some, None, refl, sym, ap, subst, add-one, add_comm, arith}
+use Rattle.std.proofs.Common.{◌≡◌, ◌∙◌, ◌<◌, ◌≤◌, ◌+◌, ◌&&◌, ◌||◌, ℕ, zero, suc, Bool, true, false, cond, not, nat_le, List, [], ◌∷◌, ◌++◌, map, length, slice_get, position, Some, refl, sym, ap, subst, add-one, add_comm}
 use Rattle.std.specs.List.{list_all, list_any, prefix_len}
 use Rattle.std.specs.Str.{bytes_eq, is_utf8}
 use Rattle.std.proofs.lemmas.List.{length-map, map-append}
-use Rattle.std.proofs.lemmas.Bool.Decides.{nat_tests}
 use Rattle.std.proofs.lemmas.Str.{is_utf8-from_IsUtf8, IsUtf8-from_is_utf8}
 use Rattle.std.specs.String.{string_bytes, string_eq}
-use Rattle.std.specs.Prelude.{String, IsUtf8, ◌==◌}
+use Rattle.std.specs.Prelude.{String, IsUtf8}
 use Rattle.indexmap.specs.IndexSet.{insert_key}
 use Rattle.std.proofs.lemmas.List.Folds.{list_all-append, list_any-append}
 use Rattle.std.proofs.lemmas.Slice.Eq.{bytes_eq-Decides}
-use Rattle.std.proofs.lemmas.Bool.{leb-true, le-leb, lt-ltb, false≢true}
+use Rattle.std.proofs.lemmas.Bool.{leb-true, lt-ltb, false≢true}
 use Rattle.std.proofs.lemmas.Option.{slice_get_within}
-use Rattle.std.proofs.Math.Bool.{or-true}
+use Rattle.std.proofs.Math.Bool.{and-false, or-true}
 use Rattle.std.specs.Cmp.{both_ways}
 use Rattle.std.specs.Cmp.Derive.{both_true}
-use Rattle.stop_schedule.specs.Ids.{are_distinct, are_ids, has_id, is_id}
+use Rattle.stop_schedule.specs.Ids.{are_distinct, are_ids, has_id, has_id_len, is_id}
 
 bytes_eq-refl : (id : List ℕ) → bytes_eq id id ≡ true
 bytes_eq-refl id = (bytes_eq-Decides id id).1 refl
@@ -45,7 +44,6 @@ id-at : (ids : List (List ℕ)) (place : ℕ) (id : List ℕ) → list_all is_id
 id-at [] place id all at = cc
 id-at (first ∷ ids) zero id all at = let same : first ≡ id = cc in subst (λ t. is_id t ≡ true) same (and-left _ _ all)
 id-at (first ∷ ids) (suc place) id all at = id-at ids place id (and-right _ _ all) at
-
 
 has-at : (ids : List (List ℕ)) (place : ℕ) (id : List ℕ) → slice_get ids place ≡ Some id → has_id id ids ≡ true
 has-at [] place id at = cc
@@ -129,12 +127,12 @@ are_ids-front ids more h =
 pub id-at-has-bytes : (ids : List (List ℕ)) (place : ℕ) (id : List ℕ) → are_ids ids ≡ true → slice_get ids place ≡ Some id → 1 ≤ length id
 id-at-has-bytes ids place id good at =
     let sound = id-at ids place id (and-left _ _ good) at in
-    leb-true 1 (length id) (and-right (is_utf8 id) (nat_le 1 (length id)) (and-left (is_utf8 id && nat_le 1 (length id)) (nat_le (length id) 200) sound))
+    leb-true 1 (length id) (and-left (nat_le 1 (length id)) (nat_le (length id) 200) (and-left (has_id_len id) (is_utf8 id) sound))
 
 pub id-at-is-short : (ids : List (List ℕ)) (place : ℕ) (id : List ℕ) → are_ids ids ≡ true → slice_get ids place ≡ Some id → length id ≤ 200
 id-at-is-short ids place id good at =
     let sound = id-at ids place id (and-left _ _ good) at in
-    leb-true (length id) 200 (and-right (is_utf8 id && nat_le 1 (length id)) (nat_le (length id) 200) sound)
+    leb-true (length id) 200 (and-right (nat_le 1 (length id)) (nat_le (length id) 200) (and-left (has_id_len id) (is_utf8 id) sound))
 
 -- the place of an id that stands at a place is that place
 pub place-of-id-at : (ids : List (List ℕ)) (place : ℕ) (id : List ℕ) → are_ids ids ≡ true → slice_get ids place ≡ Some id
@@ -143,16 +141,14 @@ place-of-id-at ids place id good at = place-of-id ids place id (and-right (list_
 
 -- ---- what a test of some bytes tells
 
-pub id-from-text : (id : List ℕ) → IsUtf8 id → (length id == 0) ≡ false → length id ≤ 200 → is_id id ≡ true
-id-from-text id text some short =
-    let begun : 1 ≤ length id = grind (arith, nat_tests) in
-    both_true (both_true (is_utf8-from_IsUtf8 id text) (le-leb 1 (length id) begun)) (le-leb (length id) 200 short)
+pub id-from-text : (id : List ℕ) → has_id_len id ≡ true → IsUtf8 id → is_id id ≡ true
+id-from-text id some text = both_true some (is_utf8-from_IsUtf8 id text)
 
 pub no-text-no-id : (id : List ℕ) (b : Bool) → (IsUtf8 id → ⊥) → false ≡ (is_id id && b)
 no-text-no-id id b text = by (is_utf8 id) refl
   where
     by : (u : Bool) → is_utf8 id ≡ u → false ≡ (is_id id && b)
-    by false e = rw e refl
+    by false e = rw (e, and-false (has_id_len id)) refl
     by true e = absurd (text (IsUtf8-from_is_utf8 id e))
 
 -- ---- a set of texts

@@ -2,3 +2,4 @@ pub mod FieldLemmas
 pub mod IdLemmas
 pub mod RowLemmas
 pub mod TripLemmas
+mod WorkedValues

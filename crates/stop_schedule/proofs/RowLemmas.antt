@@ -1,5 +1,5 @@
 -- What one read of a record takes from the rows that a reader has left.
-use Rattle.std.proofs.Common.{◌≡◌, ◌∙◌, ◌⊎◌, ◌<◌, ◌+◌, ℕ, zero, suc, Bool, true, false, cond, List, [], ◌∷◌, ◌++◌, length, Option, Some, None, refl, sym, ap, subst, inl, inr, arith, add-one}
+use Rattle.std.proofs.Common.{◌≡◌, ◌∙◌, ◌⊎◌, ◌<◌, ◌+◌, ℕ, zero, suc, Bool, true, false, cond, List, [], ◌∷◌, ◌++◌, length, Option, Some, None, refl, sym, ap, inl, inr, arith, add-one}
 use Rattle.std.proofs.lemmas.Bool.{false≢true}
 use Rattle.std.specs.Prelude.{⊤}
 use Rattle.std.specs.Bool.{MatchBool}
@@ -11,7 +11,7 @@ use Rattle.csv.specs.declared.parser.State.{State}
 use Rattle.csv.specs.declared.parser.State.TheVariants as st
 use Rattle.csv.specs.declared.reader.Reader.{Reader}
 use Rattle.csv.specs.declared.reader.Trim.TheVariants as untrimmed
-use Rattle.stop_schedule.specs.RowReader.{rows_from, rows_of, IsPlain, IsPlainUnlessFailed}
+use Rattle.stop_schedule.specs.RowReader.{rows_from, rows_of, IsPlainUnlessFailed}
 
 -- what is left behind a record is shorter than the text, or nothing at the start of a record
 abbrev Shortens : List ℕ → Option Read → Type 0
@@ -46,7 +46,6 @@ records_from-nothing : (cfg : Config) (n : ℕ) → records_from cfg n st.StartR
 unfolding records_from next_record
 records_from-nothing cfg zero = refl
 records_from-nothing cfg (suc n) = refl
-
 
 same-next : (cfg : Config) (n m : ℕ) (text : List ℕ) (o : Option Read) → Shortens text o → length text < n + 1 → length text < m + 1
     → ((state : State) (rest : List ℕ) → length rest < n → length rest < m → records_from cfg n state rest ≡ records_from cfg m state rest)
@@ -86,7 +85,7 @@ rows-next : (text : List ℕ) (state : State) (known : Option (List ℕ)) (found
 unfolding records_from
 rows-next text state None found fields after reads = absurd reads
 rows-next text state (Some left) found fields after reads =
-    rw add-one (records-next text _ found fields after left (next_record-shortens default_config text state [] []) reads)
+    rw (add-one (length text)) (records-next text _ found fields after left (next_record-shortens default_config text state [] []) reads)
 
 -- ---- a reader over a slice
 

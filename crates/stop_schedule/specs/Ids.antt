@@ -3,9 +3,13 @@ use Rattle.std.specs.Prelude.{◌&&◌, ℕ, Bool, true, not, nat_le, List, [], 
 use Rattle.std.specs.List.{list_all, list_any}
 use Rattle.std.specs.Str.{bytes_eq, is_utf8}
 
+-- 1 to 200 bytes
+abbrev pub has_id_len : List ℕ → Bool
+has_id_len id = nat_le 1 (length id) && nat_le (length id) 200
+
 -- UTF-8 text of 1 to 200 bytes
 abbrev pub is_id : List ℕ → Bool
-is_id id = is_utf8 id && nat_le 1 (length id) && nat_le (length id) 200
+is_id id = has_id_len id && is_utf8 id
 
 -- whether a list has that id
 abbrev pub has_id : List ℕ → List (List ℕ) → Bool

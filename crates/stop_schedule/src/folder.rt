@@ -11,7 +11,7 @@ use crate::table_file::TableFile;
 use gw_base::{Bytes, FileFault, Files, Got, List};
 use std::alloc::{AllocError, Global};
 
-/// The bytes that a file has at most.
+// The bytes that a file has at most.
 const MAX_FILE_LEN: u64 = 268_435_456;
 
 // The name of a file in a folder.

@@ -1,14 +1,21 @@
 //! Ids, numbered from 0 in the order in which they came. The functions meet `specs/Ids.antt`.
 ghost use Rattle.std.specs.Prelude.{◌≡◌, ◌&&◌, ◌<◌, ◌++◌, ◌∷◌, [], not, Some, if◌then◌else◌, length, slice_get, position, IfOk, OnErr, IfSome, IsTrue};
 ghost use Rattle.std.specs.Str.{bytes_eq};
-ghost use Rattle.stop_schedule.specs.Ids.{are_ids, has_id, is_id};
+ghost use Rattle.stop_schedule.specs.Ids.{are_ids, has_id, has_id_len as has_len, is_id};
 
 use indexmap::IndexSet;
 use std::alloc::{AllocError, Global};
 use std::marker::Model;
 
-/// The bytes that an id has at most.
+// The bytes that an id has at most.
 const MAX_ID_LEN: usize = 200;
+
+// Whether bytes are as many as an id has.
+fn has_id_len(id: &[u8]) -> bool
+    ensures { result ≡ has_len id.now }
+{
+    !id.is_empty() && id.len() <= MAX_ID_LEN
+}
 
 /// Ids that differ, numbered from 0 in the order in which they came. A contract sees the list of them.
 #[derive(Debug, Drop)]
@@ -70,7 +77,7 @@ impl Ids {
         ensures ids { IfOk result (λ added. self.new ≡ (if added then self.old ++ id.now ∷ [] else self.old)) }
         ensures kept { OnErr result (self.new ≡ self.old) }
     {
-        if id.is_empty() || id.len() > MAX_ID_LEN {
+        if !has_id_len(id) {
             return Ok(false);
         }
         let Ok(text) = str::from_utf8(id) else {

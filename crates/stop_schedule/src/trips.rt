@@ -6,8 +6,8 @@ use crate::ids::Ids;
 use crate::rows::Rows;
 use std::alloc::{AllocError, Global};
 
-/// The trips that a timetable has at most.
-pub(crate) const MAX_TRIPS: usize = 200_000;
+// The trips that a timetable has at most.
+const MAX_TRIPS: usize = 200_000;
 
 /// The ids of the trips by the bytes of `trips.txt`, where each rule holds: a column `trip_id` of ids that
 /// differ, on at most 200,000 rows.

@@ -1,5 +1,4 @@
-use Rattle.std.proofs.Common.{◌≡◌, ◌∙◌, sym, ap, not}
-use Rattle.std.specs.String.{string_bytes}
+use Rattle.std.proofs.Common.{◌∙◌, sym, ap, not}
 use Rattle.stop_schedule.specs.Ids.{has_id}
 use Rattle.stop_schedule.proofs.IdLemmas.{no-text-no-id, id-from-text, lacks-text, are_ids-insert}
 use Rattle.stop_schedule.proofs.ids.Ids.add.Goals as goal
@@ -9,12 +8,12 @@ returns-in_default-clause-added c = no-text-no-id c.args.id.now (not (has_id c.a
 
 pub invariant_of-self-2 : goal.invariant_of-self-2
 invariant_of-self-2 c =
-    let sound = id-from-text c.args.id.now c.in-Ok.ensures.cases.1 (sym c.if-is_empty.ensures) c.if-id-gt-MAX_ID_LEN.false in
+    let sound = id-from-text c.args.id.now (sym c.if-not-has_id_len.ensures) c.in-Ok.ensures.cases.1 in
     let same = c.in_ok-from_str.ensures.ok ∙ c.in-Ok.ensures.cases.0 in
     rw c.in_ok-added.ensures.keys (are_ids-insert c.in_ok-from_str.field-0 c.self.inside.ids.keys c.self.invariant (rw same sound))
 
 pub returns-clause-added : goal.returns-clause-added
 returns-clause-added c =
-    let sound = id-from-text c.args.id.now c.in-Ok.ensures.cases.1 (sym c.if-is_empty.ensures) c.if-id-gt-MAX_ID_LEN.false in
+    let sound = id-from-text c.args.id.now (sym c.if-not-has_id_len.ensures) c.in-Ok.ensures.cases.1 in
     let same = c.in_ok-from_str.ensures.ok ∙ c.in-Ok.ensures.cases.0 in
     rw (sound, ← c.self.view_is) (c.in_ok-added.ensures.added ∙ ap not (lacks-text c.in_ok-from_str.field-0 c.self.inside.ids.keys c.args.id.now same))

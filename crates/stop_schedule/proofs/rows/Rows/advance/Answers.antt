@@ -1,6 +1,4 @@
-use Rattle.std.proofs.Common.{◌≡◌, false}
 use Rattle.csv.specs.Records.{fields_of}
-use Rattle.csv.specs.Reading.{has_failed}
 use Rattle.stop_schedule.proofs.RowLemmas.{rows_of-next}
 use Rattle.stop_schedule.proofs.rows.Rows.advance.Goals as goal
 

@@ -1,4 +1,4 @@
-use Rattle.std.proofs.Common.{◌≡◌, ◌<◌, ℕ, length, true, ap, sym, arith}
+use Rattle.std.proofs.Common.{◌≡◌, ◌<◌, length, true, ap, sym, arith}
 use Rattle.std.specs.Str.{bytes_eq}
 use Rattle.stop_schedule.specs.Fields.{field_of}
 use Rattle.stop_schedule.specs.RowReader.{RowsLeft}
