@@ -1,17 +1,17 @@
 -- Where no item follows what was walked, the bytes break there, in one way.
-use Rattle.std.proofs.Common.{◌≡◌, ◌≢◌, ℕ, zero, suc, ◌+◌, ◌<◌, ◌≤◌, Bool, true, false, cond, eqb, ltb, List, [], ◌∷◌, ◌++◌, length, take, drop, Option, Some, None, Result, Ok, Err, refl, sym, ap, subst, ◌∙◌, arith, inl, inr, append_assoc}
-use Rattle.std.specs.Prelude.{◌⊎◌, option_and_then}
+use Rattle.std.proofs.Common.{◌≡◌, ◌≢◌, ℕ, zero, suc, ◌<◌, ◌≤◌, Bool, true, false, cond, ltb, List, [], ◌∷◌, ◌++◌, length, take, drop, Option, Some, None, Ok, Err, refl, sym, ap, ◌∙◌, arith, inl, inr, append_assoc}
+use Rattle.std.specs.Prelude.{option_and_then}
 use Rattle.std.proofs.lemmas.Bool.{ltb-false}
 use Rattle.std.proofs.lemmas.List.{length-append, append-nil, append_cancel_right, take_at, drop_at}
 use Rattle.gw_base.specs.declared.wire_kind.WireKind.{WireKind}
 use Rattle.gw_base.specs.declared.wire_kind.WireKind.TheVariants.{Truncated, LongVarint, BadTag, BadGroup, DeepGroup}
-use Rattle.wire_fields.specs.Grammar.{Payload, Varint, Fixed64, Bytes, Group, Fixed32, WireField, Item, Holds, Ends, IsItem, IsGroup, IsSpelling, AreFields, Concatenates}
-use Rattle.wire_fields.specs.Breaks.{open_after_field, open_after_end, open_after_item, open_after, IsRun, BeginsLong, BeginsLongPayload, BeginsUnsound, BeginsEnd, BeginsDeep, HasKind, IsLongestRun, BeginsNone, IsBreak, IsBroken}
+use Rattle.wire_fields.specs.Grammar.{Payload, Varint, Fixed64, Bytes, Group, Fixed32, WireField, Item, Holds, Ends, IsItem, IsSpelling, AreFields, Concatenates}
+use Rattle.wire_fields.specs.Breaks.{open_after_field, open_after_end, open_after_item, open_after, IsRun, BeginsEnd, BeginsDeep, HasKind, IsLongestRun, IsBreak, IsBroken}
 use Rattle.wire_fields.specs.Reading.{holding, item_at, kind_of_block}
-use Rattle.wire_fields.proofs.Numbers.{ok_is, err_is}
+use Rattle.wire_fields.proofs.Numbers.{ok_is}
 use Rattle.wire_fields.proofs.Items.{FailsAtItem, item_again, item_found, item_fault, item_long, item_unsound}
-use Rattle.wire_fields.proofs.Lists.{Concatenates-push, IsApart, Stops, stops_at_end, one_list, one_list_whole}
-use Rattle.wire_fields.proofs.Spellings.{items_apart, fields_apart, field_cases, field_from_item, field_begins, end_stops, held, end_number}
+use Rattle.wire_fields.proofs.Lists.{Concatenates-push, stops_at_end, one_list, one_list_whole}
+use Rattle.wire_fields.proofs.Spellings.{items_apart, fields_apart, field_from_item}
 use Rattle.wire_fields.proofs.Walks.{IsOpen, open_room, open_start, open_field, open_end, open_close, NoStep, after_whole, after_start, after_deep, after_end, not_closed, no_field, no_field_at_all}
 
 -- ---- what was walked

@@ -1,23 +1,23 @@
 -- Bytes are a list of fields, or they break.
-use Rattle.std.proofs.Common.{◌≡◌, ◌≢◌, ℕ, zero, suc, ◌+◌, ◌<◌, ◌≤◌, List, [], ◌∷◌, ◌++◌, length, Option, Some, None, Result, Ok, Err, refl, sym, ap, subst, ◌∙◌, arith, inl, inr, append_assoc}
+use Rattle.std.proofs.Common.{◌≡◌, ◌≢◌, ℕ, zero, suc, ◌<◌, List, [], ◌∷◌, ◌++◌, length, Option, Some, None, Result, Ok, Err, refl, sym, ap, ◌∙◌, arith, inl, inr, append_assoc}
 use Rattle.std.specs.Prelude.{◌⊎◌}
 use Rattle.std.proofs.lemmas.List.{length-append, append-nil}
 use Rattle.gw_base.specs.declared.wire_kind.WireKind.{WireKind}
 use Rattle.gw_base.specs.declared.wire_kind.WireKind.TheVariants.{BadGroup}
-use Rattle.wire_fields.specs.Grammar.{Payload, Varint, Fixed64, Bytes, Group, Fixed32, WireField, Item, Holds, Ends, IsItem, IsSpelling, AreFields}
+use Rattle.wire_fields.specs.Grammar.{Payload, Varint, Fixed64, Bytes, Group, Fixed32, WireField, Item, Holds, Ends, IsSpelling, AreFields, BeginsField}
 use Rattle.wire_fields.specs.Breaks.{open_after_item, IsBreak, IsBroken}
-use Rattle.wire_fields.specs.Reading.{holding, item_at, kind_of_block}
+use Rattle.wire_fields.specs.Reading.{holding, item_at, kind_of_block, BreaksInGroup}
 use Rattle.wire_fields.proofs.Lists.{Concatenates-push}
 use Rattle.wire_fields.proofs.Spellings.{fields_apart}
 use Rattle.wire_fields.proofs.Broken.{stop_at_item}
 use Rattle.wire_fields.proofs.Skips.{IsSkip, skip_none, skip_more, skip_stops, skip_blocked, item_shorter, positive}
-use Rattle.wire_fields.proofs.Fronts.{BeginsField, first_fault, first_end, first_whole, first_group, first_group_fault}
+use Rattle.wire_fields.proofs.Fronts.{first_fault, first_end, first_whole, first_group, first_group_fault}
 
 -- ---- a group ends, or the bytes break
 
 abbrev Leads : ℕ → List ℕ → Type 0
 Leads number bytes =
-    ((after : List ℕ) × IsSkip number bytes [] after) ⊎ ((kind : WireKind) × ((start : List ℕ) → IsItem (holding number Group) start → IsBreak (start ++ bytes) kind))
+    ((after : List ℕ) × IsSkip number bytes [] after) ⊎ ((kind : WireKind) × BreaksInGroup number bytes kind)
 
 -- where each shorter rest leads to an end
 abbrev Shorter : ℕ → ℕ → List ℕ → Type 0

@@ -1,14 +1,13 @@
 -- The first field of bytes, and the next one behind a list of fields.
-use Rattle.std.proofs.Common.{◌≡◌, ◌≢◌, ℕ, zero, suc, ◌+◌, ◌-◌, ◌<◌, ◌≤◌, eqb, false, List, [], ◌∷◌, ◌++◌, length, take, drop, Result, Ok, Err, refl, sym, ap, subst, ◌∙◌, arith, append_assoc}
-use Rattle.std.specs.Prelude.{slice_range}
-use Rattle.std.proofs.lemmas.List.{length-append, length-take, length-drop, take-append-drop, take_at, drop_at, nil_from_length}
+use Rattle.std.proofs.Common.{◌≡◌, ◌≢◌, ℕ, ◌-◌, ◌≤◌, eqb, false, List, [], ◌∷◌, ◌++◌, length, take, drop, Ok, Err, refl, sym, ap, ◌∙◌, arith, append_assoc}
+use Rattle.std.proofs.lemmas.List.{length-append, length-take, length-drop, take-append-drop, take_at, drop_at}
 use Rattle.gw_base.specs.declared.wire_kind.WireKind.{WireKind}
 use Rattle.gw_base.specs.declared.wire_kind.WireKind.TheVariants.{BadGroup}
 use Rattle.wire_fields.specs.declared.field.Value.{Value}
 use Rattle.wire_fields.specs.declared.field.Value.TheVariants as values
-use Rattle.wire_fields.specs.Grammar.{Payload, Varint, Fixed64, Bytes, Group, Fixed32, WireField, Item, Holds, Ends, IsItem, IsSpelling, AreFields}
+use Rattle.wire_fields.specs.Grammar.{Group, WireField, Holds, Ends, IsSpelling, AreFields, BeginsField, IsNext, Continues}
 use Rattle.wire_fields.specs.Breaks.{IsBreak, IsBroken}
-use Rattle.wire_fields.specs.Reading.{holding, item_at}
+use Rattle.wire_fields.specs.Reading.{holding, item_at, EndsGroup, BreaksInGroup}
 use Rattle.wire_fields.specs.Seen.{payload_of}
 use Rattle.wire_fields.proofs.Items.{item_found}
 use Rattle.wire_fields.proofs.Lists.{Concatenates-push}
@@ -36,34 +35,25 @@ first_fault bytes kind e = break_after [] [] bytes kind nothing_walked (stop_at_
 pub first_end : (bytes rest : List ℕ) (number : ℕ) → item_at bytes ≡ Ok (Ends number, rest) → IsBreak bytes BadGroup
 first_end bytes rest number e = break_after [] [] bytes BadGroup nothing_walked (stop_at_block [] bytes rest (Ends number) (omega arith) e refl)
 
-abbrev pub BeginsField : List ℕ → WireField → List ℕ → Type 0
-BeginsField bytes field rest = (spelling : List ℕ) × (bytes ≡ spelling ++ rest) × IsSpelling 64 field spelling
-
 pub first_whole : (bytes rest : List ℕ) (field : WireField) → item_at bytes ≡ Ok (Holds field, rest) → field.payload ≢ Group → BeginsField bytes field rest
 first_whole bytes rest field e ne =
     let f = item_found bytes (Holds field) rest e in
     (f.0, f.1, field_from_item 64 field.number field.payload f.0 ne f.2)
 
 pub first_group : (bytes rest after : List ℕ) (number : ℕ) → item_at bytes ≡ Ok (holding number Group, rest)
-    → (inside : List ℕ) × (rest ≡ inside ++ after) × ((start : List ℕ) → IsItem (holding number Group) start → IsSpelling 64 (record { number = number; payload = Group }) (start ++ inside))
+    → EndsGroup number rest after
     → BeginsField bytes (record { number = number; payload = Group }) after
 first_group bytes rest after number e s =
     let f = item_found bytes (holding number Group) rest e in
     (f.0 ++ s.0, f.1 ∙ ap (λ (l : List ℕ). f.0 ++ l) s.1 ∙ sym (append_assoc f.0 s.0 after), s.2 f.0 f.2)
 
 pub first_group_fault : (bytes rest : List ℕ) (number : ℕ) (kind : WireKind) → item_at bytes ≡ Ok (holding number Group, rest)
-    → ((start : List ℕ) → IsItem (holding number Group) start → IsBreak (start ++ rest) kind) → IsBreak bytes kind
+    → BreaksInGroup number rest kind → IsBreak bytes kind
 first_group_fault bytes rest number kind e s =
     let f = item_found bytes (holding number Group) rest e in
     rw f.1 (s f.0 f.2)
 
 -- ---- the next field
-
--- where it ends
-pub next_place : (bytes rest : List ℕ) (at : ℕ) (field : WireField) → at ≤ length bytes → BeginsField (drop at bytes) field rest → (at < length bytes - length rest) × (length bytes - length rest ≤ length bytes)
-next_place bytes rest at field le h =
-    let some = positive h.0 ((fields_apart 64).some field h.0 h.2) in
-    (omega (arith, ap length h.1, length-drop at bytes, length-append h.0 rest), omega arith)
 
 -- the bytes up to there
 next_front : (bytes rest : List ℕ) (at : ℕ) (field : WireField) → at ≤ length bytes → (h : BeginsField (drop at bytes) field rest) → take (length bytes - length rest) bytes ≡ take at bytes ++ h.0
@@ -72,15 +62,20 @@ next_front bytes rest at field le h =
     let len : length (take at bytes ++ h.0) ≡ length bytes - length rest = omega (arith, ap length whole, length-append (take at bytes ++ h.0) rest) in
     ap (λ (l : List ℕ). take (length bytes - length rest) l) whole ∙ take_at (take at bytes ++ h.0) rest (length bytes - length rest) len
 
--- the bytes from the place to there
-pub next_spelling : (bytes rest : List ℕ) (at : ℕ) (field : WireField) → at ≤ length bytes → BeginsField (drop at bytes) field rest → IsSpelling 64 field (slice_range bytes at (length bytes - length rest))
-next_spelling bytes rest at field le h =
+-- it stands from the place to there
+pub next_is : (bytes rest : List ℕ) (at : ℕ) (field : WireField) → at ≤ length bytes → BeginsField (drop at bytes) field rest → IsNext bytes at (length bytes - length rest) field
+next_is bytes rest at field le h =
+    let some = positive h.0 ((fields_apart 64).some field h.0 h.2) in
     let len : length h.0 ≡ length bytes - length rest - at = omega (arith, ap length h.1, length-drop at bytes, length-append h.0 rest) in
-    rw (h.1, take_at h.0 rest (length bytes - length rest - at) len) h.2
+    record {
+      spelled = rw (h.1, take_at h.0 rest (length bytes - length rest - at) len) h.2;
+      further = omega (arith, ap length h.1, length-drop at bytes, length-append h.0 rest);
+      within = omega arith;
+    }
 
-pub next_fields : (bytes rest : List ℕ) (at : ℕ) (field : WireField) (fields : List WireField) → at ≤ length bytes → BeginsField (drop at bytes) field rest
-    → AreFields (take at bytes) fields → AreFields (take (length bytes - length rest) bytes) (fields ++ field ∷ [])
-next_fields bytes rest at field fields le h k =
+-- and the bytes up to there are the fields so far and this one
+pub next_continues : (bytes rest : List ℕ) (at : ℕ) (field : WireField) → at ≤ length bytes → BeginsField (drop at bytes) field rest → Continues bytes at (length bytes - length rest) field
+next_continues bytes rest at field le h fields k =
     rw (next_front bytes rest at field le h) (Concatenates-push (IsSpelling 64) fields field (take at bytes) h.0 k h.2)
 
 pub next_broken : (bytes : List ℕ) (at : ℕ) (kind : WireKind) (fields : List WireField) → at ≤ length bytes → (at ≡ length bytes → ⊥) → AreFields (take at bytes) fields → IsBreak (drop at bytes) kind → IsBroken bytes at kind
@@ -100,9 +95,3 @@ pub next_not_broken : (bytes rest : List ℕ) (at : ℕ) (field : WireField) (ki
 next_not_broken bytes rest at field kind h b =
     let behind : drop at bytes ≡ b.rest = ap (λ (l : List ℕ). drop at l) b.joined ∙ drop_at b.front b.rest at b.place in
     b.breaks.none field h.0 rest (sym behind ∙ h.1) h.2
-
--- nor do they at their end
-pub end_not_broken : (bytes : List ℕ) (at : ℕ) (kind : WireKind) → at ≡ length bytes → IsBroken bytes at kind → ⊥
-end_not_broken bytes at kind e b =
-    let none : length b.rest ≡ 0 = omega (arith, e, b.place, ap length b.joined, length-append b.front b.rest) in
-    b.some (nil_from_length b.rest none)

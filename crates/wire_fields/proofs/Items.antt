@@ -1,12 +1,12 @@
 -- Reading an item from the front of bytes is finding its spelling there.
-use Rattle.std.proofs.Common.{◌≡◌, ℕ, zero, suc, ◌+◌, ◌-◌, ◌*◌, ◌/◌, ◌%◌, ◌^◌, ◌<◌, ◌≤◌, Bool, true, false, cond, ltb, leb, List, [], ◌∷◌, ◌++◌, length, take, drop, Result, Ok, Err, refl, sym, ap, subst, ◌∙◌, arith, inl, inr, append_assoc}
+use Rattle.std.proofs.Common.{◌≡◌, ℕ, zero, suc, ◌/◌, ◌%◌, ◌^◌, ◌<◌, ◌≤◌, Bool, true, false, cond, ltb, leb, List, [], ◌++◌, length, take, drop, Result, Ok, Err, refl, sym, ap, subst, ◌∙◌, arith, inl, inr, append_assoc}
 use Rattle.std.specs.Prelude.{◌⊎◌, ◌&&◌}
 use Rattle.std.specs.Int.{Width, w32, w64, byte_len, from_le_bytes}
 use Rattle.std.proofs.lemmas.Bool.{cases_lt, ltb-false, ltb-true, leb-true, le-ltb, lt-ltb, le-leb, lt-leb}
 use Rattle.std.proofs.lemmas.List.{take_at, drop_at, take-append-drop, length-append, length-take}
 use Rattle.gw_base.specs.declared.wire_kind.WireKind.{WireKind}
 use Rattle.gw_base.specs.declared.wire_kind.WireKind.TheVariants.{Truncated, LongVarint, BadTag, BadGroup, DeepGroup}
-use Rattle.wire_fields.specs.Grammar.{Payload, Varint, Fixed64, Bytes, Group, Fixed32, WireField, Item, Holds, Ends, IsVarint, IsSoundTag, IsItem, IsPayload, IsItemPayload, tag_of, type_of_item, number_of_item}
+use Rattle.wire_fields.specs.Grammar.{Payload, Varint, Fixed64, Bytes, Group, Fixed32, Item, Holds, Ends, IsVarint, IsSoundTag, IsItem, IsPayload, IsItemPayload, tag_of, type_of_item, number_of_item}
 use Rattle.wire_fields.specs.Breaks.{BeginsLong, BeginsLongPayload, BeginsUnsound}
 use Rattle.wire_fields.specs.Reading.{◌>>=◌, holding, varint_at, bytes_at, fixed_at, payload_at, item_at}
 use Rattle.wire_fields.proofs.Numbers.{bind_ok, bind_err, ok_is, err_is, chosen, varint_again, varint_found, varint_long, varint_fault}

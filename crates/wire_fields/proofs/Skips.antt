@@ -1,15 +1,15 @@
 -- Skipping a group: what was walked from its start on is a part of a run, and in the end the group's spelling.
-use Rattle.std.proofs.Common.{◌≡◌, ◌≢◌, ℕ, zero, suc, ◌+◌, ◌<◌, ◌≤◌, Bool, true, false, cond, eqb, ltb, List, [], ◌∷◌, ◌++◌, length, Option, Some, None, Result, Ok, Err, refl, sym, ap, subst, ◌∙◌, arith, inl, inr, append_assoc}
+use Rattle.std.proofs.Common.{◌≡◌, ◌≢◌, ℕ, ◌<◌, ◌≤◌, eqb, ltb, List, [], ◌∷◌, ◌++◌, length, Some, None, Ok, refl, sym, ap, subst, ◌∙◌, arith, inl, inr, append_assoc}
 use Rattle.std.proofs.lemmas.Bool.{ltb-true, eqb-true}
-use Rattle.std.proofs.lemmas.List.{length-append, append-nil, nil_from_length}
+use Rattle.std.proofs.lemmas.List.{length-append, append-nil}
 use Rattle.gw_base.specs.declared.wire_kind.WireKind.{WireKind}
-use Rattle.wire_fields.specs.Grammar.{Payload, Varint, Fixed64, Bytes, Group, Fixed32, WireField, Item, Holds, Ends, IsItem, IsSpelling}
-use Rattle.wire_fields.specs.Breaks.{open_after_field, open_after_end, open_after_item, IsBreak}
+use Rattle.wire_fields.specs.Grammar.{Payload, Varint, Fixed64, Bytes, Group, Fixed32, Item, Holds, Ends, IsItem, IsSpelling}
+use Rattle.wire_fields.specs.Breaks.{open_after_field, open_after_item, IsBreak}
 use Rattle.wire_fields.specs.Reading.{holding, item_at, kind_of_block}
 use Rattle.wire_fields.proofs.Numbers.{chosen}
 use Rattle.wire_fields.proofs.Items.{item_found}
 use Rattle.wire_fields.proofs.Spellings.{items_apart}
-use Rattle.wire_fields.proofs.Broken.{some_is, IsWalked, nothing_walked, walked_start, walked_field, walked_end, walked_whole, IsStop, stop_at_item, stop_at_block, break_after}
+use Rattle.wire_fields.proofs.Broken.{some_is, IsWalked, nothing_walked, walked_start, walked_field, walked_end, walked_whole, IsStop, stop_at_block, break_after}
 use Rattle.wire_fields.proofs.Walks.{open_room}
 
 -- the outermost of the open groups has this number

@@ -1,13 +1,12 @@
 -- No spelling of an item or a field begins another.
-use Rattle.std.proofs.Common.{◌≡◌, ◌≢◌, ℕ, zero, suc, ◌+◌, ◌<◌, ◌≤◌, List, [], ◌∷◌, ◌++◌, length, Result, Ok, Err, refl, sym, ap, subst, ◌∙◌, arith, inl, inr, append_assoc}
+use Rattle.std.proofs.Common.{◌≡◌, ◌≢◌, ℕ, zero, suc, List, [], ◌∷◌, ◌++◌, refl, sym, ap, subst, ◌∙◌, arith, inl, inr, append_assoc}
 use Rattle.std.specs.Prelude.{◌⊎◌}
-use Rattle.std.proofs.lemmas.List.{length-append, append-nil}
-use Rattle.gw_base.specs.declared.wire_kind.WireKind.{WireKind}
-use Rattle.wire_fields.specs.Grammar.{Payload, Varint, Fixed64, Bytes, Group, Fixed32, WireField, Item, Holds, Ends, IsChain, IsVarint, IsItem, IsGroup, IsFieldWith, IsGroupWithin, IsSpelling, AreFields, Concatenates}
+use Rattle.std.proofs.lemmas.List.{append-nil}
+use Rattle.wire_fields.specs.Grammar.{Payload, Varint, Fixed64, Bytes, Group, Fixed32, WireField, Item, Holds, Ends, IsChain, IsItem, IsGroup, IsFieldWith, IsGroupWithin, IsSpelling}
 use Rattle.wire_fields.specs.Reading.{holding, item_at}
 use Rattle.wire_fields.proofs.Numbers.{ok_is}
 use Rattle.wire_fields.proofs.Items.{item_again}
-use Rattle.wire_fields.proofs.Lists.{Concatenates-one, Concatenates-push, IsApart, Stops, stops_at_end, one_list, one_list_whole}
+use Rattle.wire_fields.proofs.Lists.{IsApart, Stops, one_list}
 
 -- ---- items
 

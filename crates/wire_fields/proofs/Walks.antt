@@ -1,17 +1,12 @@
 -- Walking through open groups, item by item: what was walked is a run, and so deep in groups.
-use Rattle.std.proofs.Common.{◌≡◌, ◌≢◌, ℕ, zero, suc, ◌+◌, ◌<◌, ◌≤◌, Bool, true, false, cond, eqb, ltb, List, [], ◌∷◌, ◌++◌, length, take, Option, Some, None, Result, Ok, Err, refl, sym, ap, subst, ◌∙◌, arith, inl, inr, append_assoc}
-use Rattle.std.specs.Prelude.{◌⊎◌, option_and_then}
-use Rattle.std.proofs.lemmas.Bool.{cases_lt, lt-ltb, le-ltb, eq-eqb, eqb-true}
-use Rattle.std.proofs.lemmas.List.{length-append, append-nil}
-use Rattle.gw_base.specs.declared.wire_kind.WireKind.{WireKind}
-use Rattle.gw_base.specs.declared.wire_kind.WireKind.TheVariants.{Truncated, LongVarint, BadTag, BadGroup, DeepGroup}
-use Rattle.wire_fields.specs.Grammar.{Payload, Varint, Fixed64, Bytes, Group, Fixed32, WireField, Item, Holds, Ends, IsItem, IsGroup, IsSpelling, AreFields, Concatenates}
-use Rattle.wire_fields.specs.Breaks.{open_after_field, open_after_end, open_after_item, open_after, IsRun, BeginsLong, BeginsLongPayload, BeginsUnsound, BeginsEnd, BeginsDeep, HasKind, IsLongestRun, BeginsNone, IsBreak, IsBroken}
-use Rattle.wire_fields.specs.Reading.{holding, item_at}
-use Rattle.wire_fields.proofs.Numbers.{ok_is, err_is}
-use Rattle.wire_fields.proofs.Items.{item_again, item_found, item_fault, item_long, item_unsound}
-use Rattle.wire_fields.proofs.Lists.{Concatenates-push, IsApart, Stops, one_list, one_list_whole}
-use Rattle.wire_fields.proofs.Spellings.{items_apart, fields_apart, field_cases, field_from_item, field_begins, group_around, end_stops, front_of_nil, regroup, held, end_number}
+use Rattle.std.proofs.Common.{◌≡◌, ◌≢◌, ℕ, suc, ◌+◌, ◌<◌, List, [], ◌∷◌, ◌++◌, length, Some, None, refl, sym, ap, subst, ◌∙◌, arith, inl, inr, append_assoc}
+use Rattle.std.proofs.lemmas.Bool.{lt-ltb, le-ltb, eq-eqb}
+use Rattle.std.proofs.lemmas.List.{append-nil}
+use Rattle.wire_fields.specs.Grammar.{Payload, Varint, Fixed64, Bytes, Group, Fixed32, WireField, Item, Holds, Ends, IsItem, IsGroup, IsSpelling, Concatenates}
+use Rattle.wire_fields.specs.Breaks.{open_after_field, open_after_end, open_after_item}
+use Rattle.wire_fields.specs.Reading.{holding}
+use Rattle.wire_fields.proofs.Lists.{Concatenates-push, Stops, one_list}
+use Rattle.wire_fields.proofs.Spellings.{items_apart, fields_apart, field_cases, group_around, end_stops, regroup, held}
 
 -- ---- groups that are open
 

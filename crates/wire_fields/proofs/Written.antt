@@ -1,10 +1,9 @@
 -- What is written is a spelling.
-use Rattle.std.proofs.Common.{◌≡◌, ℕ, zero, suc, ◌+◌, ◌*◌, ◌/◌, ◌%◌, ◌^◌, ◌<◌, ◌≤◌, List, [], ◌∷◌, ◌++◌, length, refl, sym, ap, ◌∙◌, arith, inl, inr, append_assoc, add-zero}
+use Rattle.std.proofs.Common.{◌≡◌, ℕ, zero, suc, ◌+◌, ◌*◌, ◌/◌, ◌%◌, ◌^◌, ◌<◌, ◌≤◌, List, ◌++◌, length, refl, sym, ap, ◌∙◌, arith, inl, inr, append_assoc, add-zero}
 use Rattle.std.proofs.lemmas.Bool.{cases_lt}
 use Rattle.std.proofs.Math.Nat.{mod-eq_of_lt}
-use Rattle.wire_fields.specs.Grammar.{Varint, Bytes, Item, Holds, IsChain, number_of, IsVarint, IsSoundTag, IsItem, IsSpelling}
+use Rattle.wire_fields.specs.Grammar.{Varint, Bytes, IsChain, number_of, IsVarint, IsSpelling}
 use Rattle.wire_fields.specs.Spelling.{seven_bits_each, varint, varint_field, bytes_field}
-use Rattle.wire_fields.specs.Reading.{holding}
 use Rattle.wire_fields.proofs.Varints.{one_more, no_more, length-varint_10}
 use Rattle.wire_fields.proofs.Numbers.{IsChain-cons}
 

@@ -1,11 +1,11 @@
 -- Where and how bytes are no list of fields.
-use Rattle.std.specs.Prelude.{◌≡◌, ◌≢◌, ℕ, ◌<◌, ◌≤◌, ◌++◌, ◌==◌, ◌%◌, nat_lt, if◌then◌else◌, List, [], ◌∷◌, length, Option, Some, None, option_and_then, ◌⊎◌}
+use Rattle.std.specs.Prelude.{◌≡◌, ◌≢◌, ℕ, ◌≤◌, ◌++◌, ◌==◌, ◌%◌, nat_lt, if◌then◌else◌, List, [], ◌∷◌, length, Option, Some, None, option_and_then, ◌⊎◌}
 use Rattle.std.specs.List.{AllByRecursion}
 use Rattle.gw_base.specs.declared.wire_kind.WireKind.{WireKind}
 use Rattle.gw_base.specs.declared.wire_kind.WireKind.TheVariants.{Truncated, LongVarint, BadTag, BadGroup, DeepGroup}
 use Rattle.wire_fields.specs.Grammar.{Payload, Varint, Fixed64, Bytes, Group, Fixed32, WireField, Item, Holds, Ends, IsVarint, IsSoundTag, IsItem, Concatenates, IsSpelling, AreFields}
 
--- the numbers of the open groups, the innermost first, after a field of a run: its 65th open group has none
+-- the numbers of the open groups, the innermost first, after a field of a run; no 65th group can be opened
 abbrev pub open_after_field : List ℕ → ℕ → Payload → Option (List ℕ)
 open_after_field groups number Group = if nat_lt (length groups) 64 then Some (number ∷ groups) else None
 open_after_field groups number (Varint value) = Some groups
@@ -18,15 +18,17 @@ abbrev pub open_after_end : List ℕ → ℕ → Option (List ℕ)
 open_after_end [] number = None
 open_after_end (innermost ∷ groups) number = if innermost == number then Some groups else None
 
+-- after an item that can follow
 abbrev pub open_after_item : List ℕ → Item → Option (List ℕ)
 open_after_item groups (Holds field) = open_after_field groups field.number field.payload
 open_after_item groups (Ends number) = open_after_end groups number
 
+-- after items of which each can follow
 abbrev pub open_after : List ℕ → List Item → Option (List ℕ)
 open_after groups [] = Some groups
 open_after groups (item ∷ items) = option_and_then (λ now. open_after now items) (open_after_item groups item)
 
--- a run: items of which each end closes the innermost open group, with at most 64 open at once; it leaves these groups open
+-- a run: items of which each end closes the innermost open group, with at most 64 open at once; it leaves these open
 abbrev pub IsRun : List ℕ → List ℕ → Type 0
 IsRun bytes groups = (items : List Item) × Concatenates IsItem items bytes × (open_after [] items ≡ Some groups)
 
@@ -46,11 +48,12 @@ abbrev pub BeginsUnsound : List ℕ → Type 0
 BeginsUnsound bytes =
     (tag : List ℕ) × (rest : List ℕ) × (value : ℕ) × (bytes ≡ tag ++ rest) × IsVarint tag value × ¬ IsSoundTag value
 
--- an item that can't follow where these groups are open: an end that closes none, or the start of a 65th group
+-- the end of a group that closes none of these open groups
 abbrev pub BeginsEnd : List ℕ → List ℕ → Type 0
 BeginsEnd groups bytes =
     (end : List ℕ) × (rest : List ℕ) × (number : ℕ) × (bytes ≡ end ++ rest) × IsItem (Ends number) end × (open_after_end groups number ≡ None)
 
+-- the start of a group where 64 are open
 abbrev pub BeginsDeep : List ℕ → List ℕ → Type 0
 BeginsDeep groups bytes =
     (start : List ℕ) × (rest : List ℕ) × (number : ℕ) × (bytes ≡ start ++ rest)

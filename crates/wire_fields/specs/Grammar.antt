@@ -1,6 +1,8 @@
--- Which bytes are which fields: the wire format of protobuf (protobuf encoding, "Base 128 Varints",
--- "Message Structure", "Length-Delimited Records", "Groups"). It speaks of spellings, not of a place of reading.
-use Rattle.std.specs.Prelude.{◌≡◌, ℕ, zero, suc, ◌+◌, ◌*◌, ◌/◌, ◌%◌, ◌^◌, ◌<◌, ◌≤◌, List, [], ◌∷◌, ◌++◌, length}
+-- Which bytes are which fields: the wire format of protobuf (protobuf encoding, "Base 128 Varints", "Message
+-- Structure", "Length-Delimited Records", "Groups"). It speaks of spellings and not of a place of reading. Where the
+-- standard leaves it open, it is this project's choice: spellings longer than need be, bits past 64, tags past 32 bits,
+-- and how deep groups may stand in one another.
+use Rattle.std.specs.Prelude.{◌≡◌, ℕ, zero, suc, ◌+◌, ◌*◌, ◌/◌, ◌%◌, ◌^◌, ◌<◌, ◌≤◌, List, [], ◌∷◌, ◌++◌, length, take, slice_range}
 use Rattle.std.specs.Int.{w32, w64, from_le_bytes}
 
 -- what a field holds; a group with all that it holds is one field, whose content is not read
@@ -54,19 +56,22 @@ pub data Item : Type 0 where
   Holds : WireField → Item
   Ends : ℕ → Item
 
+-- its field number
 abbrev pub number_of_item : Item → ℕ
 number_of_item (Holds field) = field.number
 number_of_item (Ends number) = number
 
+-- its wire type
 abbrev pub type_of_item : Item → ℕ
 type_of_item (Holds field) = type_of field.payload
 type_of_item (Ends number) = 4
 
+-- the bytes behind its tag
 abbrev pub IsItemPayload : Item → List ℕ → Type 0
 IsItemPayload (Holds field) bytes = IsPayload field.payload bytes
 IsItemPayload (Ends number) bytes = bytes ≡ []
 
--- the tag of an item is its number times 8 and its type
+-- its tag: the number times 8, and the type
 abbrev pub tag_of : Item → ℕ
 tag_of item = number_of_item item * 8 + type_of_item item
 
@@ -123,3 +128,18 @@ IsSpelling room field bytes = IsFieldWith (IsGroupWithin room) field.number fiel
 -- the bytes are a list of fields, with at most 64 groups open at once
 abbrev pub AreFields : List ℕ → List WireField → Type 0
 AreFields bytes fields = Concatenates (IsSpelling 64) fields bytes
+
+-- the bytes begin with a spelling of the field, and the rest stands behind it
+abbrev pub BeginsField : List ℕ → WireField → List ℕ → Type 0
+BeginsField bytes field rest = (spelling : List ℕ) × (bytes ≡ spelling ++ rest) × IsSpelling 64 field spelling
+
+-- the bytes from one place to the next are a spelling of the field
+pub record IsNext (bytes : List ℕ) (at next : ℕ) (field : WireField) : Type 0 where
+  pub spelled : IsSpelling 64 field (slice_range bytes at next)
+  pub further : at < next
+  pub within : next ≤ length bytes
+
+-- where the bytes up to one place are a list of fields, those up to the next are that list and the field
+abbrev pub Continues : List ℕ → ℕ → ℕ → WireField → Type 0
+Continues bytes at next field =
+    (fields : List WireField) → AreFields (take at bytes) fields → AreFields (take next bytes) (fields ++ field ∷ [])

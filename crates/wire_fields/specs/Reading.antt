@@ -1,10 +1,13 @@
--- Reading one item from the front of bytes: its value and the bytes behind it, or what is wrong with it.
-use Rattle.std.specs.Prelude.{◌≡◌, ℕ, zero, suc, ◌+◌, ◌*◌, ◌/◌, ◌%◌, ◌^◌, ◌&&◌, List, [], ◌∷◌, length, take, drop, Result, Ok, Err, nat_lt, nat_le, if◌then◌else◌}
+-- Reading from the front of bytes, as the private functions are told: a value and the bytes behind it, or what is wrong.
+-- No public contract cites it. Each of these is proved to be what the grammar says.
+use Rattle.std.specs.Prelude.{◌≡◌, ℕ, zero, suc, ◌+◌, ◌*◌, ◌/◌, ◌%◌, ◌^◌, ◌&&◌, List, [], ◌∷◌, ◌++◌, length, take, drop, Result, Ok, Err, nat_lt, nat_le, if◌then◌else◌}
 use Rattle.std.specs.Int.{Width, w32, w64, byte_len, from_le_bytes}
 use Rattle.gw_base.specs.declared.wire_kind.WireKind.{WireKind}
 use Rattle.gw_base.specs.declared.wire_kind.WireKind.TheVariants.{Truncated, LongVarint, BadTag, BadGroup, DeepGroup}
-use Rattle.wire_fields.specs.Grammar.{Payload, Varint, Fixed64, Bytes, Group, Fixed32, WireField, Item, Holds, Ends}
+use Rattle.wire_fields.specs.Grammar.{Payload, Varint, Fixed64, Bytes, Group, Fixed32, Item, Holds, Ends, IsItem, IsSpelling}
+use Rattle.wire_fields.specs.Breaks.{IsBreak}
 
+-- a step, and the next one where it didn't fail
 infixl 10 ◌>>=◌
 abbrev pub ◌>>=◌ : {A B : Type 0} → Result A WireKind → (A → Result B WireKind) → Result B WireKind
 (Ok x) >>= f = f x
@@ -19,6 +22,7 @@ chain_at (suc most) (byte ∷ bytes) =
     then Ok (byte % 128, bytes)
     else (chain_at most bytes >>= λ rest. Ok (byte % 128 + 128 * rest.0, rest.1))
 
+-- the number at the front, of which bits past 64 are dropped
 unfoldable pub varint_at : List ℕ → Result (ℕ × List ℕ) WireKind
 varint_at bytes = do
   chain ← chain_at 10 bytes
@@ -35,6 +39,7 @@ fixed_at w bytes =
     then Err Truncated
     else Ok (from_le_bytes w (take (byte_len w) bytes), drop (byte_len w) bytes)
 
+-- the item of a field
 abbrev pub holding : ℕ → Payload → Item
 holding number payload = Holds (record { number = number; payload = payload })
 
@@ -57,6 +62,7 @@ payload_at number (suc (suc (suc (suc (suc zero))))) bytes = do
   Ok (holding number (Fixed32 four.0), four.1)
 payload_at number (suc (suc (suc (suc (suc (suc type)))))) bytes = Err BadTag
 
+-- an item: a tag, and what its type says
 unfoldable pub item_at : List ℕ → Result (Item × List ℕ) WireKind
 item_at bytes = do
   tag ← varint_at bytes
@@ -66,6 +72,16 @@ item_at bytes = do
 abbrev pub kind_of_block : Item → WireKind
 kind_of_block (Holds field) = DeepGroup
 kind_of_block (Ends number) = BadGroup
+
+-- behind the start of a group of this number stand these bytes, and behind its end the rest
+abbrev pub EndsGroup : ℕ → List ℕ → List ℕ → Type 0
+EndsGroup number bytes rest =
+    (inside : List ℕ) × (bytes ≡ inside ++ rest)
+    × ((start : List ℕ) → IsItem (holding number Group) start → IsSpelling 64 (record { number = number; payload = Group }) (start ++ inside))
+
+-- behind the start of a group of this number the bytes break in this way
+abbrev pub BreaksInGroup : ℕ → List ℕ → WireKind → Type 0
+BreaksInGroup number bytes kind = (start : List ℕ) → IsItem (holding number Group) start → IsBreak (start ++ bytes) kind
 
 -- what a function returned, seen by view, is what reading gives
 abbrev pub Gives : {X Y : Type 0} → (X → Y) → Result X WireKind → Result Y WireKind → Type 0

@@ -26,7 +26,20 @@ impl<'a> Item<'a> {
 }
 
 /// The number at the front, of any spelling, with the bytes behind it (protobuf encoding, "Base 128 Varints").
-pub fn read_varint(bytes: &[u8]) -> Result<(u64, &[u8]), WireKind>
+#[tactic(auto, unfolding(crate::specs::Reading::varint_at, crate::specs::Reading::chain_at))]
+#[inline(always)]
+fn read_varint(bytes: &[u8]) -> Result<(u64, &[u8]), WireKind>
+    ensures { Gives (λ x. (x.0, x.1.now)) result (varint_at bytes.now) }
+{
+    match bytes {
+        [byte, rest @ ..] if *byte < 128 => Ok((u64::from(*byte), rest)),
+        _ => read_long_varint(bytes),
+    }
+}
+
+/// The same, byte by byte, of which there are ten at most.
+#[inline(never)]
+fn read_long_varint(bytes: &[u8]) -> Result<(u64, &[u8]), WireKind>
     ensures { Gives (λ x. (x.0, x.1.now)) result (varint_at bytes.now) }
 {
     let mut value = 0;

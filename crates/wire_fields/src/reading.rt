@@ -1,8 +1,8 @@
 //! The fields of a message, one after the other, as `specs/Grammar.antt` and `specs/Breaks.antt` define them.
-ghost use Rattle.std.specs.Prelude.{◌≡◌, ℕ, List, ◌++◌, ◌∷◌, [], ◌<◌, ◌≤◌, ◌↔◌, length, take, slice_range, Ok, None, IfOk, IfErr, IfSome, IsErr};
-ghost use Rattle.wire_fields.specs.Grammar.{WireField, Group, IsItem, IsSpelling, AreFields};
+ghost use Rattle.std.specs.Prelude.{◌≡◌, List, ◌≤◌, ◌↔◌, length, take, Ok, None, IfOk, IfErr, IfSome, IsErr};
+ghost use Rattle.wire_fields.specs.Grammar.{WireField, AreFields, BeginsField, IsNext, Continues};
 ghost use Rattle.wire_fields.specs.Breaks.{IsBreak, IsBroken};
-ghost use Rattle.wire_fields.specs.Reading.{holding};
+ghost use Rattle.wire_fields.specs.Reading.{EndsGroup, BreaksInGroup};
 ghost use Rattle.wire_fields.specs.Seen.{field_of};
 ghost use Rattle.gw_base.specs.declared.wire_kind.WireKind.{WireKind};
 
@@ -13,9 +13,8 @@ use gw_base::WireKind;
 
 /// The bytes behind the end of a group of this number, whose start stands before these bytes.
 fn skip_group(number: u32, bytes: &[u8]) -> Result<&[u8], WireKind>
-    ensures found { IfOk result (λ rest. (inside : List ℕ) × (bytes.now ≡ inside ++ rest.now)
-        × ((start : List ℕ) → IsItem (holding number Group) start → IsSpelling 64 (record { number = number; payload = Group }) (start ++ inside))) }
-    ensures fault { IfErr result (λ kind. (start : List ℕ) → IsItem (holding number Group) start → IsBreak (start ++ bytes.now) kind) }
+    ensures found { IfOk result (λ rest. EndsGroup number bytes.now rest.now) }
+    ensures fault { IfErr result (λ kind. BreaksInGroup number bytes.now kind) }
 {
     let mut open = OpenGroups::with_first(number);
     let mut rest = bytes;
@@ -29,7 +28,7 @@ fn skip_group(number: u32, bytes: &[u8]) -> Result<&[u8], WireKind>
 
 /// The field at the front, and the bytes behind it.
 fn first_field(bytes: &[u8]) -> Result<(Field<'_>, &[u8]), WireKind>
-    ensures found { IfOk result (λ x. (spelling : List ℕ) × (bytes.now ≡ spelling ++ x.1.now) × IsSpelling 64 (field_of x.0) spelling) }
+    ensures found { IfOk result (λ x. BeginsField bytes.now (field_of x.0) x.1.now) }
     ensures fault { IfErr result (λ kind. IsBreak bytes.now kind) }
 {
     let (item, rest) = read_item(bytes)?;
@@ -48,10 +47,8 @@ pub fn next_field<'a>(bytes: &'a [u8], at: usize) -> Result<Option<(Field<'a>, u
     requires place { at ≤ length bytes.now }
     requires front { (fields : List WireField) × AreFields (take at bytes.now) fields }
     ensures end { (result ≡ Ok None) ↔ (at ≡ length bytes.now) }
-    ensures field { IfOk result (λ found. IfSome found (λ x. IsSpelling 64 (field_of x.0) (slice_range bytes.now at x.1))) }
-    ensures on { IfOk result (λ found. IfSome found (λ x. (at < x.1) × (x.1 ≤ length bytes.now))) }
-    ensures fields { IfOk result (λ found. IfSome found (λ x. (fields : List WireField) →
-        AreFields (take at bytes.now) fields → AreFields (take x.1 bytes.now) (fields ++ field_of x.0 ∷ []))) }
+    ensures field { IfOk result (λ found. IfSome found (λ x. IsNext bytes.now at x.1 (field_of x.0))) }
+    ensures fields { IfOk result (λ found. IfSome found (λ x. Continues bytes.now at x.1 (field_of x.0))) }
     ensures broken { IfErr result (λ fault. (fault.at ≡ at) × IsBroken bytes.now at fault.kind) }
     ensures only_broken { (kind : WireKind) → IsBroken bytes.now at kind → IsErr result }
 {

@@ -1,5 +1,4 @@
 use Rattle.std.proofs.Common.{◌≡◌, length, take, map, Ok, ap, arith}
-use Rattle.std.proofs.lemmas.Result.{err_from_is_err_and}
 use Rattle.std.proofs.lemmas.List.{take_all}
 use Rattle.wire_fields.specs.Grammar.{AreFields}
 use Rattle.wire_fields.specs.Seen.{field_of}

@@ -1,11 +1,11 @@
-use Rattle.std.proofs.Common.{sym, ap, subst, ◌≡◌, ◌∙◌, Result, Ok}
+use Rattle.std.proofs.Common.{sym, ap, subst, ◌∙◌, Ok}
 use Rattle.std.proofs.lemmas.Result.{err_from_is_err_and}
 use Rattle.wire_fields.specs.declared.field.Value.{Value}
 use Rattle.wire_fields.specs.declared.item.Item.{Item}
-use Rattle.wire_fields.specs.Grammar as grammar
-use Rattle.wire_fields.specs.Reading.{holding, item_at}
+use Rattle.wire_fields.specs.Grammar.{BeginsField}
+use Rattle.wire_fields.specs.Reading.{holding}
 use Rattle.wire_fields.specs.Seen.{payload_of, item_of, field_of}
-use Rattle.wire_fields.proofs.Fronts.{BeginsField, is_group, first_fault, first_end, first_whole, first_group, first_group_fault}
+use Rattle.wire_fields.proofs.Fronts.{is_group, first_fault, first_end, first_whole, first_group, first_group_fault}
 use Rattle.wire_fields.proofs.reading.first_field.Goals as goal
 
 pub returns-in_err-item-clause-fault : goal.returns-in_err-item-clause-fault

@@ -1,17 +1,14 @@
 use Rattle.std.proofs.Common.{refl}
 use Rattle.std.proofs.lemmas.List.{take_rest}
 use Rattle.wire_fields.specs.Seen.{field_of}
-use Rattle.wire_fields.proofs.Fronts.{next_place, next_spelling, next_fields, next_broken, next_not_broken, end_not_broken}
+use Rattle.wire_fields.proofs.Fronts.{next_is, next_continues, next_broken, next_not_broken}
 use Rattle.wire_fields.proofs.reading.next_field.Goals as goal
 
 pub returns-in-Ok-clause-field : goal.returns-in-Ok-clause-field
-returns-in-Ok-clause-field c = next_spelling c.args.bytes.now c.in-Ok.rest.now c.args.at (field_of c.in-Ok.field) c.requires.place (rw take_rest at c.in-Ok.ensures.found)
-
-pub returns-in-Ok-clause-on : goal.returns-in-Ok-clause-on
-returns-in-Ok-clause-on c = next_place c.args.bytes.now c.in-Ok.rest.now c.args.at (field_of c.in-Ok.field) c.requires.place (rw take_rest at c.in-Ok.ensures.found)
+returns-in-Ok-clause-field c = next_is c.args.bytes.now c.in-Ok.rest.now c.args.at (field_of c.in-Ok.field) c.requires.place (rw take_rest at c.in-Ok.ensures.found)
 
 pub returns-in-Ok-clause-fields : goal.returns-in-Ok-clause-fields
-returns-in-Ok-clause-fields c = λ fields h. next_fields c.args.bytes.now c.in-Ok.rest.now c.args.at (field_of c.in-Ok.field) fields c.requires.place (rw take_rest at c.in-Ok.ensures.found) h
+returns-in-Ok-clause-fields c = next_continues c.args.bytes.now c.in-Ok.rest.now c.args.at (field_of c.in-Ok.field) c.requires.place (rw take_rest at c.in-Ok.ensures.found)
 
 pub returns-in-Ok-clause-only_broken : goal.returns-in-Ok-clause-only_broken
 returns-in-Ok-clause-only_broken c = λ kind h. absurd (next_not_broken c.args.bytes.now c.in-Ok.rest.now c.args.at (field_of c.in-Ok.field) kind (rw take_rest at c.in-Ok.ensures.found) h)

@@ -1,7 +1,7 @@
-use Rattle.std.proofs.Common.{◌≡◌, ◌+◌, ◌-◌, ◌<◌, ◌%◌, length, get_or, take, drop, Ok, refl, sym, ap, ◌∙◌, arith}
+use Rattle.std.proofs.Common.{get_or, refl, arith}
 use Rattle.std.proofs.lemmas.List.{take_rest}
 use Rattle.wire_fields.proofs.Scans.{scan_none, scan_more, scan_last, scan_cut, scan_long}
-use Rattle.wire_fields.proofs.item.read_varint.Goals as goal
+use Rattle.wire_fields.proofs.item.read_long_varint.Goals as goal
 
 pub loop-i-init : goal.loop-i-init
 loop-i-init c = scan_none c.args.bytes.now
