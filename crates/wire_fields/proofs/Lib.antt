@@ -1,1 +1,12 @@
 pub mod Varints
+pub mod Numbers
+pub mod Items
+pub mod Lists
+pub mod Spellings
+pub mod Scans
+pub mod Walks
+pub mod Broken
+pub mod Skips
+pub mod Fronts
+pub mod Existence
+pub mod Written

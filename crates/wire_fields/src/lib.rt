@@ -1,10 +1,24 @@
 //! The wire grammar of protobuf: the fields of a message, written and read.
-//! What is written meets `specs/Spelling.antt`.
+//! What is written meets `specs/Spelling.antt`, and what is read `specs/Grammar.antt` and `specs/Breaks.antt`.
 #![tactic(auto)]
 
+mod fault;
+mod field;
+mod groups;
+mod item;
+mod laws;
+mod listing;
+mod reading;
 mod varint;
 mod writing;
 
+pub use fault::ListFault;
+pub use field::{Field, Value, WireFault};
+pub use laws::{
+    fields_are_one, fields_join, fields_or_a_break, the_break_is_one, written_fields_are_spellings,
+};
+pub use listing::list_fields;
+pub use reading::next_field;
 pub use varint::{Varint, spell_varint, varint_len};
 pub use writing::{put_field_bytes, put_field_varint, put_varint};
 
