@@ -26,7 +26,9 @@ pub(crate) fn read_trips(alloc: Global, bytes: &[u8]) -> Result<Option<Ids>, All
         if ids.len() == MAX_TRIPS {
             return Ok(None);
         }
-        if !ids.add(alloc, rows.field(place))? {
+        let id = rows.field(place);
+        let added = ids.add(alloc, id)?;
+        if !added {
             return Ok(None);
         }
     }
