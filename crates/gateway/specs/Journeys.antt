@@ -75,9 +75,9 @@ dated setting journey (Some trip) =
 abbrev pub verdict : Setting → Data → Result Cancelled Aside
 verdict setting item = judged (spelt item)
   where
-  judged : Option Spelt → Result Cancelled Aside
-  judged None = Err NotYet
-  judged (Some journey) = dated setting journey (position (bytes_eq journey.trip_id) setting.trips)
+    judged : Option Spelt → Result Cancelled Aside
+    judged None = Err NotYet
+    judged (Some journey) = dated setting journey (position (bytes_eq journey.trip_id) setting.trips)
 
 -- two records of one trip on one day
 abbrev pub same_journey : Cancelled → Cancelled → Bool
