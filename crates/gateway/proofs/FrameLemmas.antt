@@ -1,5 +1,5 @@
 -- The items of arrays as lists, and the items below trees, joined one tree after the other.
-use Rattle.std.proofs.Common.{◌≡◌, ◌∙◌, ◌<◌, ◌≤◌, ◌+◌, ℕ, not, ◌||◌, ◌&&◌, ◌++◌, ◌∷◌, [], List, Bool, true, false, map, drop, length, get_or, Some, None, Option, option_map, option_and_then, if◌then◌else◌, refl, sym, ap, arith}
+use Rattle.std.proofs.Common.{◌≡◌, ◌∙◌, ◌<◌, ◌≤◌, ◌+◌, ℕ, not, ◌||◌, ◌++◌, ◌∷◌, [], List, Bool, true, false, map, drop, length, get_or, Some, None, Option, option_map, option_and_then, if◌then◌else◌, refl, sym, ap}
 use Rattle.std.proofs.lemmas.List.{append-nil, append_assoc, drop_all, drop_more}
 use Rattle.std.proofs.lemmas.Option.{none-some, same_Some}
 use Rattle.std.proofs.lemmas.Str.{is_utf8-from_IsUtf8, IsUtf8-from_is_utf8}

@@ -3,7 +3,6 @@ use Rattle.std.proofs.Common.{◌≡◌, ◌∙◌, ◌<◌, ◌≤◌, ◌+◌,
 use Rattle.std.proofs.lemmas.Bool.{eqb-true, false≢true}
 use Rattle.std.specs.Cmp.{signed_Decides}
 use Rattle.std.specs.Ordering.{int_eq}
-use Rattle.std.proofs.lemmas.Bool.Decides.{nat_tests}
 use Rattle.std.proofs.lemmas.Int.{ints}
 use Rattle.std.proofs.lemmas.List.{append-nil, append_assoc, map-append, drop_all, drop_more, take_more}
 use Rattle.std.proofs.lemmas.List.Folds.{list_any-append}
@@ -13,7 +12,6 @@ use denote.Ref.{Bor}
 use Rattle.indexmap.specs.IndexSet.{insert_key}
 use Rattle.serde_json.specs.View.{view}
 use Rattle.serde_json.specs.declared.value.Value.{Value}
-use Rattle.std.specs.Prelude.{int_le}
 use Rattle.gw_base.specs.Moments.{IsMoment}
 use Rattle.service_day.specs.Days.{date_number}
 use Rattle.service_day.specs.Digits.{has_form, two_at, four_at}

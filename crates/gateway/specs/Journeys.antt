@@ -1,5 +1,5 @@
 -- What the journeys of a delivery say, and which are taken (SIRI 2.0, EstimatedVehicleJourney).
-use Rattle.std.specs.Prelude.{◌&&◌, ◌+◌, ◌==◌, ℕ, suc, Bool, true, false, not, ℤ, pos, ◌+ℤ◌, int_le, int_lt, List, [], ◌∷◌, ◌++◌, map, length, position, codes, Option, Some, None, option_map, option_and_then, unwrap_or, is_some, Result, Ok, Err, if◌then◌else◌}
+use Rattle.std.specs.Prelude.{◌&&◌, ◌+◌, ◌==◌, ℕ, Bool, false, not, ℤ, pos, ◌+ℤ◌, int_le, int_lt, List, [], ◌∷◌, ◌++◌, length, position, codes, Option, Some, None, option_and_then, unwrap_or, is_some, Result, Ok, Err, if◌then◌else◌}
 use Rattle.std.specs.List.{list_any, filter_map}
 use Rattle.std.specs.Ordering.{int_eq}
 use Rattle.std.specs.Result.{result_ok}

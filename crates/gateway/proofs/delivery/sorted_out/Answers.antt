@@ -1,4 +1,4 @@
-use Rattle.std.proofs.Common.{◌≡◌, ◌∙◌, ap, sym, take, length}
+use Rattle.std.proofs.Common.{◌∙◌, ap, sym, take, length}
 use Rattle.gateway.specs.Items.{setting_of}
 use Rattle.gateway.proofs.JourneyLemmas.{judged_of, sorted_taken, sorted_aside, trip_taken}
 use Rattle.gateway.proofs.delivery.sorted_out.Goals as goal

@@ -1,4 +1,4 @@
-use Rattle.std.proofs.Common.{◌≡◌, ◌∙◌, Some, ap, sym}
+use Rattle.std.proofs.Common.{◌∙◌, Some, ap, sym}
 use Rattle.serde_json.specs.View.{items_view}
 use Rattle.gateway.proofs.FrameLemmas.{not_object, all_found}
 use Rattle.gateway.proofs.frame.add_items.Goals as goal

@@ -1,4 +1,4 @@
-use Rattle.std.proofs.Common.{◌≡◌, ◌∙◌, Some, ap, sym}
+use Rattle.std.proofs.Common.{◌∙◌, Some, ap, sym}
 use Rattle.gateway.proofs.FrameLemmas.{trees_at, below_step, found_under, found_none}
 use Rattle.gateway.proofs.frame.below.Goals as goal
 use Rattle.gateway.proofs.frame.below.Goals.{in-Some+in_ok-add_items, in_default}
