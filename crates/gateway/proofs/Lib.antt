@@ -1,2 +1,4 @@
+mod FrameLemmas
+mod JourneyLemmas
 pub mod SinkLemmas
 mod WordLemmas

@@ -24,9 +24,9 @@ items_of objects tree =
 abbrev pub items_under : Bool → List ℕ → Data → Option (List Data)
 items_under objects name parent = items_at (get name parent)
   where
-  items_at : Option Data → Option (List Data)
-  items_at None = Some []
-  items_at (Some tree) = items_of objects tree
+    items_at : Option Data → Option (List Data)
+    items_at None = Some []
+    items_at (Some tree) = items_of objects tree
 
 -- all lists joined, where each is there
 abbrev pub joined : List (Option (List Data)) → Option (List Data)

@@ -1,5 +1,5 @@
 -- What the journeys of a delivery say, and which are taken (SIRI 2.0, EstimatedVehicleJourney).
-use Rattle.std.specs.Prelude.{◌&&◌, ◌+◌, ◌==◌, ℕ, suc, Bool, true, false, not, ℤ, pos, ◌+ℤ◌, int_le, int_lt, List, [], ◌∷◌, ◌++◌, map, length, position, codes, Option, Some, None, option_map, option_and_then, unwrap_or, is_some, Result, Ok, Err, if◌then◌else◌}
+use Rattle.std.specs.Prelude.{◌&&◌, ◌+◌, ◌==◌, ℕ, Bool, false, not, ℤ, pos, ◌+ℤ◌, int_le, int_lt, List, [], ◌∷◌, ◌++◌, length, position, codes, Option, Some, None, option_and_then, unwrap_or, is_some, Result, Ok, Err, if◌then◌else◌}
 use Rattle.std.specs.List.{list_any, filter_map}
 use Rattle.std.specs.Ordering.{int_eq}
 use Rattle.std.specs.Result.{result_ok}
@@ -75,9 +75,9 @@ dated setting journey (Some trip) =
 abbrev pub verdict : Setting → Data → Result Cancelled Aside
 verdict setting item = judged (spelt item)
   where
-  judged : Option Spelt → Result Cancelled Aside
-  judged None = Err NotYet
-  judged (Some journey) = dated setting journey (position (bytes_eq journey.trip_id) setting.trips)
+    judged : Option Spelt → Result Cancelled Aside
+    judged None = Err NotYet
+    judged (Some journey) = dated setting journey (position (bytes_eq journey.trip_id) setting.trips)
 
 -- two records of one trip on one day
 abbrev pub same_journey : Cancelled → Cancelled → Bool

@@ -1,8 +1,10 @@
 //! A delivery of estimated timetables: which of its journeys are taken, and which are set aside.
-ghost use Rattle.std.specs.Prelude.{◌≡◌, ◌<◌, None, length, IfOk, IfSome, IsSome, IsErrOf};
+ghost use Rattle.std.specs.Prelude.{◌≡◌, ◌<◌, ◌++◌, ◌∷◌, [], None, List, Result, map, length, IfOk, OnOk, IfSome, IsSome, IsErrOf};
 ghost use Rattle.std.specs.List.{AllByRecursion};
+ghost use Rattle.serde_json.specs.View.{view};
 ghost use Rattle.gateway.specs.Frame.{journeys_of};
-ghost use Rattle.gateway.specs.Items.{setting_of, Sorts};
+ghost use Rattle.gateway.specs.Journeys.{behind};
+ghost use Rattle.gateway.specs.Items.{setting_of, Saw, Sorts};
 
 use crate::frame::{FrameFault, journeys};
 use crate::item::{Aside, Cancelled, Window, verdict};
@@ -51,26 +53,43 @@ pub struct Delivery {
     pub aside: Vec<(u64, Aside)>,
 }
 
-// The items of a delivery, each taken or set aside. Of items for one journey of one day the first is taken.
+// An item's verdict behind those before, whose journeys were seen. Of items for one journey of one day the
+// first counts.
+fn counted(
+    seen: &mut IndexSet<(i32, u32)>,
+    judged: Result<Cancelled, Aside>,
+) -> Result<Result<Cancelled, Aside>, AllocError>
+    ensures value { (earlier : List (Result Cancelled Aside)) → Saw seen.old.keys earlier → IfOk result (λ counted. counted ≡ behind earlier judged) }
+    ensures saw { (earlier : List (Result Cancelled Aside)) → Saw seen.old.keys earlier → OnOk result (Saw seen.new.keys (earlier ++ judged ∷ [])) }
+{
+    let journey = match judged {
+        Ok(journey) => journey,
+        Err(why) => return Ok(Err(why)),
+    };
+    let (_, is_new) = seen.insert_full((journey.day.number(), journey.trip.0))?;
+    Ok(if is_new {
+        Ok(journey)
+    } else {
+        Err(Aside::NotYet)
+    })
+}
+
+// The items of a delivery, each taken or set aside.
 fn sorted_out(
     alloc: Global,
     items: &[&Value],
     table: &Timetable,
     window: &Window,
-) -> Result<Delivery, AllocError> {
+) -> Result<Delivery, AllocError>
+    ensures sorted { IfOk result (λ delivery. Sorts (setting_of table.now window.now) delivery (map (λ item. view item.now) items.now)) }
+    ensures trips { IfOk result (λ delivery. AllByRecursion (λ journey. journey.trip.0 < length table.now.trips) delivery.taken.items) }
+{
     let mut seen = IndexSet::new(alloc);
     let mut taken = Vec::new(alloc);
     let mut aside = Vec::new(alloc);
     for (number, item) in items.iter().enumerate() {
-        match verdict(item, table, window) {
-            Ok(journey) => {
-                let (_, is_new) = seen.insert_full((journey.day.number(), journey.trip.0))?;
-                if is_new {
-                    taken.push(journey)?;
-                } else {
-                    aside.push((number as u64, Aside::NotYet))?;
-                }
-            }
+        match counted(&mut seen, verdict(item, table, window))? {
+            Ok(journey) => taken.push(journey)?,
             Err(why) => aside.push((number as u64, why))?,
         }
     }

@@ -1,8 +1,8 @@
 //! The plain frame of an estimated timetable: the way down from the root of a delivery to its journeys
 //! (SIRI 2.0, ServiceDelivery to EstimatedVehicleJourney; in JSON after SIRI Lite).
-ghost use Rattle.std.specs.Prelude.{◌≡◌, Some, None, map, IfOk, IsErrOf};
+ghost use Rattle.std.specs.Prelude.{◌≡◌, ◌++◌, Some, None, map, option_map, IfOk, IsErrOf};
 ghost use Rattle.serde_json.specs.View.{view};
-ghost use Rattle.gateway.specs.Frame.{journeys_in};
+ghost use Rattle.gateway.specs.Frame.{items_of, below as items_below, journeys_in};
 
 use serde_json::Value;
 use std::alloc::{AllocError, AllocFailed, Global};
@@ -39,7 +39,14 @@ impl<T: Drop> From<AllocFailed<T>> for FrameFault {
 }
 
 // The items of an array, behind those before. Where they must be objects, each is one.
-fn add_items<'a>(found: &mut Vec<&'a Value>, array: &'a Value, objects: bool) -> Result<(), FrameFault> {
+fn add_items<'a>(
+    found: &mut Vec<&'a Value>,
+    array: &'a Value,
+    objects: bool,
+) -> Result<(), FrameFault>
+    ensures found { IfOk result (λ _. option_map (λ items. map (λ item. view item.now) found.old.items ++ items) (items_of objects (view array.now)) ≡ Some (map (λ item. view item.now) found.new.items)) }
+    ensures fault { IsErrOf result FrameFault.NotFrame → items_of objects (view array.now) ≡ None }
+{
     let Some(items) = array.as_array() else {
         return Err(FrameFault::NotFrame);
     };
@@ -58,7 +65,10 @@ fn below<'a>(
     parents: &[&'a Value],
     name: &str,
     objects: bool,
-) -> Result<Vec<&'a Value>, FrameFault> {
+) -> Result<Vec<&'a Value>, FrameFault>
+    ensures found { IfOk result (λ found. items_below objects name.now (map (λ parent. view parent.now) parents.now) ≡ Some (map (λ item. view item.now) found.items)) }
+    ensures fault { IsErrOf result FrameFault.NotFrame → items_below objects name.now (map (λ parent. view parent.now) parents.now) ≡ None }
+{
     let mut found = Vec::new(alloc);
     for parent in parents {
         if let Some(array) = parent.get(name) {
@@ -84,6 +94,11 @@ pub fn journeys(alloc: Global, root: &Value) -> Result<Vec<&Value>, FrameFault>
     };
     let mut found = Vec::new(alloc);
     add_items(&mut found, deliveries, true)?;
-    let frames = below(alloc, found.as_slice(), "EstimatedJourneyVersionFrame", true)?;
+    let frames = below(
+        alloc,
+        found.as_slice(),
+        "EstimatedJourneyVersionFrame",
+        true,
+    )?;
     below(alloc, frames.as_slice(), "EstimatedVehicleJourney", false)
 }

@@ -1,7 +1,7 @@
 //! What one journey of a delivery says, and why it is set aside.
-ghost use Rattle.std.specs.Prelude.{◌≡◌, ◌<◌, length, IfOk, option_map};
+ghost use Rattle.std.specs.Prelude.{◌≡◌, ◌<◌, [], length, IfOk, option_map};
 ghost use Rattle.serde_json.specs.View.{view};
-ghost use Rattle.gateway.specs.Journeys.{in_window, spelt, verdict};
+ghost use Rattle.gateway.specs.Journeys.{in_window, is_cancelled as cancelled, text_under, recorded_at as recorded_of, day_at as day_of_item, trip_at as trip_of, spelt, verdict};
 ghost use Rattle.gateway.specs.Items.{setting_of, spelt_of};
 
 use gw_base::Moment;
@@ -42,7 +42,9 @@ pub struct Window {
 
 impl Window {
     /// Whether a day is one of them.
-    pub fn contains(&self, day: Day) -> bool {
+    pub fn contains(&self, day: Day) -> bool
+        ensures { result ≡ in_window (record { trips = []; from = self.now.first; days = self.now.days }) day }
+    {
         let first = self.first.number();
         first <= day.number() && day.number() - first < i32::from(self.days)
     }
@@ -57,22 +59,54 @@ struct Spelling<'a> {
 }
 
 // The text under a name.
-fn text_at<'a>(item: &'a Value, name: &str) -> Option<&'a str> {
-    item.get(name)?.as_str()
+fn text_at<'a>(tree: &'a Value, name: &str) -> Option<&'a str>
+    ensures { option_map (λ text. text.now) result ≡ text_under name.now (view tree.now) }
+{
+    tree.get(name)?.as_str()
+}
+
+// When an item was recorded.
+fn recorded_at(item: &Value) -> Option<Moment>
+    ensures { result ≡ recorded_of (view item.now) }
+{
+    let secs = read_utc(text_at(item, "RecordedAtTime")?)?;
+    Moment::new(secs)
+}
+
+// The day of the journey that an item refers to.
+fn day_at(item: &Value) -> Option<Day>
+    ensures { result ≡ day_of_item (view item.now) }
+{
+    let reference = item.get("FramedVehicleJourneyRef")?;
+    read_day(text_at(reference, "DataFrameRef")?, DayForm::Dashed)
+}
+
+// The id of the trip that an item refers to, which isn't empty.
+fn trip_at(item: &Value) -> Option<&str>
+    ensures { option_map (λ id. id.now) result ≡ trip_of (view item.now) }
+{
+    let reference = item.get("FramedVehicleJourneyRef")?;
+    let id = text_at(reference, "DatedVehicleJourneyRef")?;
+    if id.is_empty() { None } else { Some(id) }
+}
+
+// Whether the journey is cancelled.
+fn is_cancelled(item: &Value) -> bool
+    ensures { result ≡ cancelled (view item.now) }
+{
+    item.get("Cancellation")
+        .and_then(Value::as_bool)
+        .unwrap_or(false)
 }
 
 // A cancelled journey in the plain form (SIRI 2.0, EstimatedVehicleJourney with Cancellation).
 fn spelled(item: &Value) -> Option<Spelling<'_>>
     ensures { option_map spelt_of result ≡ spelt (view item.now) }
 {
-    let recorded = Moment::new(read_utc(text_at(item, "RecordedAtTime")?)?)?;
-    let reference = item.get("FramedVehicleJourneyRef")?;
-    let day = read_day(text_at(reference, "DataFrameRef")?, DayForm::Dashed)?;
-    let trip_id = text_at(reference, "DatedVehicleJourneyRef")?;
-    if trip_id.is_empty() || item.get("ExtraJourney").is_some() {
-        return None;
-    }
-    if item.get("Cancellation")?.as_bool()? {
+    let recorded = recorded_at(item)?;
+    let day = day_at(item)?;
+    let trip_id = trip_at(item)?;
+    if is_cancelled(item) && item.get("ExtraJourney").is_none() {
         Some(Spelling {
             recorded,
             day,
