@@ -1,4 +1,5 @@
 mod FrameLemmas
 mod JourneyLemmas
-pub mod SinkLemmas
+mod OutcomeLemmas
+mod SinkLemmas
 mod WordLemmas

@@ -30,12 +30,14 @@ pub puts_more : (P : Type 0) (before mid now : Option (List ℕ)) (first second 
     mid ≡ with_bytes before first → PutsUnless P mid now second → PutsUnless P before now (first ++ second)
 puts_more P before mid now first second whole puts =
     let both : length (first ++ second) ≡ length first + length second = length-append first second in
-    let bound : puts.0 ≤ length second = puts.1 in
-    (length first + puts.0, omega arith,
+    let bound : puts.0 ≤ length second = puts.1 in (
+      length first + puts.0,
+      omega arith,
       puts.2 ∙ ap (λ told. with_bytes told (take puts.0 second)) whole
-      ∙ with_bytes-with_bytes before first (take puts.0 second)
-      ∙ ap (with_bytes before) (sym (take-append-add first second puts.0)),
-      λ lt. puts.3 (omega arith))
+          ∙ with_bytes-with_bytes before first (take puts.0 second)
+          ∙ ap (with_bytes before) (sym (take-append-add first second puts.0)),
+      λ lt. puts.3 (omega arith),
+    )
 
 -- the first of two texts failed
 pub puts_front : (P : Type 0) (before now : Option (List ℕ)) (first second : List ℕ) →

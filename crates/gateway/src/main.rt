@@ -15,9 +15,8 @@ mod words;
 use devices::{DirFiles, StdSink};
 use gw_base::{NoClock, NoDoor, Text};
 use std::alloc::Global;
-use std::env;
-use std::io;
 use std::process::ExitCode;
+use std::{env, io};
 
 const USAGE: &str = "\
 usage: gateway to-gtfsrt --gtfs DIR --zone-rule RULE --from YYYY-MM-DD --days N --at YYYY-MM-DDThh:mm:ssZ --et FILE

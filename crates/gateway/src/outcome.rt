@@ -67,6 +67,7 @@ fn of_body<'a>(
 ) -> Result<Done, Stop<'a>>
     ensures told { Gives result (OfBody (task_in conversion.now) table.now body.now) }
     ensures calm { result ≢ Err Stop.Failed }
+    ensures words { (at : ℕ) → result ≢ Err (Stop.BadWord at) }
 {
     let delivery = match read_delivery(alloc, body, table, &conversion.window) {
         Ok(delivery) => delivery,
@@ -90,6 +91,7 @@ fn of_file<'a, F: Files>(
     table: &Timetable,
 ) -> Result<Done, Stop<'a>>
     ensures told { IfSome (F.told files.old) (λ told. Gives result (OfFile (task_in conversion.now) table.now (bytes_of told conversion.now.file.now))) }
+    ensures words { (at : ℕ) → result ≢ Err (Stop.BadWord at) }
     ensures cause { IsErrOf result Stop.Failed → Rose (F.faults files.old) (F.faults files.new) }
     ensures never_falls { F.faults files.old ≤ F.faults files.new }
 {
@@ -110,6 +112,7 @@ fn converted<'a, F: Files>(
     conversion: &Conversion<'a>,
 ) -> Result<Done, Stop<'a>>
     ensures told { IfSome (F.told files.old) (λ told. Gives result (OfTask (task_in conversion.now) told)) }
+    ensures words { (at : ℕ) → result ≢ Err (Stop.BadWord at) }
     ensures cause { IsErrOf result Stop.Failed → Rose (F.faults files.old) (F.faults files.new) }
     ensures never_falls { F.faults files.old ≤ F.faults files.new }
 {
@@ -130,6 +133,7 @@ fn carried_out<'a, F: Files>(
 ) -> Result<Done, Stop<'a>>
     requires { length (command_of work.now).more ≡ 2 }
     ensures told { IfSome (F.told files.old) (λ told. Gives result (OfCommand (command_of work.now) told)) }
+    ensures words { (at : ℕ) → result ≢ Err (Stop.BadWord at) }
     ensures cause { IsErrOf result Stop.Failed → Rose (F.faults files.old) (F.faults files.new) }
     ensures never_falls { F.faults files.old ≤ F.faults files.new }
 {

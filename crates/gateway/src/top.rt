@@ -77,6 +77,7 @@ fn put_four<S: Sink>(
 // Writes the text of a stop as a line. Takes no memory.
 fn put_stop<E: Sink>(err: &mut E, stop: &Stop) -> Result<(), Failed>
     ensures front { PutsUnless (Rose (E.faults err.old) (E.faults err.new)) (E.told err.old) (E.told err.new) (stop_outcome stop.now).err }
+    ensures never_falls { E.faults err.old ≤ E.faults err.new }
 {
     match stop {
         Stop::BadWord(at) => {
@@ -115,6 +116,7 @@ fn status(stop: &Stop) -> u8
 fn stopped<E: Sink>(err: &mut E, stop: &Stop) -> u8
     ensures status { result ≡ (stop_outcome stop.now).status }
     ensures front { PutsUnless (Rose (E.faults err.old) (E.faults err.new)) (E.told err.old) (E.told err.new) (stop_outcome stop.now).err }
+    ensures never_falls { E.faults err.old ≤ E.faults err.new }
 {
     let _ = put_stop(err, stop);
     status(stop)

@@ -91,7 +91,9 @@ impl Door for NoDoor {
         Err(Failed)
     }
 
-    fn finish(&mut self, _mark: Mark, _moment: Option<Moment>) {
+    fn finish(&mut self, _mark: Mark, _moment: Option<Moment>)
+        ensures counts { self.new ≡ counted self.old }
+    {
         self.faults = self.faults.saturating_add(1);
     }
 }

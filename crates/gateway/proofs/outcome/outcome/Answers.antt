@@ -1,20 +1,15 @@
-use Rattle.std.proofs.Common.{rules, ◌≡◌, ◌≢◌, ◌≤◌, ℕ, length, Err, IfSome, IfErr, IsErrOf, ◌+◌, ◌-◌, ◌*◌, ◌<◌, ◌/◌, ◌%◌, Bool, true, false, nat_eq, nat_lt, List, [], ◌∷◌, ◌++◌, slice_index_or, slice_set, bit_and, bit_or, Fits, w8, w32, w64, Bor, MutBor}
-use Rattle.gw_base.specs.Count.{Rose}
-use Rattle.gw_base.specs.Directory.{bytes_of}
-use Rattle.gateway.specs.Outcomes.{OfFile, OfBody, OfTask, OfCommand, IsOutcome}
+-- Accepted words aren't refused, and refused words are so at one word.
+use Rattle.std.proofs.Common.{Err, ap}
 use Rattle.gateway.specs.Works.{command_of}
-use Rattle.gateway.specs.Stops.{Gives, task_in}
-use Rattle.gateway.specs.Words.{IsRefusedAt}
+use Rattle.gateway.specs.declared.outcome.Stop.TheVariants.{BadWord}
+use Rattle.gateway.proofs.OutcomeLemmas.{no_bad_word, refused_at_one}
 use Rattle.gateway.proofs.outcome.outcome.Goals as goal
 
--- src/outcome.rt:160:1
 pub returns-in-Ok-clause-bad_words : goal.returns-in-Ok-clause-bad_words
-returns-in-Ok-clause-bad_words g c = ?
+returns-in-Ok-clause-bad_words g c = λ at refused. absurd (refused.none (command_of c.in-Ok.work) c.in-Ok.ensures.accepted)
 
--- src/outcome.rt:160:1
 pub returns-in-Ok-clause-only_bad : goal.returns-in-Ok-clause-only_bad
-returns-in-Ok-clause-only_bad g c = ?
+returns-in-Ok-clause-only_bad g c = no_bad_word _ c.carried_out.result c.carried_out.ensures.words
 
--- src/outcome.rt:160:1
 pub returns-in-Err-clause-bad_words : goal.returns-in-Err-clause-bad_words
-returns-in-Err-clause-bad_words g c = ?
+returns-in-Err-clause-bad_words g c = λ at refused. ap (λ n. Err (BadWord n)) (refused_at_one c.args.words.now c.in-Err.bad.at at c.in-Err.ensures.refused refused)

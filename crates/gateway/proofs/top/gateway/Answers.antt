@@ -1,24 +1,26 @@
-use Rattle.std.proofs.Common.{rules, ◌≡◌, ◌≤◌, ◌⊎◌, ◌++◌, ℕ, false, length, take, codes, IfSome, OnOk, OnErr, ◌+◌, ◌-◌, ◌*◌, ◌<◌, ◌/◌, ◌%◌, Bool, true, nat_eq, nat_lt, List, [], ◌∷◌, slice_index_or, slice_set, bit_and, bit_or, Fits, w8, w32, w64, Bor, MutBor}
-use Rattle.gw_base.specs.Count.{Rose}
-use Rattle.gw_base.specs.Told.{with_bytes}
-use Rattle.gateway.specs.Outcomes.{PutsUnless, bad_words, refused}
-use Rattle.gateway.specs.Endings.{EndsDone, EndsRefused, EndsEarly, IsStatus, streams}
+-- Refused words end in status 2, and a device that failed raised its count.
+use Rattle.std.proofs.Common.{◌≡◌, Err, Ok, ap, sym, ◌∙◌, inl, inr}
 use Rattle.gateway.specs.Stops.{stop_outcome}
-use Rattle.gateway.specs.Words.{IsRefusedAt}
+use Rattle.gateway.specs.declared.outcome.Stop.{Stop}
+use Rattle.gateway.specs.declared.outcome.Stop.TheVariants.{BadWord}
+use Rattle.gateway.proofs.SinkLemmas.{rose-before}
 use Rattle.gateway.proofs.top.gateway.Goals as goal
 
--- src/top.rt:171:1
 pub returns-in-Ok-written-clause-bad_words : goal.returns-in-Ok-written-clause-bad_words
-returns-in-Ok-written-clause-bad_words g c = ?
+returns-in-Ok-written-clause-bad_words g c = λ at refused. let e = c.outcome.ensures.bad_words at refused in absurd (cc)
 
--- src/top.rt:171:1
 pub returns-in-Ok-clause-bad_words : goal.returns-in-Ok-clause-bad_words
-returns-in-Ok-clause-bad_words g c = ?
+returns-in-Ok-clause-bad_words g c = λ at refused. let e = c.outcome.ensures.bad_words at refused in absurd (cc)
 
--- src/top.rt:171:1
 pub returns-in-Ok-clause-failed : goal.returns-in-Ok-clause-failed
-returns-in-Ok-clause-failed g c = ?
+returns-in-Ok-clause-failed g c = λ _.
+    elim c.in-Err-written.ensures.cause [
+      | inl out ↦ inr (inl out)
+      | inr err ↦ inr (inr (rose-before _ _ _ err c.stopped.ensures.never_falls))
+    ]
 
--- src/top.rt:139:1
 pub returns-clause-bad_words : goal.returns-clause-bad_words
-returns-clause-bad_words g c = ?
+returns-clause-bad_words g c = λ at refused.
+    let e = c.outcome.ensures.bad_words at refused in
+    let same : c.in-Err.stop ≡ BadWord at = cc in
+    c.stopped-in-Err.ensures.status ∙ ap (λ (stop : Stop). (stop_outcome stop).status) same

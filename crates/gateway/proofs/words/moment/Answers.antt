@@ -5,4 +5,4 @@ use Rattle.gateway.proofs.WordLemmas.{utc_range}
 use Rattle.gateway.proofs.words.moment.Goals as goal
 
 pub returns : goal.returns
-returns c = let range = utc_range _ c.in_ok-read_utc.field-0 (sym c.read_utc.ensures ∙ c.in_ok-read_utc.was) in grind (arith, common_steps, to_z-of_z)
+returns c = let range = utc_range _ c.in_ok-read_utc.field-0 (sym c.read_utc.ensures.value ∙ c.in_ok-read_utc.was) in grind (arith, common_steps, to_z-of_z)
