@@ -1,3 +1,4 @@
+mod EndingLemmas
 mod FrameLemmas
 mod JourneyLemmas
 mod OutcomeLemmas

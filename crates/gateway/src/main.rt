@@ -9,6 +9,8 @@ mod frame;
 mod item;
 mod outcome;
 mod report;
+#[cfg(test)]
+mod tests;
 mod top;
 mod words;
 

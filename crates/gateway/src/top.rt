@@ -3,7 +3,7 @@ ghost use Rattle.std.specs.Prelude.{◌≡◌, ◌≤◌, ◌⊎◌, ◌++◌, �
 ghost use Rattle.gw_base.specs.Count.{Rose};
 ghost use Rattle.gw_base.specs.Told.{with_bytes};
 ghost use Rattle.gateway.specs.Outcomes.{PutsUnless, bad_words, refused};
-ghost use Rattle.gateway.specs.Endings.{EndsDone, EndsRefused, EndsEarly, IsStatus, streams};
+ghost use Rattle.gateway.specs.Endings.{EndsDone, EndsRefused, EndsFailed, EndsEarly, IsStatus, streams};
 ghost use Rattle.gateway.specs.Stops.{stop_outcome};
 ghost use Rattle.gateway.specs.Words.{IsRefusedAt};
 
@@ -165,6 +165,11 @@ pub fn gateway<F: Files, D: Door, C: Clock, S: Sink, E: Sink>(
 
     // Status 74: a count rose in this call.
     ensures failed { result ≡ 74 → Rose (F.faults files.old) (F.faults files.new) ⊎ Rose (S.faults out.old) (S.faults out.new) ⊎ Rose (E.faults err.old) (E.faults err.new) }
+
+    // Then, with files that are told, standard output got a front of the outcome's bytes, and nothing
+    // where the files failed.
+    ensures fronts { result ≡ 74 → IfSome (F.told files.old) (λ told. EndsFailed words.now told (Rose (S.faults out.old) (S.faults out.new)) (Rose (E.faults err.old) (E.faults err.new)) (streams (S.told out.old) (S.told out.new) (E.told err.old) (E.told err.new))
+        ⊎ EndsEarly (refused 74 (codes "failed")).err (Rose (E.faults err.old) (E.faults err.new)) (streams (S.told out.old) (S.told out.new) (E.told err.old) (E.told err.new))) }
 
     // No other status comes, and no other device is called.
     ensures statuses { IsStatus result }
