@@ -13,7 +13,7 @@ varint-small : (number : ℕ) → number < 128 → varint number ≡ number ∷ 
 unfolding varint
 varint-small number small = last_byte 9 number small
 
-feed_header-is : (timestamp : ℕ) → feed_header timestamp ≡ fields ++ varint timestamp
+pub feed_header-is : (timestamp : ℕ) → feed_header timestamp ≡ fields ++ varint timestamp
 unfolding varint seven_bits_each
 feed_header-is timestamp = refl
 

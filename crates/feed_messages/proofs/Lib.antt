@@ -1,2 +1,4 @@
+mod Building
 mod FieldLengths
 mod HeaderLemmas
+mod OneMeaning

@@ -1,2 +1,4 @@
 pub mod Cancelled
+pub mod Meaning
+pub mod Tables
 pub mod Written

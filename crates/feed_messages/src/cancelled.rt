@@ -1,8 +1,9 @@
 //! The entity of a cancelled journey.
-ghost use Rattle.std.specs.Prelude.{◌≡◌, ◌+◌, ◌<◌, ◌≤◌, ◌++◌, length, All, IfOk};
+ghost use Rattle.std.specs.Prelude.{◌≡◌, ◌+◌, ◌<◌, ◌≤◌, ◌^◌, ◌++◌, length, unsigned_abs, All, IfOk};
 ghost use Rattle.std.specs.Char.{IsAsciiDigit};
 ghost use Rattle.wire_fields.specs.Spelling.{varint_field, bytes_field};
-ghost use Rattle.feed_messages.specs.Written.{trip_descriptor, trip_update, written};
+ghost use Rattle.feed_messages.specs.Written.{trip_descriptor, trip_update, feed_entity, written};
+ghost use Rattle.feed_messages.specs.Tables.{MeansEntity};
 ghost use Rattle.feed_messages.specs.Cancelled.{entity_id, cancelled_trip, cancelled_update, cancelled_entity};
 
 use gw_base::{Buf, Bytes, Moment};
@@ -65,6 +66,7 @@ fn trip_update(
     requires { length trip_id.now ≤ 200 }
     ensures bytes { IfOk result (λ buf. buf.bytes ≡ trip_update (cancelled_update trip_id.now date.now recorded)) }
     ensures short { IfOk result (λ buf. length buf.bytes ≤ 400) }
+    ensures moment { IfOk result (λ _. unsigned_abs recorded < 2 ^ 64) }
 {
     let trip = trip_descriptor(alloc, trip_id, date)?;
     let mut buf = Buf::with_room(alloc, UPDATE_ROOM)?;
@@ -85,6 +87,25 @@ fn entity_id(alloc: Global, trip_id: &str, date: &[u8; 8]) -> Result<Buf, AllocE
     Ok(buf)
 }
 
+fn feed_entity(
+    alloc: Global,
+    trip_id: &str,
+    date: &[u8; 8],
+    recorded: Moment,
+) -> Result<Buf, AllocError>
+    requires { length trip_id.now ≤ 200 }
+    ensures bytes { IfOk result (λ buf. buf.bytes ≡ feed_entity (cancelled_entity trip_id.now date.now recorded)) }
+    ensures short { IfOk result (λ buf. length buf.bytes ≤ 700) }
+    ensures moment { IfOk result (λ _. unsigned_abs recorded < 2 ^ 64) }
+{
+    let id = entity_id(alloc, trip_id, date)?;
+    let update = trip_update(alloc, trip_id, date, recorded)?;
+    let mut buf = Buf::with_room(alloc, ENTITY_ROOM)?;
+    put_bytes(&mut buf, 1, id.as_slice());
+    put_bytes(&mut buf, 3, update.as_slice());
+    Ok(buf)
+}
+
 /// The entity of a cancelled journey as a field of its feed, tag and length included: the trip with that
 /// `trip_id` on the service day `date`, which is written `YYYYMMDD`, as was recorded at that moment
 /// (GTFS Realtime, FeedEntity and TripUpdate).
@@ -97,12 +118,9 @@ pub fn cancelled_bytes(
     requires id { length trip_id.now ≤ 200 }
     requires date { All IsAsciiDigit date.now }
     ensures written { IfOk result (λ bytes. bytes ≡ written (cancelled_entity trip_id.now date.now moment)) }
+    ensures means { IfOk result (λ bytes. MeansEntity bytes (cancelled_entity trip_id.now date.now moment)) }
 {
-    let id = entity_id(alloc, trip_id, date)?;
-    let update = trip_update(alloc, trip_id, date, moment)?;
-    let mut entity = Buf::with_room(alloc, ENTITY_ROOM)?;
-    put_bytes(&mut entity, 1, id.as_slice());
-    put_bytes(&mut entity, 3, update.as_slice());
+    let entity = feed_entity(alloc, trip_id, date, moment)?;
     let mut field = Buf::with_room(alloc, FIELD_ROOM)?;
     put_bytes(&mut field, 2, entity.as_slice());
     Ok(field.into_bytes())

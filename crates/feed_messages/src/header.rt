@@ -1,7 +1,8 @@
 //! The header of a feed, written without memory.
-ghost use Rattle.std.specs.Prelude.{◌≡◌, ◌<◌, ◌≤◌, ◌^◌, length};
+ghost use Rattle.std.specs.Prelude.{◌≡◌, ◌<◌, ◌≤◌, ◌^◌, [], length, pos};
 ghost use Rattle.wire_fields.specs.Spelling.{bytes_field};
 ghost use Rattle.feed_messages.specs.Written.{feed_header, header};
+ghost use Rattle.feed_messages.specs.Tables.{MeansFeed, full_dataset};
 
 use arrayvec::ArrayVec;
 use gw_base::Moment;
@@ -41,6 +42,7 @@ impl HeaderBytes {
 fn header_at(timestamp: u64) -> HeaderBytes
     requires { timestamp < 2 ^ 42 }
     ensures written { result ≡ bytes_field 1 (feed_header timestamp) }
+    ensures means { MeansFeed result (full_dataset (pos timestamp) []) }
     ensures short { length result ≤ 16 }
 {
     let timestamp = spell_varint(timestamp);
@@ -57,6 +59,7 @@ fn header_at(timestamp: u64) -> HeaderBytes
 /// feed (GTFS Realtime, FeedHeader). Takes no memory.
 pub fn header_bytes(moment: Moment) -> HeaderBytes
     ensures written { result ≡ header moment }
+    ensures means { MeansFeed result (full_dataset moment []) }
     ensures short { length result ≤ 16 }
 {
     header_at(moment.secs() as u64)

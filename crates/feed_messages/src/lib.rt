@@ -4,8 +4,10 @@
 
 mod cancelled;
 mod header;
+mod laws;
 #[cfg(test)]
 mod tests;
 
 pub use cancelled::cancelled_bytes;
 pub use header::{HeaderBytes, header_bytes};
+pub use laws::{an_entity_is_added, the_feed_is_one};

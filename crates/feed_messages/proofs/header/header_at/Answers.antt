@@ -1,7 +1,8 @@
 -- The timestamp has at most six bytes, so all fits.
-use Rattle.std.proofs.Common.{◌≡◌, ◌≤◌, ◌+◌, length, arith, ap, sym, ◌∙◌}
+use Rattle.std.proofs.Common.{pos, ◌≡◌, ◌≤◌, ◌+◌, length, arith, ap, sym, ◌∙◌}
 use Rattle.wire_fields.specs.Spelling.{varint}
 use Rattle.wire_fields.proofs.Varints.{length-varint_6}
+use Rattle.feed_messages.proofs.Building.{means_header}
 use Rattle.feed_messages.proofs.HeaderLemmas.{header-is}
 use Rattle.feed_messages.proofs.header.header_at.Goals as goal
 
@@ -17,6 +18,9 @@ pub returns-clause-written : goal.returns-clause-written
 returns-clause-written c =
     rw (rw c.unwrap-2.ensures at c.try_extend_from_slice-2.ensures.ok, rw c.unwrap.ensures at c.try_extend_from_slice.ensures.ok, c.push-2.ensures.items, c.push.ensures.items, c.new-bytes.ensures)
     (rw (c.as_slice-timestamp.ensures.same, c.spell_varint-timestamp.ensures.spelled) (sym (header-is c.args.timestamp c.requires)))
+
+pub returns-clause-means : goal.returns-clause-means
+returns-clause-means c = rw (returns-clause-written c) (means_header (pos c.args.timestamp) (let small = c.requires in omega arith))
 
 pub returns-clause-short : goal.returns-clause-short
 returns-clause-short c =

@@ -1,0 +1,16 @@
+//! The laws of the meaning of feeds, each the contract of a function that does nothing. They are about the definitions
+//! that the writers' contracts cite.
+ghost use Rattle.std.specs.Prelude.{◌≡◌, ◌++◌, ℕ, List};
+ghost use Rattle.gw_base.specs.declared.messages.Entity.{Entity};
+ghost use Rattle.gw_base.specs.declared.messages.Feed.{Feed};
+ghost use Rattle.feed_messages.specs.Tables.{MeansFeed, MeansEntity, with_entity};
+
+/// Bytes mean at most one feed.
+pub fn the_feed_is_one()
+    ensures { (bytes : List ℕ) (feed other : Feed) → MeansFeed bytes feed → MeansFeed bytes other → feed ≡ other }
+{}
+
+/// An entity behind a feed is one more entity of it.
+pub fn an_entity_is_added()
+    ensures { (front back : List ℕ) (feed : Feed) (entity : Entity) → MeansFeed front feed → MeansEntity back entity → MeansFeed (front ++ back) (with_entity feed entity) }
+{}
