@@ -1,4 +1,4 @@
-mod Building
+pub mod Building
 mod FieldLengths
 mod HeaderLemmas
 mod OneMeaning

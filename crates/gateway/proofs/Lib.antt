@@ -1,4 +1,5 @@
 mod EndingLemmas
+mod FeedLemmas
 mod FrameLemmas
 mod JourneyLemmas
 mod OutcomeLemmas

@@ -1,6 +1,8 @@
 //! The feed of cancelled journeys.
 ghost use Rattle.std.specs.Prelude.{◌≡◌, ◌++◌, ◌<◌, length, All, IfOk, OnOk};
-ghost use Rattle.gateway.specs.Feeds.{IsFeed, entity_of};
+ghost use Rattle.gw_base.specs.declared.messages.Feed.{Feed};
+ghost use Rattle.feed_messages.specs.Tables.{MeansFeed, with_entity};
+ghost use Rattle.gateway.specs.Feeds.{IsFeed, entity_of, message_of};
 
 use crate::item::Cancelled;
 use feed_messages::{cancelled_bytes, header_bytes};
@@ -17,7 +19,8 @@ fn add_entity(
     journey: Cancelled,
 ) -> Result<(), AllocError>
     requires { journey.trip.0 < length table.now.trips }
-    ensures { OnOk result (feed.new.items ≡ feed.old.items ++ entity_of table.now.trips journey) }
+    ensures bytes { OnOk result (feed.new.items ≡ feed.old.items ++ entity_of table.now.trips journey) }
+    ensures means { (before : Feed) → MeansFeed feed.old.items before → OnOk result (MeansFeed feed.new.items (with_entity before (message_of table.now.trips journey))) }
 {
     let id = table.trip_id(journey.trip);
     let date = day_compact(journey.day);
