@@ -4,4 +4,5 @@ mod FrameLemmas
 mod JourneyLemmas
 mod OutcomeLemmas
 mod SinkLemmas
+mod ReadingLemmas
 mod WordLemmas

@@ -71,13 +71,14 @@ dated setting journey (Some trip) =
     then Ok (record { day = journey.day; trip = record { 0 = trip }; recorded = journey.recorded })
     else Err OutOfWindow
 
+-- what an item is by what it spells
+abbrev pub judged : Setting → Option Spelt → Result Cancelled Aside
+judged setting None = Err NotYet
+judged setting (Some journey) = dated setting journey (position (bytes_eq journey.trip_id) setting.trips)
+
 -- what an item is by itself: a cancelled journey, or why it is set aside
 abbrev pub verdict : Setting → Data → Result Cancelled Aside
-verdict setting item = judged (spelt item)
-  where
-    judged : Option Spelt → Result Cancelled Aside
-    judged None = Err NotYet
-    judged (Some journey) = dated setting journey (position (bytes_eq journey.trip_id) setting.trips)
+verdict setting item = judged setting (spelt item)
 
 -- two records of one trip on one day
 abbrev pub same_journey : Cancelled → Cancelled → Bool

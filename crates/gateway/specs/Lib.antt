@@ -4,6 +4,8 @@ pub mod Frame
 pub mod Items
 pub mod Journeys
 pub mod Outcomes
+pub mod Published
+pub mod Readings
 pub mod Reports
 pub mod Stops
 pub mod Words
