@@ -4,5 +4,6 @@ mod FrameLemmas
 mod JourneyLemmas
 mod OutcomeLemmas
 mod SinkLemmas
+mod PublishedLemmas
 mod ReadingLemmas
 mod WordLemmas

@@ -4,6 +4,7 @@ ghost use Rattle.gw_base.specs.Count.{Rose};
 ghost use Rattle.gw_base.specs.Told.{with_bytes};
 ghost use Rattle.gateway.specs.Outcomes.{PutsUnless, bad_words, refused};
 ghost use Rattle.gateway.specs.Endings.{EndsDone, EndsRefused, EndsFailed, EndsEarly, IsStatus, streams};
+ghost use Rattle.gateway.specs.Published.{Publishes};
 ghost use Rattle.gateway.specs.Stops.{stop_outcome};
 ghost use Rattle.gateway.specs.Words.{IsRefusedAt};
 
@@ -151,6 +152,10 @@ pub fn gateway<F: Files, D: Door, C: Clock, S: Sink, E: Sink>(
 
     // Status 0: with files that are told, both streams got all of the outcome's bytes.
     ensures done { result ≡ 0 → IfSome (F.told files.old) (λ told. EndsDone words.now told (streams (S.told out.old) (S.told out.new) (E.told err.old) (E.told err.new))) }
+
+    // Then what standard output got means, by the definitions of GTFS Realtime, a feed of just the
+    // cancelled journeys that were taken, and is read as just these.
+    ensures publishes { result ≡ 0 → IfSome (F.told files.old) (λ told. Publishes words.now told (S.told out.old) (S.told out.new)) }
 
     // Status 65 or 66: with files that are told, it is the first fault in the order of work.
     ensures refused { (result ≡ 65) ⊎ (result ≡ 66) → IfSome (F.told files.old) (λ told. EndsRefused words.now told result (Rose (E.faults err.old) (E.faults err.new)) (streams (S.told out.old) (S.told out.new) (E.told err.old) (E.told err.new))) }

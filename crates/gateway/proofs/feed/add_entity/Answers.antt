@@ -1,5 +1,4 @@
 -- The feed means one entity more.
-use Rattle.gateway.proofs.ReadingLemmas.{IsReadable}
 use Rattle.gateway.proofs.FeedLemmas.{entity_added}
 use Rattle.gateway.proofs.feed.add_entity.Goals as goal
 

@@ -1,9 +1,10 @@
--- Refused words end in status 2, and a device that failed raised its count.
-use Rattle.std.proofs.Common.{◌≡◌, Err, Ok, ap, sym, ◌∙◌, inl, inr}
+-- Refused words end in status 2, a device that failed raised its count, and what is done publishes.
+use Rattle.std.proofs.Common.{◌≡◌, Err, Ok, ap, sym, refl, ◌∙◌, inl, inr}
 use Rattle.gateway.specs.Stops.{stop_outcome, done_outcome}
 use Rattle.gateway.specs.declared.outcome.Stop.{Stop}
 use Rattle.gateway.specs.declared.outcome.Stop.TheVariants.{BadWord}
 use Rattle.gateway.proofs.EndingLemmas.{ends_failed, ends_early}
+use Rattle.gateway.proofs.PublishedLemmas.{publishes}
 use Rattle.gateway.proofs.SinkLemmas.{rose-before, rose-after, puts_wider}
 use Rattle.gateway.proofs.top.gateway.Goals as goal
 
@@ -35,3 +36,7 @@ returns-in-Ok-clause-fronts g c = λ _.
 pub returns-clause-fronts : goal.returns-clause-fronts
 returns-clause-fronts g c = λ is.
     ends_early c.args.words.now (g.F.Files.told c.args.files.now) c.in-Err.stop _ _ _ _ _ (sym c.stopped-in-Err.ensures.status ∙ is) c.stopped-in-Err.ensures.front
+
+pub returns-in-Ok-written-clause-publishes : goal.returns-in-Ok-written-clause-publishes
+returns-in-Ok-written-clause-publishes g c = λ _.
+    publishes c.args.words.now (g.F.Files.told c.args.files.now) (done_outcome c.in-Ok.done) _ _ refl c.in-Ok.ensures.told c.in-Ok-written.ensures.all_out
