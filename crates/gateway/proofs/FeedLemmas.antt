@@ -1,11 +1,10 @@
 -- What the bytes of a feed mean, entity by entity.
-use Rattle.std.proofs.Common.{◌≡◌, ◌∙◌, ◌<◌, ◌+◌, ◌++◌, ◌∷◌, [], ℕ, zero, suc, ℤ, List, length, take, drop, get_or, map, Result, Ok, Err, Option, Some, sym, ap, subst, refl, if◌then◌else◌, arith}
+use Rattle.std.proofs.Common.{◌≡◌, ◌∙◌, ◌<◌, ◌+◌, ◌++◌, ◌∷◌, [], ℕ, zero, suc, ℤ, List, length, take, drop, get_or, map, Result, Ok, Err, Some, sym, ap, subst, if◌then◌else◌}
 use Rattle.std.proofs.lemmas.List.{map-append, take_more, drop_more, append_assoc}
 use Rattle.std.proofs.lemmas.Option.{none-some}
-use Rattle.std.specs.Prelude.{⊤, OnOk, slice_get, slice_index_or}
+use Rattle.std.specs.Prelude.{⊤, OnOk, slice_get}
 use Rattle.std.specs.List.{flat_map}
 use Rattle.std.specs.Result.{is_ok}
-use Rattle.gw_base.specs.declared.messages.Entity.{Entity}
 use Rattle.gw_base.specs.declared.messages.Feed.{Feed}
 use Rattle.service_day.specs.DayTexts.{compact_text}
 use Rattle.feed_messages.specs.Cancelled.{cancelled_entity}

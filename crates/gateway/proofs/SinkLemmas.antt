@@ -1,5 +1,5 @@
 -- Texts that a sink got one after the other.
-use Rattle.std.proofs.Common.{◌≡◌, ◌≤◌, ◌<◌, ◌⊎◌, ◌+◌, ℕ, List, ◌++◌, length, take, Option, Result, Ok, Err, OnOk, OnErr, arith, sym, ap, ◌∙◌, length-append, inl, inr}
+use Rattle.std.proofs.Common.{◌≡◌, ◌≤◌, ◌+◌, ℕ, List, ◌++◌, length, take, Option, Result, Ok, Err, OnOk, OnErr, arith, sym, ap, ◌∙◌, length-append, inl, inr}
 use Rattle.std.proofs.lemmas.List.{take-append-le}
 use Rattle.std.proofs.Math.Seq.{take-append-add, take-length}
 use Rattle.gw_base.specs.Count.{Rose}

@@ -1,5 +1,5 @@
 -- How a run of the program ends: what standard output and standard error got, by the outcome of the words.
-use Rattle.std.specs.Prelude.{◌≡◌, ◌≤◌, ◌<◌, ◌⊎◌, ℕ, List, ◌++◌, length, take, codes, Option}
+use Rattle.std.specs.Prelude.{◌≡◌, ◌≤◌, ◌⊎◌, ℕ, List, length, take, codes, Option}
 use Rattle.gw_base.specs.Told.{with_bytes}
 use Rattle.gateway.specs.Outcomes.{Outcome, IsOutcome, PutsUnless, refused}
 

@@ -1,6 +1,6 @@
 -- What `to-gtfsrt` publishes, in the words of the two standards (SIRI 2.0, EstimatedVehicleJourney with Cancellation; GTFS
 -- Realtime 2.0, FeedMessage).
-use Rattle.std.specs.Prelude.{◌≡◌, ℕ, ℤ, List, map, Option, Some, Ok}
+use Rattle.std.specs.Prelude.{◌≡◌, ℕ, List, map, Option, Some, Ok}
 use Rattle.std.specs.List.Sorted.{IsPermutation, IsSorted}
 use Rattle.gw_base.specs.Directory.{bytes_of}
 use Rattle.gw_base.specs.Told.{with_bytes}

@@ -1,6 +1,6 @@
 -- How the entities of a feed are read: the case of a cancelled trip (GTFS Realtime reference, FeedEntity, TripUpdate, and
 -- TripDescriptor with the schedule_relationship CANCELED).
-use Rattle.std.specs.Prelude.{◌&&◌, ℕ, ℤ, pos, nat_le, List, Option, Some, None, option_and_then, option_map, position, if◌then◌else◌}
+use Rattle.std.specs.Prelude.{ℕ, ℤ, pos, nat_le, Option, Some, None, option_and_then, option_map, position, if◌then◌else◌}
 use Rattle.std.specs.Ordering.{int_eq}
 use Rattle.std.specs.Str.{bytes_eq}
 use Rattle.gw_base.specs.declared.messages.Entity.{Entity}

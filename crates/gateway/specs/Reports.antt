@@ -1,7 +1,7 @@
 -- The report on a delivery.
-use Rattle.std.specs.Prelude.{ℕ, List, ◌++◌, codes, length, decimal, Result}
+use Rattle.std.specs.Prelude.{ℕ, List, ◌++◌, codes, length, decimal}
 use Rattle.std.specs.List.{flat_map}
-use Rattle.gateway.specs.Journeys.{taken, aside_from}
+use Rattle.gateway.specs.Journeys.{taken}
 use Rattle.gateway.specs.declared.item.Aside.{Aside}
 use Rattle.gateway.specs.declared.item.Aside.TheVariants.{NotYet, UnknownJourney, OutOfWindow}
 use Rattle.gateway.specs.declared.item.Cancelled.{Cancelled}

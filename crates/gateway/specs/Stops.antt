@@ -1,5 +1,5 @@
 -- What a stop of the program says, and what an answer of its work says of the outcome.
-use Rattle.std.specs.Prelude.{ℕ, List, ◌++◌, codes, ⊤, Result, Ok, Err}
+use Rattle.std.specs.Prelude.{◌++◌, codes, ⊤, Result, Ok, Err}
 use Rattle.stop_schedule.specs.Timetable.{path_of, file_name}
 use Rattle.gateway.specs.Outcomes.{Outcome, Task, refused, bad_words}
 use Rattle.gateway.specs.declared.outcome.Conversion.{Conversion}

@@ -1,5 +1,5 @@
 -- The sorted journeys are those that were handed in, so their trips are there; each adds its entity.
-use Rattle.std.proofs.Common.{◌<◌, ◌≡◌, length, get_or, arith, ap, sym, subst}
+use Rattle.std.proofs.Common.{◌<◌, length, get_or, arith, ap, sym, subst}
 use Rattle.std.proofs.lemmas.List.Sorted.{All-permutation}
 use Rattle.feed_messages.specs.Tables.{MeansFeed}
 use Rattle.gateway.specs.declared.item.Cancelled.{Cancelled}

@@ -1,5 +1,5 @@
 -- Refused words end in status 2, a device that failed raised its count, and what is done publishes.
-use Rattle.std.proofs.Common.{◌≡◌, Err, Ok, ap, sym, refl, ◌∙◌, inl, inr}
+use Rattle.std.proofs.Common.{◌≡◌, ap, sym, refl, ◌∙◌, inl, inr}
 use Rattle.gateway.specs.Stops.{stop_outcome, done_outcome}
 use Rattle.gateway.specs.declared.outcome.Stop.{Stop}
 use Rattle.gateway.specs.declared.outcome.Stop.TheVariants.{BadWord}

@@ -1,5 +1,4 @@
 -- What is written of a text is what is written of its bytes.
-use Rattle.std.proofs.Common.{List, ℕ}
 use Rattle.gateway.proofs.SinkLemmas.{puts_unless}
 use Rattle.gw_base.specs.Count.{Rose}
 use Rattle.gateway.proofs.top.put_text.Goals as goal
