@@ -1,21 +1,21 @@
 -- What is written means what it was written from.
-use Rattle.std.proofs.Common.{◌≡◌, ℕ, ℤ, pos, inl, inr, ◌+◌, ◌*◌, ◌^◌, ◌<◌, ◌≤◌, List, [], ◌∷◌, ◌++◌, length, refl, sym, ap, subst, ◌∙◌, arith, length-append}
+use Rattle.std.proofs.Common.{◌≡◌, ℕ, ℤ, pos, inl, inr, ◌+◌, ◌^◌, ◌<◌, ◌≤◌, List, [], ◌∷◌, ◌++◌, length, refl, ap, ◌∙◌, arith, length-append}
 use Rattle.std.proofs.lemmas.Bool.{cases_lt}
 use Rattle.std.proofs.lemmas.List.{append-nil, get_or_past}
 use Rattle.std.proofs.lemmas.List.Elements.{filter_map-append}
 use Rattle.std.proofs.lemmas.Str.{IsUtf8-append, IsUtf8-from_ascii}
-use Rattle.std.specs.Prelude.{Option, Some, None, All, codes, IsUtf8, unsigned_abs}
+use Rattle.std.specs.Prelude.{Some, All, codes, IsUtf8, unsigned_abs}
 use Rattle.std.specs.Char.{IsAsciiDigit}
-use Rattle.std.specs.List.{AllZip, last_or}
+use Rattle.std.specs.List.{AllZip}
 use Rattle.gw_base.specs.declared.messages.Entity.{Entity}
 use Rattle.gw_base.specs.declared.messages.Feed.{Feed}
-use Rattle.wire_fields.specs.Grammar.{Payload, Varint, Bytes, WireField, IsSpelling, AreFields}
+use Rattle.wire_fields.specs.Grammar.{Varint, Bytes, WireField, IsSpelling, AreFields}
 use Rattle.wire_fields.specs.Spelling.{varint, varint_field, bytes_field}
 use Rattle.wire_fields.proofs.Lists.{Concatenates-append, Concatenates-one, Concatenates-push}
 use Rattle.wire_fields.proofs.Varints.{length-varint_10}
 use Rattle.wire_fields.proofs.Written.{varint_field_written, bytes_field_written}
-use Rattle.feed_messages.specs.Meaning.{held, body_in, bodies, Means, IsMessage, AreMessages}
-use Rattle.feed_messages.specs.Tables.{OfTripDescriptor, OfTripUpdate, OfFeedEntity, OfFeedHeader, OfFeedMessage, Header, MeansFeed, MeansEntity, full_dataset}
+use Rattle.feed_messages.specs.Meaning.{bodies, Means}
+use Rattle.feed_messages.specs.Tables.{OfTripDescriptor, OfTripUpdate, OfFeedEntity, OfFeedHeader, MeansFeed, MeansEntity, full_dataset}
 use Rattle.feed_messages.specs.Written.{trip_descriptor, trip_update, feed_entity, written, feed_header, header}
 use Rattle.feed_messages.specs.Cancelled.{entity_id, cancelled_trip, cancelled_update, cancelled_entity}
 use Rattle.feed_messages.proofs.FieldLengths.{length-bytes_field, length-varint_field}

@@ -1,5 +1,5 @@
 -- How long fields are at most.
-use Rattle.std.proofs.Common.{◌≡◌, ℕ, ◌+◌, ◌*◌, ◌^◌, ◌<◌, ◌≤◌, List, ◌++◌, length, length-append, arith}
+use Rattle.std.proofs.Common.{ℕ, ◌+◌, ◌*◌, ◌^◌, ◌<◌, ◌≤◌, List, ◌++◌, length, length-append, arith}
 use Rattle.wire_fields.specs.Spelling.{varint, varint_field, bytes_field}
 use Rattle.wire_fields.proofs.Varints.{length-varint_10}
 

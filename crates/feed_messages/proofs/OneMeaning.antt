@@ -1,21 +1,13 @@
 -- Bytes have at most one meaning.
-use Rattle.std.proofs.Common.{◌≡◌, ℕ, ℤ, pos, List, [], ◌∷◌, refl, sym, ap, subst, ◌∙◌}
+use Rattle.std.proofs.Common.{◌≡◌, ℕ, List, [], ◌∷◌, refl, sym, ap, subst, ◌∙◌}
 use Rattle.std.specs.Prelude.{Option, Some, None, unwrap_or}
 use Rattle.std.specs.List.{AllZip}
-use Rattle.gw_base.specs.declared.messages.Alert.{Alert}
-use Rattle.gw_base.specs.declared.messages.Entity.{Entity}
-use Rattle.gw_base.specs.declared.messages.Event.{Event}
 use Rattle.gw_base.specs.declared.messages.Feed.{Feed}
-use Rattle.gw_base.specs.declared.messages.Period.{Period}
-use Rattle.gw_base.specs.declared.messages.Selector.{Selector}
-use Rattle.gw_base.specs.declared.messages.StopUpdate.{StopUpdate}
 use Rattle.gw_base.specs.declared.messages.Translation.{Translation}
-use Rattle.gw_base.specs.declared.messages.TripDescriptor.{TripDescriptor}
-use Rattle.gw_base.specs.declared.messages.TripUpdate.{TripUpdate}
 use Rattle.wire_fields.specs.Grammar.{WireField}
 use Rattle.wire_fields.proofs.Broken.{fields_once}
-use Rattle.feed_messages.specs.Meaning.{Means, IsJoined, IsText, IsMessage}
-use Rattle.feed_messages.specs.Tables.{OfTripDescriptor, OfStopTimeEvent, OfStopTimeUpdate, OfTripUpdate, OfTimeRange, OfEntitySelector, OfTranslation, OfTranslatedString, AreTranslations, OfAlert, OfFeedEntity, Header, header_of, OfFeedHeader, OfFeedMessage, MeansFeed}
+use Rattle.feed_messages.specs.Meaning.{Means, IsJoined}
+use Rattle.feed_messages.specs.Tables.{OfTripDescriptor, OfStopTimeEvent, OfStopTimeUpdate, OfTripUpdate, OfTimeRange, OfEntitySelector, OfTranslation, OfTranslatedString, AreTranslations, OfAlert, OfFeedEntity, header_of, OfFeedHeader, OfFeedMessage, MeansFeed}
 
 -- of fields the table holds for at most one message
 abbrev Determines : {M : Type 0} → (List WireField → M → Type 0) → Type 0

@@ -1,6 +1,6 @@
 -- Which fields a message has: of each its number, its kind, and what of the message it says (GTFS Realtime reference,
 -- gtfs-realtime.proto). A field that has to be there is one of a kind that may be missing and is not.
-use Rattle.std.specs.Prelude.{◌≡◌, ℕ, ℤ, pos, List, [], ◌∷◌, ◌++◌, codes, Option, Some, None, unwrap_or, unsigned_abs}
+use Rattle.std.specs.Prelude.{◌≡◌, ℕ, ℤ, pos, List, [], ◌∷◌, ◌++◌, codes, Option, Some, unwrap_or, unsigned_abs}
 use Rattle.gw_base.specs.declared.messages.Alert.{Alert}
 use Rattle.gw_base.specs.declared.messages.Entity.{Entity}
 use Rattle.gw_base.specs.declared.messages.Event.{Event}

@@ -1,6 +1,6 @@
 -- How messages of GTFS Realtime 2.0 are written: fields in rising number, the shortest varints, and nothing for a
 -- field that is missing, but for those that are always written (GTFS Realtime reference; protobuf encoding).
-use Rattle.std.specs.Prelude.{◌==◌, ◌*◌, ◌^◌, ℕ, ℤ, pos, List, [], ◌∷◌, ◌++◌, Bool, codes, if◌then◌else◌, Option, Some, None, unsigned_abs}
+use Rattle.std.specs.Prelude.{◌==◌, ℕ, ℤ, List, [], ◌∷◌, ◌++◌, codes, if◌then◌else◌, Option, Some, None, unsigned_abs}
 use Rattle.std.specs.List.{flat_map}
 use Rattle.std.specs.Int.{w64, cast_unsigned}
 use Rattle.wire_fields.specs.Spelling.{varint_field, bytes_field}

@@ -1,5 +1,5 @@
 -- A field has at most 20 bytes beside its body.
-use Rattle.std.proofs.Common.{◌≤◌, ◌+◌, length, arith, length-append, ap}
+use Rattle.std.proofs.Common.{length, arith, length-append, ap}
 use Rattle.wire_fields.specs.Spelling.{bytes_field}
 use Rattle.feed_messages.proofs.FieldLengths.{length-bytes_field}
 use Rattle.feed_messages.proofs.cancelled.put_bytes.Goals as goal

@@ -1,5 +1,5 @@
 -- A field of a number has at most 20 bytes.
-use Rattle.std.proofs.Common.{◌≤◌, ◌+◌, length, arith, length-append, ap}
+use Rattle.std.proofs.Common.{length, arith, length-append, ap}
 use Rattle.wire_fields.specs.Spelling.{varint_field}
 use Rattle.feed_messages.proofs.FieldLengths.{length-varint_field}
 use Rattle.feed_messages.proofs.cancelled.put_number.Goals as goal
