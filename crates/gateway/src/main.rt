@@ -2,6 +2,7 @@
 //! feed. `main` hands the real words and devices to the top call.
 #![tactic(auto)]
 
+mod command_line;
 mod delivery;
 mod devices;
 mod feed;
@@ -14,11 +15,10 @@ mod tests;
 mod top;
 mod words;
 
+use command_line::words_of;
 use devices::{DirFiles, StdSink};
-use gw_base::{NoClock, NoDoor, Text};
-use std::alloc::Global;
+use gw_base::{NoClock, NoDoor};
 use std::process::ExitCode;
-use std::{env, io};
 
 const USAGE: &str = "\
 usage: gateway to-gtfsrt --gtfs DIR --zone-rule RULE --from YYYY-MM-DD --days N --at YYYY-MM-DDThh:mm:ssZ --et FILE
@@ -28,15 +28,6 @@ to standard output and a report to standard error.
 ";
 
 const VERSION: &str = concat!("gateway ", "0.1.0", "\n");
-
-// The words of the command line behind the program's name.
-fn words_of(rt: &HostRuntime, alloc: Global) -> io::Result<Vec<Text>> {
-    let mut words = Vec::new(alloc);
-    for word in env::args(rt)?.skip(1) {
-        words.push(Text::from_string(word))?;
-    }
-    Ok(words)
-}
 
 fn main(rt: HostRuntime) -> ExitCode {
     let alloc = rt.alloc();
