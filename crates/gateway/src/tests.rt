@@ -1,4 +1,14 @@
-//! Each real device once. The top call over the real devices is run by the repository's own checks.
+//! Each real device once, and the top call over files and sinks in memory. The top call over the real
+//! devices is run by the repository's own checks.
+mod entities;
+mod failures;
+mod feed;
+mod folder;
+mod frame;
+mod items;
+mod runs;
+mod words;
+
 use crate::devices::{DirFiles, StdSink};
 use gw_base::{Bytes, FileFault, Files, Got, Sink};
 use std::fs::File;

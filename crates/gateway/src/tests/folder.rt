@@ -1,0 +1,118 @@
+//! The folder's `trips.txt`: tables that are taken, and tables that are refused.
+use super::runs::{JOURNEY, NO_ENTITY, ONE_ENTITY, ONE_TAKEN, TRIPS, assert_left, json, ran_over};
+use std::test::Fail;
+
+const BAD_TABLE: &str = "gateway: BadTable trips.txt\n";
+
+// Tables with the trip T1.
+static GOOD: [&[u8]; 17] = [
+    b"trip_id\nT1\n",
+    b"trip_id\nT1",
+    b"trip_id\r\nT2\r\nT1\r\n",
+    b"\ntrip_id\n\nT1\n\n",
+    b"x,trip_id,y\n1,T1,2\n",
+    // Bytes that are no text where they aren't read.
+    b"x,trip_id\n\xff,T1\n",
+    b"\xff,trip_id\n1,T1\n",
+    // Quoted names and fields.
+    b"\"trip_id\"\n\"T1\"\n",
+    b"x,trip_id\n\"1,2\",\"T1\"\n\"3\"\"4\",\"T,2\"\n",
+    // A byte order mark.
+    b"\xef\xbb\xbftrip_id\nT1\n",
+    // Blanks round names and fields.
+    b"x, \ttrip_id \n1, T1\t\n",
+    // Short and long rows.
+    b"trip_id,x\nT1\n",
+    b"x,trip_id\n1,T1,2,3\n",
+    // Of two equal names the first counts.
+    b"trip_id,trip_id\nT1,T2\nT2,T2\n",
+    // Ids that differ in their case, and one that is no word.
+    b"trip_id\nT1\nt1\nT 1\n",
+    b"trip_id\nT1\nZ\xc3\xbcrich\n",
+    TRIPS,
+];
+
+// Tables that are refused.
+static BAD: [&[u8]; 15] = [
+    // No row, or no column of that name.
+    b"",
+    b"\n\n",
+    b"T1\n",
+    b"route_id,service_id\nR1,T1\n",
+    b"Trip_id\nT1\n",
+    b"\xef\xbb\xbf\xef\xbb\xbftrip_id\nT1\n",
+    // An id that is empty, and one that isn't there.
+    b"trip_id,x\nT1,1\n,1\n",
+    b"trip_id,x\nT1,1\n \t ,1\n",
+    b"trip_id\nT1\n\"\"\n",
+    b"x,trip_id\n1,T1\n2\n",
+    // An id that stands there twice.
+    b"trip_id\nT1\nT2\nT1\n",
+    b"trip_id\nT1\n T1 \n",
+    b"trip_id\nT1\n\"T1\"\n",
+    // An id that is no text.
+    b"trip_id\nT1\nA\xff\n",
+    b"trip_id\nT1\n\xed\xa0\x80\n",
+];
+
+#[test]
+fn good_tables_are_taken(rt: HostRuntime) -> Result<(), Fail> {
+    let delivery = json(rt.alloc(), JOURNEY)?;
+    for trips in GOOD.iter() {
+        let left = ran_over(rt.alloc(), Some(trips), Some(delivery.as_str().as_bytes()))?;
+        assert_left(&rt, "a good table", &left, 0, ONE_ENTITY, ONE_TAKEN);
+    }
+    Ok(())
+}
+
+#[test]
+fn bad_tables_are_refused(rt: HostRuntime) -> Result<(), Fail> {
+    let delivery = json(rt.alloc(), JOURNEY)?;
+    for trips in BAD.iter() {
+        let left = ran_over(rt.alloc(), Some(trips), Some(delivery.as_str().as_bytes()))?;
+        assert_left(&rt, "a bad table", &left, 65, b"", BAD_TABLE);
+    }
+    Ok(())
+}
+
+#[test]
+fn a_table_of_no_trips_is_taken(rt: HostRuntime) -> Result<(), Fail> {
+    let delivery = json(rt.alloc(), JOURNEY)?;
+    let left = ran_over(rt.alloc(), Some(b"trip_id\n"), Some(delivery.as_str().as_bytes()))?;
+    let report = "f aside 0 UnknownJourney\nf taken 0 passed 0 aside 1\n";
+    assert_left(&rt, "no trips", &left, 0, NO_ENTITY, report);
+    Ok(())
+}
+
+#[test]
+fn an_id_has_at_most_200_bytes(rt: HostRuntime) -> Result<(), Fail> {
+    let delivery = json(rt.alloc(), JOURNEY)?;
+    for (count, status, out, err) in [(200, 0, ONE_ENTITY, ONE_TAKEN), (201, 65, b"", BAD_TABLE)] {
+        let mut trips = Vec::from_slice(rt.alloc(), b"trip_id\nT1\n")?;
+        for _ in 0..count {
+            trips.push(b'a')?;
+        }
+        let left = ran_over(rt.alloc(), Some(trips.as_slice()), Some(delivery.as_str().as_bytes()))?;
+        assert_left(&rt, "a long id", &left, status, out, err);
+    }
+    Ok(())
+}
+
+// Folders and deliveries of which something is wrong: the folder comes first.
+static ORDER: [(Option<&[u8]>, Option<&[u8]>, u8, &str); 6] = [
+    (None, None, 66, "gateway: Missing g/trips.txt\n"),
+    (None, Some(b"{}"), 66, "gateway: Missing g/trips.txt\n"),
+    (Some(b""), None, 65, "gateway: BadTable trips.txt\n"),
+    (Some(b""), Some(b"{}"), 65, "gateway: BadTable trips.txt\n"),
+    (Some(b"trip_id\n"), None, 66, "gateway: Missing f\n"),
+    (Some(b"trip_id\n"), Some(b"{}"), 65, "gateway: f BadDelivery\n"),
+];
+
+#[test]
+fn the_folder_comes_before_the_delivery(rt: HostRuntime) -> Result<(), Fail> {
+    for (trips, delivery, status, err) in ORDER.iter() {
+        let left = ran_over(rt.alloc(), *trips, *delivery)?;
+        assert_left(&rt, err, &left, *status, b"", err);
+    }
+    Ok(())
+}

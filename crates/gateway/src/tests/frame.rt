@@ -1,0 +1,128 @@
+//! The delivery's file: frames that are read, and bodies that are refused.
+use super::runs::{
+    JOURNEY, NO_ENTITY, ONE_ENTITY, ONE_TAKEN, TRIPS, assert_left, json, ran_on, ran_over,
+};
+use std::alloc::{AllocError, Global};
+use std::test::Fail;
+
+// The most bytes of a delivery.
+const MOST: usize = 16_777_216;
+
+const BAD_DELIVERY: &str = "gateway: f BadDelivery\n";
+
+const NONE_TAKEN: &str = "f taken 0 passed 0 aside 0\n";
+
+// Frames without a journey. The letters are those of `json`.
+static EMPTY: [&str; 10] = [
+    "$<$>",
+    "{$S:{$T:[]}}",
+    "{$S:{$T:[{}]}}",
+    "{$S:{$T:[{},{}]}}",
+    "{$S:{$T:[{$V:[]}]}}",
+    "{$S:{$T:[{$V:[{}]}]}}",
+    "{$S:{$T:[{$V:[{},{$J:[]}]},{$V:[]}]}}",
+    "{'siri':1,$S:{'Siri':1,$T:[{'Siri':1}]}}",
+    " { $S : { $T : [ ] } } ",
+    "{$S:{$T:[{'x':null}],'x':[1,2.5e-3,'\\u00fc']}}",
+];
+
+// Bodies that are JSON, but of no frame.
+static NO_FRAME: [&str; 32] = [
+    // The root.
+    "{}",
+    "[]",
+    "null",
+    "true",
+    "7",
+    "'ServiceDelivery'",
+    "[{$S:{$T:[]}}]",
+    // A member `Siri`, of any value.
+    "{'Siri':{$S:{$T:[]}}}",
+    "{'Siri':null,$S:{$T:[]}}",
+    "{$S:{$T:[]},'Siri':{}}",
+    // ServiceDelivery.
+    "{$S:null}",
+    "{$S:[{$T:[]}]}",
+    "{$S:'x'}",
+    "{'serviceDelivery':{$T:[]}}",
+    // EstimatedTimetableDelivery.
+    "{$S:{}}",
+    "{$S:{$T:null}}",
+    "{$S:{$T:{}}}",
+    "{$S:{$T:{$V:[]}}}",
+    "{$S:{$T:'x'}}",
+    "{$S:{$T:[null]}}",
+    "{$S:{$T:[[]]}}",
+    "{$S:{$T:[{},7]}}",
+    // EstimatedJourneyVersionFrame.
+    "{$S:{$T:[{$V:null}]}}",
+    "{$S:{$T:[{$V:{}}]}}",
+    "{$S:{$T:[{$V:{$J:[]}}]}}",
+    "{$S:{$T:[{$V:[null]}]}}",
+    "{$S:{$T:[{$V:[{},[]]}]}}",
+    "{$S:{$T:[{},{$V:'x'}]}}",
+    // EstimatedVehicleJourney.
+    "{$S:{$T:[{$V:[{$J:null}]}]}}",
+    "{$S:{$T:[{$V:[{$J:{}}]}]}}",
+    "{$S:{$T:[{$V:[{$J:[]},{$J:false}]}]}}",
+    "{$S:{$T:[{$V:[{$J:[{$R,$1,$C}]}]},{$V:[{$J:7}]}]}}",
+];
+
+// Bodies that are no JSON in UTF-8.
+static NO_JSON: [&[u8]; 10] = [
+    b"",
+    b" \n",
+    b"{",
+    b"{}}",
+    b"{'a':1}",
+    b"{\"a\":01}",
+    b"{\"a\":1,}",
+    b"\xef\xbb\xbf{\"ServiceDelivery\":{\"EstimatedTimetableDelivery\":[]}}",
+    b"{\"ServiceDelivery\":{\"EstimatedTimetableDelivery\":[]},\"a\":\"\xff\"}",
+    b"{\"ServiceDelivery\":{\"EstimatedTimetableDelivery\":[]},\"a\":\"\xed\xa0\x80\"}",
+];
+
+#[test]
+fn a_frame_may_be_empty(rt: HostRuntime) -> Result<(), Fail> {
+    for short in EMPTY.iter() {
+        let left = ran_on(rt.alloc(), short)?;
+        assert_left(&rt, short, &left, 0, NO_ENTITY, NONE_TAKEN);
+    }
+    Ok(())
+}
+
+#[test]
+fn a_body_of_no_frame_is_refused(rt: HostRuntime) -> Result<(), Fail> {
+    for short in NO_FRAME.iter() {
+        let left = ran_on(rt.alloc(), short)?;
+        assert_left(&rt, short, &left, 65, b"", BAD_DELIVERY);
+    }
+    Ok(())
+}
+
+#[test]
+fn a_body_that_is_no_json_is_refused(rt: HostRuntime) -> Result<(), Fail> {
+    for body in NO_JSON.iter() {
+        let left = ran_over(rt.alloc(), Some(TRIPS), Some(body))?;
+        assert_left(&rt, "no JSON", &left, 65, b"", BAD_DELIVERY);
+    }
+    Ok(())
+}
+
+// A delivery of one journey with spaces behind it, up to that many bytes.
+fn spaced(alloc: Global, length: usize) -> Result<Vec<u8>, AllocError> {
+    let mut body = Vec::from_slice(alloc, json(alloc, JOURNEY)?.as_str().as_bytes())?;
+    body.resize(length, b' ')?;
+    Ok(body)
+}
+
+#[test]
+fn a_delivery_has_at_most_16777216_bytes(rt: HostRuntime) -> Result<(), Fail> {
+    let longest = spaced(rt.alloc(), MOST)?;
+    let left = ran_over(rt.alloc(), Some(TRIPS), Some(longest.as_slice()))?;
+    assert_left(&rt, "the longest", &left, 0, ONE_ENTITY, ONE_TAKEN);
+    let longer = spaced(rt.alloc(), MOST + 1)?;
+    let left = ran_over(rt.alloc(), Some(TRIPS), Some(longer.as_slice()))?;
+    assert_left(&rt, "one longer", &left, 65, b"", "gateway: TooLong f\n");
+    Ok(())
+}
