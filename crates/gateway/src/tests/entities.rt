@@ -1,6 +1,7 @@
 //! The bytes of entities, as another writer of protobuf gives them (GTFS Realtime, FeedEntity).
-use super::runs::NO_ENTITY;
+use super::runs::{NO_ENTITY, assert_delivery};
 use std::alloc::{AllocError, Global};
+use std::process::Abort;
 
 /// The trip T1 on 2024-05-01, recorded at 2024-05-01T06:00:00Z.
 pub const T1_FIRST: &[u8] = b"\x12'\x0a\x0b20240501:T1\x1a\x18\x0a\x10\x0a\x02T1\x1a\x0820240501 \x03 \xe0\xb4\xc7\xb1\x06";
@@ -43,4 +44,16 @@ pub fn feed_of(alloc: Global, entities: &[&[u8]]) -> Result<Vec<u8>, AllocError>
         feed.extend_from_slice(entity)?;
     }
     Ok(feed)
+}
+
+/// A delivery, which is given by its short text, comes to the feed of these entities and this report.
+pub fn assert_feed(
+    rt: &impl Abort,
+    alloc: Global,
+    short: &str,
+    entities: &[&[u8]],
+    report: &str,
+) {
+    let feed = feed_of(alloc, entities).expect(rt, "memory");
+    assert_delivery(rt, alloc, short, (0, feed.as_slice(), report));
 }

@@ -1,38 +1,36 @@
 //! Devices that fail: what a run then leaves.
 use super::runs::{
-    JOURNEY, ONE_ENTITY, ONE_TAKEN, TRIPS, WORDS, assert_left, folder, json, ran, run, sink,
-    words_of,
+    Given, JOURNEY, ONE_ENTITY, ONE_TAKEN, TRIPS, WORDS, assert_run, json, run_given, sink,
 };
-use std::alloc::{AllocError, Global};
+use std::alloc::Global;
 use std::process::Abort;
-use std::test::Fail;
 
 const FAILED: &str = "gateway: failed\n";
 
-// Reads that fail, and whether the run then fails.
-static READS: [(&[u64], bool); 5] = [
-    (&[1], true),
-    (&[2], true),
-    (&[1, 2], true),
-    (&[3], false),
-    (&[0, 9], false),
+// Reads that fail, each with what the run leaves.
+static READS: [(&[u64], u8, &[u8], &str); 5] = [
+    (&[1], 74, b"", FAILED),
+    (&[2], 74, b"", FAILED),
+    (&[1, 2], 74, b"", FAILED),
+    (&[3], 0, ONE_ENTITY, ONE_TAKEN),
+    (&[0, 9], 0, ONE_ENTITY, ONE_TAKEN),
 ];
 
+// A run on the journey of T1 of which these reads fail leaves this.
+fn assert_reads(rt: &impl Abort, alloc: Global, fails: &[u64], expected: (u8, &[u8], &str)) {
+    let delivery = json(alloc, JOURNEY).expect(rt, "memory");
+    let given = Given {
+        fails,
+        ..with_trips(delivery.as_str().as_bytes())
+    };
+    assert_run(rt, alloc, "reads that fail", &given, expected);
+}
+
 #[test]
-fn a_failed_read_ends_a_run_with_nothing_written(rt: HostRuntime) -> Result<(), Fail> {
-    let words = words_of(rt.alloc(), WORDS)?;
-    let delivery = json(rt.alloc(), JOURNEY)?;
-    for (fails, is_end) in READS.iter() {
-        let body = delivery.as_str().as_bytes();
-        let mut files = folder(rt.alloc(), Some(TRIPS), Some(body), fails)?;
-        let left = ran(rt.alloc(), words.as_slice(), &mut files)?;
-        if *is_end {
-            assert_left(&rt, "a failed read", &left, 74, b"", FAILED);
-        } else {
-            assert_left(&rt, "no failed read", &left, 0, ONE_ENTITY, ONE_TAKEN);
-        }
+fn a_failed_read_ends_a_run_with_nothing_written(rt: HostRuntime) {
+    for (fails, status, out, err) in READS.iter() {
+        assert_reads(&rt, rt.alloc(), fails, (*status, out, err));
     }
-    Ok(())
 }
 
 // The room of a sink, and its writes that fail.
@@ -53,22 +51,32 @@ static SINKS: [(&str, Bounds, Bounds, u8, bool, &str); 10] = [
     ("nothing has room", (0, &[]), (0, &[]), 74, false, ""),
 ];
 
+// The run on the journey of T1 over these sinks ends with that status, all of the feed or only a front
+// of it, and that text on standard error.
+fn assert_written(
+    rt: &impl Abort,
+    alloc: Global,
+    name: &str,
+    (for_out, for_err): (Bounds, Bounds),
+    (status, is_whole, text): (u8, bool, &str),
+) {
+    let delivery = json(alloc, JOURNEY).expect(rt, "memory");
+    let mut out = sink(alloc, for_out.0, for_out.1).expect(rt, "memory");
+    let mut err = sink(alloc, for_err.0, for_err.1).expect(rt, "memory");
+    let given = with_trips(delivery.as_str().as_bytes());
+    let ended = run_given(alloc, &given, &mut out, &mut err).expect(rt, "memory");
+    assert_eq!(rt; err.written(), text.as_bytes(), "standard error, {name}");
+    assert_eq!(rt; ended, status, "status, {name}");
+    assert!(rt; ONE_ENTITY.starts_with(out.written()), "standard output, {name}");
+    assert_eq!(rt; out.written().len() == ONE_ENTITY.len(), is_whole, "length, {name}");
+}
+
 #[test]
-fn a_failed_write_is_a_failure(rt: HostRuntime) -> Result<(), Fail> {
-    let words = words_of(rt.alloc(), WORDS)?;
-    let delivery = json(rt.alloc(), JOURNEY)?;
+fn a_failed_write_is_a_failure(rt: HostRuntime) {
     for (name, for_out, for_err, status, is_whole, text) in SINKS.iter() {
-        let body = delivery.as_str().as_bytes();
-        let mut files = folder(rt.alloc(), Some(TRIPS), Some(body), &[])?;
-        let mut out = sink(rt.alloc(), for_out.0, for_out.1)?;
-        let mut err = sink(rt.alloc(), for_err.0, for_err.1)?;
-        let ended = run(rt.alloc(), words.as_slice(), &mut files, &mut out, &mut err);
-        assert_eq!(rt; err.written(), text.as_bytes(), "{name}");
-        assert_eq!(rt; ended, *status, "{name}");
-        assert!(rt; ONE_ENTITY.starts_with(out.written()), "{name}");
-        assert_eq!(rt; out.written().len() == ONE_ENTITY.len(), *is_whole, "{name}");
+        let ends = (*status, *is_whole, *text);
+        assert_written(&rt, rt.alloc(), name, (*for_out, *for_err), ends);
     }
-    Ok(())
 }
 
 // What a run is given that is refused: the words, the trips, the delivery and the reads that fail; and
@@ -95,32 +103,29 @@ static REFUSALS: [Refusal; 8] = [
 
 // A refusal with these bounds of standard error keeps its status, and standard error gets a front of its
 // text.
-fn assert_front(
-    rt: &impl Abort,
-    alloc: Global,
-    refusal: &Refusal,
-    for_err: (u64, &[u64]),
-) -> Result<(), AllocError> {
-    let (text, trips, delivery, fails, status, fault) = *refusal;
-    let words = words_of(alloc, text)?;
-    let mut files = folder(alloc, trips, delivery, fails)?;
-    let mut out = sink(alloc, 0, &[])?;
-    let mut err = sink(alloc, for_err.0, for_err.1)?;
-    let ended = run(alloc, words.as_slice(), &mut files, &mut out, &mut err);
+fn assert_front(rt: &impl Abort, alloc: Global, refusal: &Refusal, room: u64, fails: &[u64]) {
+    let (words, trips, delivery, reads, status, fault) = *refusal;
+    let given = Given {
+        words,
+        trips,
+        delivery,
+        fails: reads,
+    };
+    let mut out = sink(alloc, 0, &[]).expect(rt, "memory");
+    let mut err = sink(alloc, room, fails).expect(rt, "memory");
+    let ended = run_given(alloc, &given, &mut out, &mut err).expect(rt, "memory");
     assert_eq!(rt; ended, status, "{fault}");
     assert!(rt; fault.as_bytes().starts_with(err.written()), "{fault}");
-    Ok(())
 }
 
 #[test]
-fn a_refusal_keeps_its_status_where_its_text_fails(rt: HostRuntime) -> Result<(), Fail> {
+fn a_refusal_keeps_its_status_where_its_text_fails(rt: HostRuntime) {
     for refusal in REFUSALS.iter() {
         for room in 0..40 {
-            assert_front(&rt, rt.alloc(), refusal, (room, &[]))?;
+            assert_front(&rt, rt.alloc(), refusal, room, &[]);
         }
         for fails in 1..8 {
-            assert_front(&rt, rt.alloc(), refusal, (100, &[fails]))?;
+            assert_front(&rt, rt.alloc(), refusal, 100, &[fails]);
         }
     }
-    Ok(())
 }

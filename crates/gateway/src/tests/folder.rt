@@ -1,6 +1,8 @@
 //! The folder's `trips.txt`: tables that are taken, and tables that are refused.
-use super::runs::{JOURNEY, NO_ENTITY, ONE_ENTITY, ONE_TAKEN, TRIPS, assert_left, json, ran_over};
-use std::test::Fail;
+use super::runs::{
+    Given, NO_ENTITY, ONE_ENTITY, ONE_TAKEN, TRIPS, WORDS, assert_run, assert_trips,
+};
+use std::alloc::{AllocError, Global};
 
 const BAD_TABLE: &str = "gateway: BadTable trips.txt\n";
 
@@ -56,46 +58,38 @@ static BAD: [&[u8]; 15] = [
 ];
 
 #[test]
-fn good_tables_are_taken(rt: HostRuntime) -> Result<(), Fail> {
-    let delivery = json(rt.alloc(), JOURNEY)?;
+fn good_tables_are_taken(rt: HostRuntime) {
     for trips in GOOD.iter() {
-        let left = ran_over(rt.alloc(), Some(trips), Some(delivery.as_str().as_bytes()))?;
-        assert_left(&rt, "a good table", &left, 0, ONE_ENTITY, ONE_TAKEN);
+        assert_trips(&rt, rt.alloc(), "a good table", trips, (0, ONE_ENTITY, ONE_TAKEN));
     }
-    Ok(())
 }
 
 #[test]
-fn bad_tables_are_refused(rt: HostRuntime) -> Result<(), Fail> {
-    let delivery = json(rt.alloc(), JOURNEY)?;
+fn bad_tables_are_refused(rt: HostRuntime) {
     for trips in BAD.iter() {
-        let left = ran_over(rt.alloc(), Some(trips), Some(delivery.as_str().as_bytes()))?;
-        assert_left(&rt, "a bad table", &left, 65, b"", BAD_TABLE);
+        assert_trips(&rt, rt.alloc(), "a bad table", trips, (65, b"", BAD_TABLE));
     }
-    Ok(())
 }
 
 #[test]
-fn a_table_of_no_trips_is_taken(rt: HostRuntime) -> Result<(), Fail> {
-    let delivery = json(rt.alloc(), JOURNEY)?;
-    let left = ran_over(rt.alloc(), Some(b"trip_id\n"), Some(delivery.as_str().as_bytes()))?;
+fn a_table_of_no_trips_is_taken(rt: HostRuntime) {
     let report = "f aside 0 UnknownJourney\nf taken 0 passed 0 aside 1\n";
-    assert_left(&rt, "no trips", &left, 0, NO_ENTITY, report);
-    Ok(())
+    assert_trips(&rt, rt.alloc(), "no trips", b"trip_id\n", (0, NO_ENTITY, report));
+}
+
+// A table with T1 and an id of so many bytes.
+fn long_table(alloc: Global, length: usize) -> Result<Vec<u8>, AllocError> {
+    let mut trips = Vec::from_slice(alloc, b"trip_id\nT1\n")?;
+    trips.resize(11 + length, b'a')?;
+    Ok(trips)
 }
 
 #[test]
-fn an_id_has_at_most_200_bytes(rt: HostRuntime) -> Result<(), Fail> {
-    let delivery = json(rt.alloc(), JOURNEY)?;
-    for (count, status, out, err) in [(200, 0, ONE_ENTITY, ONE_TAKEN), (201, 65, b"", BAD_TABLE)] {
-        let mut trips = Vec::from_slice(rt.alloc(), b"trip_id\nT1\n")?;
-        for _ in 0..count {
-            trips.push(b'a')?;
-        }
-        let left = ran_over(rt.alloc(), Some(trips.as_slice()), Some(delivery.as_str().as_bytes()))?;
-        assert_left(&rt, "a long id", &left, status, out, err);
-    }
-    Ok(())
+fn an_id_has_at_most_200_bytes(rt: HostRuntime) {
+    let longest = long_table(rt.alloc(), 200).expect(&rt, "memory");
+    assert_trips(&rt, rt.alloc(), "the longest id", longest.as_slice(), (0, ONE_ENTITY, ONE_TAKEN));
+    let longer = long_table(rt.alloc(), 201).expect(&rt, "memory");
+    assert_trips(&rt, rt.alloc(), "a longer id", longer.as_slice(), (65, b"", BAD_TABLE));
 }
 
 // Folders and deliveries of which something is wrong: the folder comes first.
@@ -109,10 +103,14 @@ static ORDER: [(Option<&[u8]>, Option<&[u8]>, u8, &str); 6] = [
 ];
 
 #[test]
-fn the_folder_comes_before_the_delivery(rt: HostRuntime) -> Result<(), Fail> {
+fn the_folder_comes_before_the_delivery(rt: HostRuntime) {
     for (trips, delivery, status, err) in ORDER.iter() {
-        let left = ran_over(rt.alloc(), *trips, *delivery)?;
-        assert_left(&rt, err, &left, *status, b"", err);
+        let given = Given {
+            words: WORDS,
+            trips: *trips,
+            delivery: *delivery,
+            fails: &[],
+        };
+        assert_run(&rt, rt.alloc(), err, &given, (*status, b"", err));
     }
-    Ok(())
 }

@@ -1,9 +1,8 @@
 //! The delivery's file: frames that are read, and bodies that are refused.
 use super::runs::{
-    JOURNEY, NO_ENTITY, ONE_ENTITY, ONE_TAKEN, TRIPS, assert_left, json, ran_on, ran_over,
+    JOURNEY, NO_ENTITY, ONE_ENTITY, ONE_TAKEN, assert_delivery, assert_run, json, with_trips,
 };
 use std::alloc::{AllocError, Global};
-use std::test::Fail;
 
 // The most bytes of a delivery.
 const MOST: usize = 16_777_216;
@@ -83,30 +82,24 @@ static NO_JSON: [&[u8]; 10] = [
 ];
 
 #[test]
-fn a_frame_may_be_empty(rt: HostRuntime) -> Result<(), Fail> {
+fn a_frame_may_be_empty(rt: HostRuntime) {
     for short in EMPTY.iter() {
-        let left = ran_on(rt.alloc(), short)?;
-        assert_left(&rt, short, &left, 0, NO_ENTITY, NONE_TAKEN);
+        assert_delivery(&rt, rt.alloc(), short, (0, NO_ENTITY, NONE_TAKEN));
     }
-    Ok(())
 }
 
 #[test]
-fn a_body_of_no_frame_is_refused(rt: HostRuntime) -> Result<(), Fail> {
+fn a_body_of_no_frame_is_refused(rt: HostRuntime) {
     for short in NO_FRAME.iter() {
-        let left = ran_on(rt.alloc(), short)?;
-        assert_left(&rt, short, &left, 65, b"", BAD_DELIVERY);
+        assert_delivery(&rt, rt.alloc(), short, (65, b"", BAD_DELIVERY));
     }
-    Ok(())
 }
 
 #[test]
-fn a_body_that_is_no_json_is_refused(rt: HostRuntime) -> Result<(), Fail> {
+fn a_body_that_is_no_json_is_refused(rt: HostRuntime) {
     for body in NO_JSON.iter() {
-        let left = ran_over(rt.alloc(), Some(TRIPS), Some(body))?;
-        assert_left(&rt, "no JSON", &left, 65, b"", BAD_DELIVERY);
+        assert_run(&rt, rt.alloc(), "no JSON", &with_trips(body), (65, b"", BAD_DELIVERY));
     }
-    Ok(())
 }
 
 // A delivery of one journey with spaces behind it, up to that many bytes.
@@ -117,12 +110,11 @@ fn spaced(alloc: Global, length: usize) -> Result<Vec<u8>, AllocError> {
 }
 
 #[test]
-fn a_delivery_has_at_most_16777216_bytes(rt: HostRuntime) -> Result<(), Fail> {
-    let longest = spaced(rt.alloc(), MOST)?;
-    let left = ran_over(rt.alloc(), Some(TRIPS), Some(longest.as_slice()))?;
-    assert_left(&rt, "the longest", &left, 0, ONE_ENTITY, ONE_TAKEN);
-    let longer = spaced(rt.alloc(), MOST + 1)?;
-    let left = ran_over(rt.alloc(), Some(TRIPS), Some(longer.as_slice()))?;
-    assert_left(&rt, "one longer", &left, 65, b"", "gateway: TooLong f\n");
-    Ok(())
+fn a_delivery_has_at_most_16777216_bytes(rt: HostRuntime) {
+    let longest = spaced(rt.alloc(), MOST).expect(&rt, "memory");
+    let given_longest = with_trips(longest.as_slice());
+    assert_run(&rt, rt.alloc(), "the longest", &given_longest, (0, ONE_ENTITY, ONE_TAKEN));
+    let longer = spaced(rt.alloc(), MOST + 1).expect(&rt, "memory");
+    let given_longer = with_trips(longer.as_slice());
+    assert_run(&rt, rt.alloc(), "one longer", &given_longer, (65, b"", "gateway: TooLong f\n"));
 }

@@ -1,8 +1,10 @@
 //! The items of a delivery: which are taken, and why others are set aside.
-use super::entities::{T1_EARLIER, T1_FIRST, T1_NEWEST, T1_OLDEST, T1_SECOND, T2_FIRST, feed_of};
-use super::runs::{NO_ENTITY, ONE_TAKEN, assert_left, ran_on};
-use std::alloc::{AllocError, Global};
-use std::test::Fail;
+use super::entities::{
+    T1_EARLIER, T1_FIRST, T1_NEWEST, T1_OLDEST, T1_SECOND, T2_FIRST, assert_feed,
+};
+use super::runs::{NO_ENTITY, ONE_TAKEN, assert_delivery};
+use std::alloc::Global;
+use std::process::Abort;
 
 // Items that are set aside, each with its fault. The letters are those of `json`.
 static ASIDE: [(&str, &str); 64] = [
@@ -153,39 +155,37 @@ static SEVERAL: [(&str, &[&[u8]], &str); 9] = [
     ),
 ];
 
-// The short text of a delivery with one item.
-fn with_item(alloc: Global, item: &str) -> Result<String, AllocError> {
-    format!(in alloc; "$<{item}$>")
+// A delivery of one item, which is set aside for that fault.
+fn assert_aside(rt: &impl Abort, alloc: Global, item: &str, fault: &str) {
+    let short = format!(in alloc; "$<{item}$>").expect(rt, "memory");
+    let report = format!(in alloc; "f aside 0 {fault}\nf taken 0 passed 0 aside 1\n");
+    let report = report.expect(rt, "memory");
+    assert_delivery(rt, alloc, short.as_str(), (0, NO_ENTITY, report.as_str()));
+}
+
+// A delivery of one item, which is taken and has that entity.
+fn assert_taken(rt: &impl Abort, alloc: Global, item: &str, entity: &[u8]) {
+    let short = format!(in alloc; "$<{item}$>").expect(rt, "memory");
+    assert_feed(rt, alloc, short.as_str(), &[entity], ONE_TAKEN);
 }
 
 #[test]
-fn an_item_with_a_fault_is_set_aside(rt: HostRuntime) -> Result<(), Fail> {
+fn an_item_with_a_fault_is_set_aside(rt: HostRuntime) {
     for (item, fault) in ASIDE.iter() {
-        let short = with_item(rt.alloc(), item)?;
-        let left = ran_on(rt.alloc(), short.as_str())?;
-        let report = format!(in rt.alloc(); "f aside 0 {fault}\nf taken 0 passed 0 aside 1\n")?;
-        assert_left(&rt, item, &left, 0, NO_ENTITY, report.as_str());
+        assert_aside(&rt, rt.alloc(), item, fault);
     }
-    Ok(())
 }
 
 #[test]
-fn an_item_without_a_fault_is_taken(rt: HostRuntime) -> Result<(), Fail> {
+fn an_item_without_a_fault_is_taken(rt: HostRuntime) {
     for (item, entity) in TAKEN.iter() {
-        let short = with_item(rt.alloc(), item)?;
-        let left = ran_on(rt.alloc(), short.as_str())?;
-        let feed = feed_of(rt.alloc(), &[entity])?;
-        assert_left(&rt, item, &left, 0, feed.as_slice(), ONE_TAKEN);
+        assert_taken(&rt, rt.alloc(), item, entity);
     }
-    Ok(())
 }
 
 #[test]
-fn of_the_items_of_a_journey_the_first_counts(rt: HostRuntime) -> Result<(), Fail> {
+fn of_the_items_of_a_journey_the_first_counts(rt: HostRuntime) {
     for (short, entities, report) in SEVERAL.iter() {
-        let left = ran_on(rt.alloc(), short)?;
-        let feed = feed_of(rt.alloc(), entities)?;
-        assert_left(&rt, short, &left, 0, feed.as_slice(), report);
+        assert_feed(&rt, rt.alloc(), short, entities, report);
     }
-    Ok(())
 }

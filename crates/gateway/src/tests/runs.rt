@@ -145,49 +145,91 @@ pub fn run(
     )
 }
 
-/// What a run left: its status, standard output and standard error.
-#[derive(Drop)]
-pub struct Left {
-    pub status: u8,
-    pub out: MemorySink,
-    pub err: MemorySink,
+/// What a run is given: the words as a text, the trips and the delivery, where they are there, and the
+/// reads that fail.
+#[derive(Clone, Copy)]
+pub struct Given<'a> {
+    pub words: &'a str,
+    pub trips: Option<&'a [u8]>,
+    pub delivery: Option<&'a [u8]>,
+    pub fails: &'a [u64],
 }
 
-/// A run of words over files, with sinks that are large enough.
-pub fn ran(alloc: Global, words: &[Text], files: &mut MemoryFiles) -> Result<Left, AllocError> {
+/// The accepted words with the usual trips and this delivery.
+pub fn with_trips(delivery: &[u8]) -> Given<'_> {
+    Given {
+        words: WORDS,
+        trips: Some(TRIPS),
+        delivery: Some(delivery),
+        fails: &[],
+    }
+}
+
+/// A run over these sinks, with its status.
+pub fn run_given(
+    alloc: Global,
+    given: &Given,
+    out: &mut MemorySink,
+    err: &mut MemorySink,
+) -> Result<u8, AllocError> {
+    let words = words_of(alloc, given.words)?;
+    let mut files = folder(alloc, given.trips, given.delivery, given.fails)?;
+    Ok(run(alloc, words.as_slice(), &mut files, out, err))
+}
+
+// What a run left: its status, standard output and standard error.
+#[derive(Drop)]
+struct Left {
+    status: u8,
+    out: MemorySink,
+    err: MemorySink,
+}
+
+// What a run with sinks that are large enough left.
+fn left_by(alloc: Global, given: &Given) -> Result<Left, AllocError> {
     let mut out = sink(alloc, 10_000, &[])?;
     let mut err = sink(alloc, 10_000, &[])?;
-    let status = run(alloc, words, files, &mut out, &mut err);
+    let status = run_given(alloc, given, &mut out, &mut err)?;
     Ok(Left { status, out, err })
 }
 
-/// A run of the accepted words over these files.
-pub fn ran_over(
-    alloc: Global,
-    trips: Option<&[u8]>,
-    delivery: Option<&[u8]>,
-) -> Result<Left, AllocError> {
-    let words = words_of(alloc, WORDS)?;
-    let mut files = folder(alloc, trips, delivery, &[])?;
-    ran(alloc, words.as_slice(), &mut files)
-}
-
-/// A run of the accepted words over the usual trips, and a delivery by its short text.
-pub fn ran_on(alloc: Global, short: &str) -> Result<Left, AllocError> {
-    let delivery = json(alloc, short)?;
-    ran_over(alloc, Some(TRIPS), Some(delivery.as_str().as_bytes()))
-}
-
-/// A run left exactly this.
-pub fn assert_left(
+/// The run of that name leaves exactly this.
+pub fn assert_run(
     rt: &impl Abort,
+    alloc: Global,
     name: &str,
-    left: &Left,
-    status: u8,
-    out: &[u8],
-    err: &str,
+    given: &Given,
+    (status, out, err): (u8, &[u8], &str),
 ) {
+    let left = left_by(alloc, given).expect(rt, "memory");
     assert_eq!(rt; left.err.written(), err.as_bytes(), "standard error of {name}");
     assert_eq!(rt; left.status, status, "status of {name}");
     assert_eq!(rt; left.out.written(), out, "standard output of {name}");
+}
+
+/// The run on a delivery, which is given by its short text, leaves exactly this.
+pub fn assert_delivery(
+    rt: &impl Abort,
+    alloc: Global,
+    short: &str,
+    expected: (u8, &[u8], &str),
+) {
+    let delivery = json(alloc, short).expect(rt, "memory");
+    assert_run(rt, alloc, short, &with_trips(delivery.as_str().as_bytes()), expected);
+}
+
+/// The run with these trips on the journey of T1 leaves exactly this.
+pub fn assert_trips(
+    rt: &impl Abort,
+    alloc: Global,
+    name: &str,
+    trips: &[u8],
+    expected: (u8, &[u8], &str),
+) {
+    let delivery = json(alloc, JOURNEY).expect(rt, "memory");
+    let given = Given {
+        trips: Some(trips),
+        ..with_trips(delivery.as_str().as_bytes())
+    };
+    assert_run(rt, alloc, name, &given, expected);
 }

@@ -1,12 +1,8 @@
 //! Words that are no command's, and words that are.
-use super::runs::{
-    JOURNEY, ONE_ENTITY, ONE_TAKEN, TRIPS, WORDS, assert_left, folder, json, ran, run, sink,
-    words_of, words_with,
-};
-use gw_base::{Bytes, FileFault, Files, Sink, Text};
+use super::runs::{Given, WORDS, assert_run, folder, run, sink, words_of, words_with};
+use gw_base::{Bytes, Files, MemorySink, Sink, Text};
 use std::alloc::{AllocError, Global};
 use std::process::Abort;
-use std::test::Fail;
 
 // Words that are wrong where they stand in the accepted list.
 static WRONG: [(usize, &str); 42] = [
@@ -57,17 +53,6 @@ static WRONG: [(usize, &str); 42] = [
     (12, ""),
 ];
 
-// Words that are as good as those which they stand for.
-static RIGHT: [(usize, &str); 7] = [
-    (4, "no rule"),
-    (6, "2024-04-30"),
-    (8, "1"),
-    (8, "32"),
-    (8, "02"),
-    (8, "0000000002"),
-    (8, "0000000032"),
-];
-
 // Lists of words, each with where it stops being the start of an accepted one.
 static LISTS: [(&str, usize); 8] = [
     ("", 0),
@@ -95,80 +80,101 @@ static LISTS: [(&str, usize); 8] = [
     ),
 ];
 
-// Lists of words with the first and the last window that there are.
-static ENDS: [&str; 2] = [
-    "to-gtfsrt --gtfs g --zone-rule R --from 1971-01-01 --days 1 --at 2024-05-01T06:00:00Z --et f",
-    "to-gtfsrt --gtfs g --zone-rule R --from 9997-12-31 --days 1 --at 2024-05-01T06:00:00Z --et f",
+// Lists of words that are accepted.
+static RIGHT: [&str; 13] = [
+    // Each rule, each number of days.
+    "to-gtfsrt --gtfs g --zone-rule CET-1CEST,M3.5.0,M10.5.0/3 --from 2024-05-01 --days 2 --at 2024-05-01T06:00:00Z --et f",
+    "to-gtfsrt --gtfs g --zone-rule - --from 2024-05-01 --days 2 --at 2024-05-01T06:00:00Z --et f",
+    "to-gtfsrt --gtfs g --zone-rule CET-1CEST,M3.5.0,M10.5.0/3 --from 2024-05-01 --days 1 --at 2024-05-01T06:00:00Z --et f",
+    "to-gtfsrt --gtfs g --zone-rule CET-1CEST,M3.5.0,M10.5.0/3 --from 2024-05-01 --days 32 --at 2024-05-01T06:00:00Z --et f",
+    "to-gtfsrt --gtfs g --zone-rule CET-1CEST,M3.5.0,M10.5.0/3 --from 2024-05-01 --days 02 --at 2024-05-01T06:00:00Z --et f",
+    "to-gtfsrt --gtfs g --zone-rule CET-1CEST,M3.5.0,M10.5.0/3 --from 2024-05-01 --days 0000000002 --at 2024-05-01T06:00:00Z --et f",
+    "to-gtfsrt --gtfs g --zone-rule CET-1CEST,M3.5.0,M10.5.0/3 --from 2024-05-01 --days 0000000032 --at 2024-05-01T06:00:00Z --et f",
+    // The first and the last window and moment.
+    "to-gtfsrt --gtfs g --zone-rule CET-1CEST,M3.5.0,M10.5.0/3 --from 1971-01-01 --days 32 --at 2024-05-01T06:00:00Z --et f",
+    "to-gtfsrt --gtfs g --zone-rule CET-1CEST,M3.5.0,M10.5.0/3 --from 9997-12-31 --days 1 --at 2024-05-01T06:00:00Z --et f",
+    "to-gtfsrt --gtfs g --zone-rule CET-1CEST,M3.5.0,M10.5.0/3 --from 9997-11-30 --days 32 --at 2024-05-01T06:00:00Z --et f",
+    "to-gtfsrt --gtfs g --zone-rule CET-1CEST,M3.5.0,M10.5.0/3 --from 2024-02-29 --days 2 --at 2024-05-01T06:00:00Z --et f",
+    "to-gtfsrt --gtfs g --zone-rule CET-1CEST,M3.5.0,M10.5.0/3 --from 2024-05-01 --days 2 --at 1970-01-01T00:00:00Z --et f",
+    "to-gtfsrt --gtfs g --zone-rule CET-1CEST,M3.5.0,M10.5.0/3 --from 2024-05-01 --days 2 --at 9998-12-31T23:59:59Z --et f",
 ];
 
-// The words are refused at that place, and no device but standard error was called: the first call of
-// each other one is to fail, and is still to come.
-fn assert_refused(
+// A run that calls no device but standard error: the first call of each other one is to fail, and is
+// still to come. Answers its status.
+fn run_uncalled(
     rt: &impl Abort,
     alloc: Global,
     words: &[Text],
-    at: usize,
-) -> Result<(), AllocError> {
+    err: &mut MemorySink,
+) -> Result<u8, AllocError> {
     let mut files = folder(alloc, None, None, &[1])?;
     let mut out = sink(alloc, 100, &[1])?;
-    let mut err = sink(alloc, 100, &[])?;
-    let status = run(alloc, words, &mut files, &mut out, &mut err);
-    let fault = format!(in alloc; "gateway: bad word {at}\n")?;
+    let status = run(alloc, words, &mut files, &mut out, err);
+    let mut into = Bytes::new(alloc);
+    assert!(rt; files.read_file("f", 9, &mut into).is_err(), "files of {words:?}");
+    assert!(rt; out.write(b"a").is_err(), "standard output of {words:?}");
+    Ok(status)
+}
+
+// The words are refused at that place.
+fn assert_refused(rt: &impl Abort, alloc: Global, words: &[Text], at: usize) {
+    let mut err = sink(alloc, 100, &[]).expect(rt, "memory");
+    let status = run_uncalled(rt, alloc, words, &mut err).expect(rt, "memory");
+    let fault = format!(in alloc; "gateway: bad word {at}\n").expect(rt, "memory");
     assert_eq!(rt; err.written(), fault.as_str().as_bytes(), "standard error of {words:?}");
     assert_eq!(rt; status, 2, "status of {words:?}");
-    let mut into = Bytes::new(alloc);
-    assert_eq!(rt; files.read_file("f", 9, &mut into), Err(FileFault::Failed), "files of {words:?}");
-    assert!(rt; out.write(b"a").is_err(), "standard output of {words:?}");
-    Ok(())
+}
+
+// The first words of the accepted list, where they break off.
+fn assert_front_refused(rt: &impl Abort, alloc: Global, count: usize) {
+    let mut words = words_of(alloc, WORDS).expect(rt, "memory");
+    words.truncate(count);
+    assert_refused(rt, alloc, words.as_slice(), count);
+}
+
+// The accepted list with a wrong word in that place.
+fn assert_word_refused(rt: &impl Abort, alloc: Global, place: usize, word: &str) {
+    let words = words_with(alloc, WORDS, place, word).expect(rt, "memory");
+    assert_refused(rt, alloc, words.as_slice(), place);
+}
+
+// A list of words.
+fn assert_list_refused(rt: &impl Abort, alloc: Global, text: &str, at: usize) {
+    let words = words_of(alloc, text).expect(rt, "memory");
+    assert_refused(rt, alloc, words.as_slice(), at);
 }
 
 #[test]
-fn a_list_that_breaks_off_is_refused_at_its_end(rt: HostRuntime) -> Result<(), Fail> {
+fn a_list_that_breaks_off_is_refused_at_its_end(rt: HostRuntime) {
     for count in 0..13 {
-        let mut words = words_of(rt.alloc(), WORDS)?;
-        words.truncate(count);
-        assert_refused(&rt, rt.alloc(), words.as_slice(), count)?;
+        assert_front_refused(&rt, rt.alloc(), count);
     }
-    Ok(())
 }
 
 #[test]
-fn a_wrong_word_is_refused_in_its_place(rt: HostRuntime) -> Result<(), Fail> {
+fn a_wrong_word_is_refused_in_its_place(rt: HostRuntime) {
     for (place, word) in WRONG.iter() {
-        let words = words_with(rt.alloc(), WORDS, *place, word)?;
-        assert_refused(&rt, rt.alloc(), words.as_slice(), *place)?;
+        assert_word_refused(&rt, rt.alloc(), *place, word);
     }
-    Ok(())
 }
 
 #[test]
-fn words_that_are_no_command_are_refused(rt: HostRuntime) -> Result<(), Fail> {
-    for (text, place) in LISTS.iter() {
-        let words = words_of(rt.alloc(), text)?;
-        assert_refused(&rt, rt.alloc(), words.as_slice(), *place)?;
+fn words_that_are_no_command_are_refused(rt: HostRuntime) {
+    for (text, at) in LISTS.iter() {
+        assert_list_refused(&rt, rt.alloc(), text, *at);
     }
-    Ok(())
 }
 
+// Without a file, words that are accepted come to a missing one.
 #[test]
-fn words_that_are_as_good_are_accepted(rt: HostRuntime) -> Result<(), Fail> {
-    for (place, word) in RIGHT.iter() {
-        let words = words_with(rt.alloc(), WORDS, *place, word)?;
-        let delivery = json(rt.alloc(), JOURNEY)?;
-        let mut files = folder(rt.alloc(), Some(TRIPS), Some(delivery.as_str().as_bytes()), &[])?;
-        let left = ran(rt.alloc(), words.as_slice(), &mut files)?;
-        assert_left(&rt, word, &left, 0, ONE_ENTITY, ONE_TAKEN);
+fn words_of_a_command_are_accepted(rt: HostRuntime) {
+    for words in RIGHT.iter() {
+        let given = Given {
+            words,
+            trips: None,
+            delivery: None,
+            fails: &[],
+        };
+        assert_run(&rt, rt.alloc(), words, &given, (66, b"", "gateway: Missing g/trips.txt\n"));
     }
-    Ok(())
-}
-
-#[test]
-fn the_first_and_the_last_window_are_accepted(rt: HostRuntime) -> Result<(), Fail> {
-    for text in ENDS.iter() {
-        let words = words_of(rt.alloc(), text)?;
-        let mut files = folder(rt.alloc(), None, None, &[])?;
-        let left = ran(rt.alloc(), words.as_slice(), &mut files)?;
-        assert_left(&rt, text, &left, 66, b"", "gateway: Missing g/trips.txt\n");
-    }
-    Ok(())
 }
