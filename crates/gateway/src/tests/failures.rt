@@ -1,6 +1,7 @@
 //! Devices that fail: what a run then leaves.
 use super::runs::{
     Given, JOURNEY, ONE_ENTITY, ONE_TAKEN, TRIPS, WORDS, assert_run, json, run_given, sink,
+    with_trips,
 };
 use std::alloc::Global;
 use std::process::Abort;
@@ -19,10 +20,7 @@ static READS: [(&[u64], u8, &[u8], &str); 5] = [
 // A run on the journey of T1 of which these reads fail leaves this.
 fn assert_reads(rt: &impl Abort, alloc: Global, fails: &[u64], expected: (u8, &[u8], &str)) {
     let delivery = json(alloc, JOURNEY).expect(rt, "memory");
-    let given = Given {
-        fails,
-        ..with_trips(delivery.as_str().as_bytes())
-    };
+    let given = with_trips(delivery.as_str().as_bytes(), fails);
     assert_run(rt, alloc, "reads that fail", &given, expected);
 }
 
@@ -41,13 +39,48 @@ type Bounds = (u64, &'static [u64]);
 static SINKS: [(&str, Bounds, Bounds, u8, bool, &str); 10] = [
     ("enough", (56, &[]), (27, &[]), 0, true, ONE_TAKEN),
     ("the feed fails", (100, &[1]), (100, &[]), 74, false, FAILED),
-    ("the feed has no room", (0, &[]), (100, &[]), 74, false, FAILED),
-    ("the feed has too little room", (55, &[]), (100, &[]), 74, false, FAILED),
-    ("the header has no room", (14, &[]), (16, &[]), 74, false, FAILED),
+    (
+        "the feed has no room",
+        (0, &[]),
+        (100, &[]),
+        74,
+        false,
+        FAILED,
+    ),
+    (
+        "the feed has too little room",
+        (55, &[]),
+        (100, &[]),
+        74,
+        false,
+        FAILED,
+    ),
+    (
+        "the header has no room",
+        (14, &[]),
+        (16, &[]),
+        74,
+        false,
+        FAILED,
+    ),
     ("the report fails", (56, &[]), (100, &[1]), 74, true, FAILED),
-    ("the report and its fault fail", (56, &[]), (100, &[1, 2]), 74, true, ""),
+    (
+        "the report and its fault fail",
+        (56, &[]),
+        (100, &[1, 2]),
+        74,
+        true,
+        "",
+    ),
     ("the report has no room", (56, &[]), (0, &[]), 74, true, ""),
-    ("the feed and its fault fail", (100, &[1]), (100, &[1]), 74, false, ""),
+    (
+        "the feed and its fault fail",
+        (100, &[1]),
+        (100, &[1]),
+        74,
+        false,
+        "",
+    ),
     ("nothing has room", (0, &[]), (0, &[]), 74, false, ""),
 ];
 
@@ -63,12 +96,19 @@ fn assert_written(
     let delivery = json(alloc, JOURNEY).expect(rt, "memory");
     let mut out = sink(alloc, for_out.0, for_out.1).expect(rt, "memory");
     let mut err = sink(alloc, for_err.0, for_err.1).expect(rt, "memory");
-    let given = with_trips(delivery.as_str().as_bytes());
+    let given = with_trips(delivery.as_str().as_bytes(), &[]);
     let ended = run_given(alloc, &given, &mut out, &mut err).expect(rt, "memory");
     assert_eq!(rt; err.written(), text.as_bytes(), "standard error, {name}");
     assert_eq!(rt; ended, status, "status, {name}");
-    assert!(rt; ONE_ENTITY.starts_with(out.written()), "standard output, {name}");
-    assert_eq!(rt; out.written().len() == ONE_ENTITY.len(), is_whole, "length, {name}");
+    assert!(rt;
+        ONE_ENTITY.starts_with(out.written()),
+        "standard output, {name}"
+    );
+    assert_eq!(rt;
+        out.written().len() == ONE_ENTITY.len(),
+        is_whole,
+        "length, {name}"
+    );
 }
 
 #[test]
@@ -93,10 +133,31 @@ type Refusal = (
 static REFUSALS: [Refusal; 8] = [
     ("to-siri", None, None, &[], 2, "gateway: bad word 0\n"),
     (WORDS, None, None, &[], 66, "gateway: Missing g/trips.txt\n"),
-    (WORDS, Some(b""), None, &[], 65, "gateway: BadTable trips.txt\n"),
-    (WORDS, Some(b""), None, &[2], 65, "gateway: BadTable trips.txt\n"),
+    (
+        WORDS,
+        Some(b""),
+        None,
+        &[],
+        65,
+        "gateway: BadTable trips.txt\n",
+    ),
+    (
+        WORDS,
+        Some(b""),
+        None,
+        &[2],
+        65,
+        "gateway: BadTable trips.txt\n",
+    ),
     (WORDS, Some(TRIPS), None, &[], 66, "gateway: Missing f\n"),
-    (WORDS, Some(TRIPS), Some(b"{}"), &[], 65, "gateway: f BadDelivery\n"),
+    (
+        WORDS,
+        Some(TRIPS),
+        Some(b"{}"),
+        &[],
+        65,
+        "gateway: f BadDelivery\n",
+    ),
     (WORDS, Some(TRIPS), Some(b"{}"), &[2], 74, FAILED),
     (WORDS, None, None, &[1], 74, FAILED),
 ];

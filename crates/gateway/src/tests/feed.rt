@@ -15,13 +15,15 @@ const MIXED: &str = "$<{'RecordedAtTime':'2024-04-30T00:00:00Z',$F:{$D:'2024-05-
     {$R,$1,$C},\
     {$R,$F:{$D:'2024-05-02',$I:'L1'},$C}$>";
 
-const MIXED_REPORT: &str = "f aside 1 OutOfWindow\nf aside 4 UnknownJourney\nf aside 7 NotYet\nf taken 5 passed 0 aside 3\n";
+const MIXED_REPORT: &str =
+    "f aside 1 OutOfWindow\nf aside 4 UnknownJourney\nf aside 7 NotYet\nf taken 5 passed 0 aside 3\n";
 
 // Trips of other ids, with their journeys.
 const OTHER_TRIPS: &[u8] =
     b"trip_id\nZ\xc3\xbcrich\na-trip-whose-entity-has-more-than-127-bytes-0123\n";
 
-const OTHER_JOURNEYS: &str = "$<{$R,$F:{$D:'2024-05-01',$I:'a-trip-whose-entity-has-more-than-127-bytes-0123'},$C},\
+const OTHER_JOURNEYS: &str =
+    "$<{$R,$F:{$D:'2024-05-01',$I:'a-trip-whose-entity-has-more-than-127-bytes-0123'},$C},\
     {$R,$F:{$D:'2024-05-01',$I:'Z\\u00fcrich'},$C}$>";
 
 #[test]
@@ -36,7 +38,7 @@ fn long_ids_and_ids_of_any_letters_are_written(rt: HostRuntime) {
     let delivery = json(rt.alloc(), OTHER_JOURNEYS).expect(&rt, "memory");
     let given = Given {
         trips: Some(OTHER_TRIPS),
-        ..with_trips(delivery.as_str().as_bytes())
+        ..with_trips(delivery.as_str().as_bytes(), &[])
     };
     let expected = (0, feed.as_slice(), "f taken 2 passed 0 aside 0\n");
     assert_run(&rt, rt.alloc(), "other ids", &given, expected);

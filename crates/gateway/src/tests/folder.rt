@@ -60,7 +60,13 @@ static BAD: [&[u8]; 15] = [
 #[test]
 fn good_tables_are_taken(rt: HostRuntime) {
     for trips in GOOD.iter() {
-        assert_trips(&rt, rt.alloc(), "a good table", trips, (0, ONE_ENTITY, ONE_TAKEN));
+        assert_trips(
+            &rt,
+            rt.alloc(),
+            "a good table",
+            trips,
+            (0, ONE_ENTITY, ONE_TAKEN),
+        );
     }
 }
 
@@ -74,22 +80,42 @@ fn bad_tables_are_refused(rt: HostRuntime) {
 #[test]
 fn a_table_of_no_trips_is_taken(rt: HostRuntime) {
     let report = "f aside 0 UnknownJourney\nf taken 0 passed 0 aside 1\n";
-    assert_trips(&rt, rt.alloc(), "no trips", b"trip_id\n", (0, NO_ENTITY, report));
+    assert_trips(
+        &rt,
+        rt.alloc(),
+        "no trips",
+        b"trip_id\n",
+        (0, NO_ENTITY, report),
+    );
 }
 
 // A table with T1 and an id of so many bytes.
 fn long_table(alloc: Global, length: usize) -> Result<Vec<u8>, AllocError> {
     let mut trips = Vec::from_slice(alloc, b"trip_id\nT1\n")?;
-    trips.resize(11 + length, b'a')?;
+    for _ in 0..length {
+        trips.push(b'a')?;
+    }
     Ok(trips)
 }
 
 #[test]
 fn an_id_has_at_most_200_bytes(rt: HostRuntime) {
     let longest = long_table(rt.alloc(), 200).expect(&rt, "memory");
-    assert_trips(&rt, rt.alloc(), "the longest id", longest.as_slice(), (0, ONE_ENTITY, ONE_TAKEN));
+    assert_trips(
+        &rt,
+        rt.alloc(),
+        "the longest id",
+        longest.as_slice(),
+        (0, ONE_ENTITY, ONE_TAKEN),
+    );
     let longer = long_table(rt.alloc(), 201).expect(&rt, "memory");
-    assert_trips(&rt, rt.alloc(), "a longer id", longer.as_slice(), (65, b"", BAD_TABLE));
+    assert_trips(
+        &rt,
+        rt.alloc(),
+        "a longer id",
+        longer.as_slice(),
+        (65, b"", BAD_TABLE),
+    );
 }
 
 // Folders and deliveries of which something is wrong: the folder comes first.
@@ -99,7 +125,12 @@ static ORDER: [(Option<&[u8]>, Option<&[u8]>, u8, &str); 6] = [
     (Some(b""), None, 65, "gateway: BadTable trips.txt\n"),
     (Some(b""), Some(b"{}"), 65, "gateway: BadTable trips.txt\n"),
     (Some(b"trip_id\n"), None, 66, "gateway: Missing f\n"),
-    (Some(b"trip_id\n"), Some(b"{}"), 65, "gateway: f BadDelivery\n"),
+    (
+        Some(b"trip_id\n"),
+        Some(b"{}"),
+        65,
+        "gateway: f BadDelivery\n",
+    ),
 ];
 
 #[test]

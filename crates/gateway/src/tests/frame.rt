@@ -98,7 +98,13 @@ fn a_body_of_no_frame_is_refused(rt: HostRuntime) {
 #[test]
 fn a_body_that_is_no_json_is_refused(rt: HostRuntime) {
     for body in NO_JSON.iter() {
-        assert_run(&rt, rt.alloc(), "no JSON", &with_trips(body), (65, b"", BAD_DELIVERY));
+        assert_run(
+            &rt,
+            rt.alloc(),
+            "no JSON",
+            &with_trips(body, &[]),
+            (65, b"", BAD_DELIVERY),
+        );
     }
 }
 
@@ -112,9 +118,21 @@ fn spaced(alloc: Global, length: usize) -> Result<Vec<u8>, AllocError> {
 #[test]
 fn a_delivery_has_at_most_16777216_bytes(rt: HostRuntime) {
     let longest = spaced(rt.alloc(), MOST).expect(&rt, "memory");
-    let given_longest = with_trips(longest.as_slice());
-    assert_run(&rt, rt.alloc(), "the longest", &given_longest, (0, ONE_ENTITY, ONE_TAKEN));
+    let given_longest = with_trips(longest.as_slice(), &[]);
+    assert_run(
+        &rt,
+        rt.alloc(),
+        "the longest",
+        &given_longest,
+        (0, ONE_ENTITY, ONE_TAKEN),
+    );
     let longer = spaced(rt.alloc(), MOST + 1).expect(&rt, "memory");
-    let given_longer = with_trips(longer.as_slice());
-    assert_run(&rt, rt.alloc(), "one longer", &given_longer, (65, b"", "gateway: TooLong f\n"));
+    let given_longer = with_trips(longer.as_slice(), &[]);
+    assert_run(
+        &rt,
+        rt.alloc(),
+        "one longer",
+        &given_longer,
+        (65, b"", "gateway: TooLong f\n"),
+    );
 }

@@ -19,14 +19,26 @@ static ASIDE: [(&str, &str); 64] = [
     ("{'RecordedAtTime':null,$1,$C}", "NotYet"),
     ("{'RecordedAtTime':1714543200,$1,$C}", "NotYet"),
     ("{'RecordedAtTime':'',$1,$C}", "NotYet"),
-    ("{'RecordedAtTime':'2024-05-01T08:00:00+02:00',$1,$C}", "NotYet"),
+    (
+        "{'RecordedAtTime':'2024-05-01T08:00:00+02:00',$1,$C}",
+        "NotYet",
+    ),
     ("{'RecordedAtTime':'2024-05-01T06:00:00',$1,$C}", "NotYet"),
-    ("{'RecordedAtTime':'2024-05-01T06:00:00.5Z',$1,$C}", "NotYet"),
+    (
+        "{'RecordedAtTime':'2024-05-01T06:00:00.5Z',$1,$C}",
+        "NotYet",
+    ),
     ("{'RecordedAtTime':'2024-05-01T06:00:60Z',$1,$C}", "NotYet"),
     ("{'RecordedAtTime':'2024-02-30T06:00:00Z',$1,$C}", "NotYet"),
     ("{'RecordedAtTime':'1969-12-31T23:59:59Z',$1,$C}", "NotYet"),
-    ("{'RecordedAtTime':['2024-05-01T06:00:00Z'],$1,$C}", "NotYet"),
-    ("{'RecordedAtTime':{'value':'2024-05-01T06:00:00Z'},$1,$C}", "NotYet"),
+    (
+        "{'RecordedAtTime':['2024-05-01T06:00:00Z'],$1,$C}",
+        "NotYet",
+    ),
+    (
+        "{'RecordedAtTime':{'value':'2024-05-01T06:00:00Z'},$1,$C}",
+        "NotYet",
+    ),
     ("{'recordedAtTime':'2024-05-01T06:00:00Z',$1,$C}", "NotYet"),
     // FramedVehicleJourneyRef.
     ("{$R,$C}", "NotYet"),
@@ -74,12 +86,30 @@ static ASIDE: [(&str, &str); 64] = [
     // Two faults at once.
     ("{$R,$F:{$D:'2024-05-03',$I:'NOPE'},$C}", "UnknownJourney"),
     ("{$R,$F:{$I:'NOPE',$D:'2024-04-30'},$C}", "UnknownJourney"),
-    ("{'RecordedAtTime':'',$F:{$D:'2024-05-01',$I:'NOPE'},$C}", "NotYet"),
-    ("{$C,$F:{$I:'NOPE',$D:'2024-05-01'},'RecordedAtTime':7}", "NotYet"),
-    ("{$R,$F:{$D:'2024-05-03',$I:'T1'},'Cancellation':false}", "NotYet"),
-    ("{'Cancellation':false,$F:{$D:'2024-05-01',$I:'NOPE'},$R}", "NotYet"),
-    ("{$R,$F:{$D:'2024-05-03',$I:'T1'},$C,'ExtraJourney':false}", "NotYet"),
-    ("{'ExtraJourney':0,$R,$F:{$D:'2024-05-01',$I:'NOPE'},$C}", "NotYet"),
+    (
+        "{'RecordedAtTime':'',$F:{$D:'2024-05-01',$I:'NOPE'},$C}",
+        "NotYet",
+    ),
+    (
+        "{$C,$F:{$I:'NOPE',$D:'2024-05-01'},'RecordedAtTime':7}",
+        "NotYet",
+    ),
+    (
+        "{$R,$F:{$D:'2024-05-03',$I:'T1'},'Cancellation':false}",
+        "NotYet",
+    ),
+    (
+        "{'Cancellation':false,$F:{$D:'2024-05-01',$I:'NOPE'},$R}",
+        "NotYet",
+    ),
+    (
+        "{$R,$F:{$D:'2024-05-03',$I:'T1'},$C,'ExtraJourney':false}",
+        "NotYet",
+    ),
+    (
+        "{'ExtraJourney':0,$R,$F:{$D:'2024-05-01',$I:'NOPE'},$C}",
+        "NotYet",
+    ),
     ("{$R,$F:{$D:'20240501',$I:'NOPE'},$C}", "NotYet"),
     ("{$F:{$D:'2024-05-03',$I:''},$R,$C}", "NotYet"),
 ];
@@ -88,8 +118,14 @@ static ASIDE: [(&str, &str); 64] = [
 static TAKEN: [(&str, &[u8]); 10] = [
     ("{$R,$1,$C}", T1_FIRST),
     ("{$C,$1,$R}", T1_FIRST),
-    ("{$R,$F:{$I:'T1','x':null,$D:'2024-05-01'},$C,'LineRef':7}", T1_FIRST),
-    ("{$R,$1,$C,'extraJourney':true,'EstimatedCalls':7}", T1_FIRST),
+    (
+        "{$R,$F:{$I:'T1','x':null,$D:'2024-05-01'},$C,'LineRef':7}",
+        T1_FIRST,
+    ),
+    (
+        "{$R,$1,$C,'extraJourney':true,'EstimatedCalls':7}",
+        T1_FIRST,
+    ),
     ("{$R,$F:{$D:'2024-05-01',$I:'\\u0054\\u0031'},$C}", T1_FIRST),
     // The last day of the window, and another trip.
     ("{$R,$F:{$D:'2024-05-02',$I:'T1'},$C}", T1_SECOND),
@@ -97,7 +133,10 @@ static TAKEN: [(&str, &[u8]); 10] = [
     // The first and the last moment that there are.
     ("{'RecordedAtTime':'1970-01-01T00:00:00Z',$1,$C}", T1_OLDEST),
     ("{'RecordedAtTime':'9998-12-31T23:59:59Z',$1,$C}", T1_NEWEST),
-    ("{'RecordedAtTime':'2024-05-01T05:00:00Z',$1,$C}", T1_EARLIER),
+    (
+        "{'RecordedAtTime':'2024-05-01T05:00:00Z',$1,$C}",
+        T1_EARLIER,
+    ),
 ];
 
 // Deliveries of several items, each with the entities of its feed and its report.

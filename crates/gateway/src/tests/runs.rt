@@ -6,7 +6,8 @@ use std::process::Abort;
 
 /// Words that are accepted, each behind one space: the folder `g`, the delivery `f`, and a window of the
 /// first two days of May 2024.
-pub const WORDS: &str = "to-gtfsrt --gtfs g --zone-rule CET-1CEST,M3.5.0,M10.5.0/3 --from 2024-05-01 --days 2 --at 2024-05-01T06:00:00Z --et f";
+pub const WORDS: &str =
+    "to-gtfsrt --gtfs g --zone-rule CET-1CEST,M3.5.0,M10.5.0/3 --from 2024-05-01 --days 2 --at 2024-05-01T06:00:00Z --et f";
 
 /// The trips of a folder.
 pub const TRIPS: &[u8] = b"route_id,service_id,trip_id\nR1,D,T1\nR1,D,L1\nR1,N,T2\n";
@@ -18,7 +19,8 @@ pub const JOURNEY: &str = "$<{$R,$1,$C}$>";
 pub const NO_ENTITY: &[u8] = b"\x0a\x0d\x0a\x032.0\x10\x00\x18\xe0\xb4\xc7\xb1\x06";
 
 /// The feed with the entity of that journey.
-pub const ONE_ENTITY: &[u8] = b"\x0a\x0d\x0a\x032.0\x10\x00\x18\xe0\xb4\xc7\xb1\x06\x12\x27\x0a\x0b20240501:T1\x1a\x18\x0a\x10\x0a\x02T1\x1a\x0820240501\x20\x03\x20\xe0\xb4\xc7\xb1\x06";
+pub const ONE_ENTITY: &[u8] =
+    b"\x0a\x0d\x0a\x032.0\x10\x00\x18\xe0\xb4\xc7\xb1\x06\x12\x27\x0a\x0b20240501:T1\x1a\x18\x0a\x10\x0a\x02T1\x1a\x0820240501\x20\x03\x20\xe0\xb4\xc7\xb1\x06";
 
 /// The report on a delivery of one journey that is taken.
 pub const ONE_TAKEN: &str = "f taken 1 passed 0 aside 0\n";
@@ -155,13 +157,13 @@ pub struct Given<'a> {
     pub fails: &'a [u64],
 }
 
-/// The accepted words with the usual trips and this delivery.
-pub fn with_trips(delivery: &[u8]) -> Given<'_> {
+/// The accepted words with the usual trips and this delivery, where these reads fail.
+pub fn with_trips<'a>(delivery: &'a [u8], fails: &'a [u64]) -> Given<'a> {
     Given {
         words: WORDS,
         trips: Some(TRIPS),
         delivery: Some(delivery),
-        fails: &[],
+        fails,
     }
 }
 
@@ -202,20 +204,25 @@ pub fn assert_run(
     (status, out, err): (u8, &[u8], &str),
 ) {
     let left = left_by(alloc, given).expect(rt, "memory");
-    assert_eq!(rt; left.err.written(), err.as_bytes(), "standard error of {name}");
+    assert_eq!(rt;
+        left.err.written(),
+        err.as_bytes(),
+        "standard error of {name}"
+    );
     assert_eq!(rt; left.status, status, "status of {name}");
     assert_eq!(rt; left.out.written(), out, "standard output of {name}");
 }
 
 /// The run on a delivery, which is given by its short text, leaves exactly this.
-pub fn assert_delivery(
-    rt: &impl Abort,
-    alloc: Global,
-    short: &str,
-    expected: (u8, &[u8], &str),
-) {
+pub fn assert_delivery(rt: &impl Abort, alloc: Global, short: &str, expected: (u8, &[u8], &str)) {
     let delivery = json(alloc, short).expect(rt, "memory");
-    assert_run(rt, alloc, short, &with_trips(delivery.as_str().as_bytes()), expected);
+    assert_run(
+        rt,
+        alloc,
+        short,
+        &with_trips(delivery.as_str().as_bytes(), &[]),
+        expected,
+    );
 }
 
 /// The run with these trips on the journey of T1 leaves exactly this.
@@ -229,7 +236,7 @@ pub fn assert_trips(
     let delivery = json(alloc, JOURNEY).expect(rt, "memory");
     let given = Given {
         trips: Some(trips),
-        ..with_trips(delivery.as_str().as_bytes())
+        ..with_trips(delivery.as_str().as_bytes(), &[])
     };
     assert_run(rt, alloc, name, &given, expected);
 }

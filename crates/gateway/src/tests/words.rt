@@ -111,7 +111,10 @@ fn run_uncalled(
     let mut out = sink(alloc, 100, &[1])?;
     let status = run(alloc, words, &mut files, &mut out, err);
     let mut into = Bytes::new(alloc);
-    assert!(rt; files.read_file("f", 9, &mut into).is_err(), "files of {words:?}");
+    assert!(rt;
+        files.read_file("f", 9, &mut into).is_err(),
+        "files of {words:?}"
+    );
     assert!(rt; out.write(b"a").is_err(), "standard output of {words:?}");
     Ok(status)
 }
@@ -121,7 +124,11 @@ fn assert_refused(rt: &impl Abort, alloc: Global, words: &[Text], at: usize) {
     let mut err = sink(alloc, 100, &[]).expect(rt, "memory");
     let status = run_uncalled(rt, alloc, words, &mut err).expect(rt, "memory");
     let fault = format!(in alloc; "gateway: bad word {at}\n").expect(rt, "memory");
-    assert_eq!(rt; err.written(), fault.as_str().as_bytes(), "standard error of {words:?}");
+    assert_eq!(rt;
+        err.written(),
+        fault.as_str().as_bytes(),
+        "standard error of {words:?}"
+    );
     assert_eq!(rt; status, 2, "status of {words:?}");
 }
 
@@ -175,6 +182,12 @@ fn words_of_a_command_are_accepted(rt: HostRuntime) {
             delivery: None,
             fails: &[],
         };
-        assert_run(&rt, rt.alloc(), words, &given, (66, b"", "gateway: Missing g/trips.txt\n"));
+        assert_run(
+            &rt,
+            rt.alloc(),
+            words,
+            &given,
+            (66, b"", "gateway: Missing g/trips.txt\n"),
+        );
     }
 }
