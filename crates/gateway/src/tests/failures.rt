@@ -8,26 +8,32 @@ use std::process::Abort;
 
 const FAILED: &str = "gateway: failed\n";
 
-// Reads that fail, each with what the run leaves.
-static READS: [(&[u64], u8, &[u8], &str); 5] = [
-    (&[1], 74, b"", FAILED),
-    (&[2], 74, b"", FAILED),
-    (&[1, 2], 74, b"", FAILED),
-    (&[3], 0, ONE_ENTITY, ONE_TAKEN),
-    (&[0, 9], 0, ONE_ENTITY, ONE_TAKEN),
+// Reads that fail, each list with what the run leaves.
+static READS: [(&str, &[u64], u8, &[u8], &str); 5] = [
+    ("the folder fails", &[1], 74, b"", FAILED),
+    ("the delivery fails", &[2], 74, b"", FAILED),
+    ("both fail", &[1, 2], 74, b"", FAILED),
+    ("a later one fails", &[3], 0, ONE_ENTITY, ONE_TAKEN),
+    ("none fails", &[], 0, ONE_ENTITY, ONE_TAKEN),
 ];
 
 // A run on the journey of T1 of which these reads fail leaves this.
-fn assert_reads(rt: &impl Abort, alloc: Global, fails: &[u64], expected: (u8, &[u8], &str)) {
+fn assert_reads(
+    rt: &impl Abort,
+    alloc: Global,
+    name: &str,
+    fails: &[u64],
+    expected: (u8, &[u8], &str),
+) {
     let delivery = json(alloc, JOURNEY).expect(rt, "memory");
     let given = with_trips(delivery.as_str().as_bytes(), fails);
-    assert_run(rt, alloc, "reads that fail", &given, expected);
+    assert_run(rt, alloc, name, &given, expected);
 }
 
 #[test]
 fn a_failed_read_ends_a_run_with_nothing_written(rt: HostRuntime) {
-    for (fails, status, out, err) in READS.iter() {
-        assert_reads(&rt, rt.alloc(), fails, (*status, out, err));
+    for (name, fails, status, out, err) in READS.iter() {
+        assert_reads(&rt, rt.alloc(), name, fails, (*status, out, err));
     }
 }
 

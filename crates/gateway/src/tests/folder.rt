@@ -7,73 +7,74 @@ use std::alloc::{AllocError, Global};
 const BAD_TABLE: &str = "gateway: BadTable trips.txt\n";
 
 // Tables with the trip T1.
-static GOOD: [&[u8]; 17] = [
-    b"trip_id\nT1\n",
-    b"trip_id\nT1",
-    b"trip_id\r\nT2\r\nT1\r\n",
-    b"\ntrip_id\n\nT1\n\n",
-    b"x,trip_id,y\n1,T1,2\n",
-    // Bytes that are no text where they aren't read.
-    b"x,trip_id\n\xff,T1\n",
-    b"\xff,trip_id\n1,T1\n",
-    // Quoted names and fields.
-    b"\"trip_id\"\n\"T1\"\n",
-    b"x,trip_id\n\"1,2\",\"T1\"\n\"3\"\"4\",\"T,2\"\n",
-    // A byte order mark.
-    b"\xef\xbb\xbftrip_id\nT1\n",
-    // Blanks round names and fields.
-    b"x, \ttrip_id \n1, T1\t\n",
-    // Short and long rows.
-    b"trip_id,x\nT1\n",
-    b"x,trip_id\n1,T1,2,3\n",
-    // Of two equal names the first counts.
-    b"trip_id,trip_id\nT1,T2\nT2,T2\n",
-    // Ids that differ in their case, and one that is no word.
-    b"trip_id\nT1\nt1\nT 1\n",
-    b"trip_id\nT1\nZ\xc3\xbcrich\n",
-    TRIPS,
+static GOOD: [(&str, &[u8]); 17] = [
+    ("one trip", b"trip_id\nT1\n"),
+    ("no line feed at the end", b"trip_id\nT1"),
+    ("carriage returns", b"trip_id\r\nT2\r\nT1\r\n"),
+    ("empty lines", b"\ntrip_id\n\nT1\n\n"),
+    ("columns on both sides", b"x,trip_id,y\n1,T1,2\n"),
+    (
+        "a field that is no text and isn't read",
+        b"x,trip_id\n\xff,T1\n",
+    ),
+    ("a name that is no text", b"\xff,trip_id\n1,T1\n"),
+    ("a quoted name and a quoted id", b"\"trip_id\"\n\"T1\"\n"),
+    (
+        "quoted fields with commas and quotes",
+        b"x,trip_id\n\"1,2\",T1\n\"3\"\"4\",\"T,2\"\n",
+    ),
+    ("a byte order mark", b"\xef\xbb\xbftrip_id\nT1\n"),
+    ("blanks round a name and an id", b"x, \ttrip_id \n1, T1\t\n"),
+    ("a short row with an id", b"trip_id,x\nT1\n"),
+    ("a long row", b"x,trip_id\n1,T1,2,3\n"),
+    (
+        "a name that stands there twice",
+        b"trip_id,trip_id\nT1,T2\nT2,T2\n",
+    ),
+    (
+        "ids of two cases, and one with a space",
+        b"trip_id\nt1\nT 1\nT1\n",
+    ),
+    ("an id of other letters", b"trip_id\nT1\nZ\xc3\xbcrich\n"),
+    ("the usual trips", TRIPS),
 ];
 
 // Tables that are refused.
-static BAD: [&[u8]; 15] = [
-    // No row, or no column of that name.
-    b"",
-    b"\n\n",
-    b"T1\n",
-    b"route_id,service_id\nR1,T1\n",
-    b"Trip_id\nT1\n",
-    b"\xef\xbb\xbf\xef\xbb\xbftrip_id\nT1\n",
-    // An id that is empty, and one that isn't there.
-    b"trip_id,x\nT1,1\n,1\n",
-    b"trip_id,x\nT1,1\n \t ,1\n",
-    b"trip_id\nT1\n\"\"\n",
-    b"x,trip_id\n1,T1\n2\n",
-    // An id that stands there twice.
-    b"trip_id\nT1\nT2\nT1\n",
-    b"trip_id\nT1\n T1 \n",
-    b"trip_id\nT1\n\"T1\"\n",
-    // An id that is no text.
-    b"trip_id\nT1\nA\xff\n",
-    b"trip_id\nT1\n\xed\xa0\x80\n",
+static BAD: [(&str, &[u8]); 15] = [
+    ("no byte", b""),
+    ("no row", b"\n\n"),
+    ("no row of names", b"T1\n"),
+    ("no column of that name", b"route_id,service_id\nR1,T1\n"),
+    ("a name in another case", b"Trip_id\nT1\n"),
+    (
+        "two byte order marks",
+        b"\xef\xbb\xbf\xef\xbb\xbftrip_id\nT1\n",
+    ),
+    ("an empty id", b"trip_id,x\nT1,1\n,1\n"),
+    ("an id of blanks", b"trip_id,x\nT1,1\n \t ,1\n"),
+    ("an empty id in quotes", b"trip_id\nT1\n\"\"\n"),
+    ("a short row without an id", b"x,trip_id\n1,T1\n2\n"),
+    ("an id twice", b"trip_id\nT1\nT2\nT1\n"),
+    ("an id twice, once with blanks", b"trip_id\nT1\n T1 \n"),
+    ("an id twice, once in quotes", b"trip_id\nT1\n\"T1\"\n"),
+    ("an id that is no text", b"trip_id\nT1\nA\xff\n"),
+    (
+        "an id with half a surrogate pair",
+        b"trip_id\nT1\n\xed\xa0\x80\n",
+    ),
 ];
 
 #[test]
 fn good_tables_are_taken(rt: HostRuntime) {
-    for trips in GOOD.iter() {
-        assert_trips(
-            &rt,
-            rt.alloc(),
-            "a good table",
-            trips,
-            (0, ONE_ENTITY, ONE_TAKEN),
-        );
+    for (name, trips) in GOOD.iter() {
+        assert_trips(&rt, rt.alloc(), name, trips, (0, ONE_ENTITY, ONE_TAKEN));
     }
 }
 
 #[test]
 fn bad_tables_are_refused(rt: HostRuntime) {
-    for trips in BAD.iter() {
-        assert_trips(&rt, rt.alloc(), "a bad table", trips, (65, b"", BAD_TABLE));
+    for (name, trips) in BAD.iter() {
+        assert_trips(&rt, rt.alloc(), name, trips, (65, b"", BAD_TABLE));
     }
 }
 

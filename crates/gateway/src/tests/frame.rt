@@ -68,17 +68,26 @@ static NO_FRAME: [&str; 32] = [
 ];
 
 // Bodies that are no JSON in UTF-8.
-static NO_JSON: [&[u8]; 10] = [
-    b"",
-    b" \n",
-    b"{",
-    b"{}}",
-    b"{'a':1}",
-    b"{\"a\":01}",
-    b"{\"a\":1,}",
-    b"\xef\xbb\xbf{\"ServiceDelivery\":{\"EstimatedTimetableDelivery\":[]}}",
-    b"{\"ServiceDelivery\":{\"EstimatedTimetableDelivery\":[]},\"a\":\"\xff\"}",
-    b"{\"ServiceDelivery\":{\"EstimatedTimetableDelivery\":[]},\"a\":\"\xed\xa0\x80\"}",
+static NO_JSON: [(&str, &[u8]); 10] = [
+    ("no byte", b""),
+    ("blanks", b" \n"),
+    ("an object that breaks off", b"{"),
+    ("a brace too many", b"{}}"),
+    ("a name in apostrophes", b"{'a':1}"),
+    ("a number with a zero in front", b"{\"a\":01}"),
+    ("a comma too many", b"{\"a\":1,}"),
+    (
+        "a byte order mark",
+        b"\xef\xbb\xbf{\"ServiceDelivery\":{\"EstimatedTimetableDelivery\":[]}}",
+    ),
+    (
+        "a text that is no UTF-8",
+        b"{\"ServiceDelivery\":{\"EstimatedTimetableDelivery\":[]},\"a\":\"\xff\"}",
+    ),
+    (
+        "a text with half a surrogate pair",
+        b"{\"ServiceDelivery\":{\"EstimatedTimetableDelivery\":[]},\"a\":\"\xed\xa0\x80\"}",
+    ),
 ];
 
 #[test]
@@ -97,11 +106,11 @@ fn a_body_of_no_frame_is_refused(rt: HostRuntime) {
 
 #[test]
 fn a_body_that_is_no_json_is_refused(rt: HostRuntime) {
-    for body in NO_JSON.iter() {
+    for (name, body) in NO_JSON.iter() {
         assert_run(
             &rt,
             rt.alloc(),
-            "no JSON",
+            name,
             &with_trips(body, &[]),
             (65, b"", BAD_DELIVERY),
         );

@@ -204,11 +204,8 @@ pub fn assert_run(
     (status, out, err): (u8, &[u8], &str),
 ) {
     let left = left_by(alloc, given).expect(rt, "memory");
-    assert_eq!(rt;
-        left.err.written(),
-        err.as_bytes(),
-        "standard error of {name}"
-    );
+    let text = str::from_utf8(left.err.written()).expect(rt, "UTF-8");
+    assert_eq!(rt; text, err, "standard error of {name}");
     assert_eq!(rt; left.status, status, "status of {name}");
     assert_eq!(rt; left.out.written(), out, "standard output of {name}");
 }
