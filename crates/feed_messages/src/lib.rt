@@ -5,9 +5,13 @@
 mod cancelled;
 mod header;
 mod laws;
+mod plain;
+mod plain_fault;
 #[cfg(test)]
 mod tests;
 
 pub use cancelled::cancelled_bytes;
 pub use header::{HeaderBytes, header_bytes};
 pub use laws::{an_entity_is_added, the_feed_is_one};
+pub use plain::plain_feed;
+pub use plain_fault::PlainFault;

@@ -1,0 +1,22 @@
+//! The plain reader of feeds: it follows the definition of what bytes mean, kind by kind and table by table, and keeps
+//! every list on the way. Faster readers are compared with it.
+ghost use Rattle.std.specs.Prelude.{◌≡◌, IfOk, IsErrOf};
+ghost use Rattle.gw_base.specs.declared.messages.Feed.{Feed};
+ghost use Rattle.feed_messages.specs.Tables.{MeansFeed};
+
+mod kinds;
+mod nested;
+mod tables;
+
+use crate::plain_fault::PlainFault;
+use gw_base::Feed;
+use nested::read;
+use std::alloc::Global;
+
+/// The feed that the bytes mean. The fault is `Meaningless` exactly where they mean none.
+pub fn plain_feed(alloc: Global, bytes: &[u8]) -> Result<Feed, PlainFault>
+    ensures means { IfOk result (λ feed. MeansFeed bytes.now feed) }
+    ensures none { IsErrOf result PlainFault.Meaningless → (feed : Feed) → ¬ (MeansFeed bytes.now feed) }
+{
+    read(alloc, bytes)
+}
