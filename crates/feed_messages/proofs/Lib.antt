@@ -1,4 +1,5 @@
 pub mod Building
 mod FieldLengths
+mod Finding
 mod HeaderLemmas
 mod OneMeaning

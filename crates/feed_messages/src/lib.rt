@@ -1,5 +1,5 @@
 //! The messages of GTFS Realtime 2.0 in protobuf's encoding. What is written is the bytes that the
-//! definitions of `specs/Written.antt` name.
+//! definitions of `specs/Written.antt` name, and what is read is what `specs/Tables.antt` says that bytes mean.
 #![tactic(auto)]
 
 mod cancelled;

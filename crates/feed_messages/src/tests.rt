@@ -69,7 +69,7 @@ fn text_of(text: &Option<Text>) -> Option<&str> {
     }
 }
 
-/// The version, the incrementality and the timestamp of a feed, each on its own.
+/// The bytes are a feed of version 2.0 without entities, with these fields of the header.
 fn is_header(
     rt: &impl Abort,
     alloc: Global,

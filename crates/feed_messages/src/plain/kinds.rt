@@ -14,7 +14,7 @@ use wire_fields::{Field, Value};
 // How many numbers a word of 32 bits has.
 const WORD: u64 = 4_294_967_296;
 
-// The number that a field of that field number holds.
+// The number that a field holds, if the field has that field number.
 fn number_in(field: &Field<'_>, number: u32) -> Option<u64>
     ensures { result ≡ (if field.now.number == number then number_in (payload_of field.now.value) else None) }
 {
@@ -24,7 +24,7 @@ fn number_in(field: &Field<'_>, number: u32) -> Option<u64>
     }
 }
 
-// The bytes that a field of that field number holds.
+// The bytes that a field holds, if the field has that field number.
 fn body_in<'a>(field: &Field<'a>, number: u32) -> Option<&'a [u8]>
     ensures { option_map (λ body. body.now) result ≡ (if field.now.number == number then body_in (payload_of field.now.value) else None) }
 {
@@ -34,7 +34,7 @@ fn body_in<'a>(field: &Field<'a>, number: u32) -> Option<&'a [u8]>
     }
 }
 
-// The last number of a field number.
+// The last number of a field number, if there is one.
 pub fn uint64(fields: &[Field<'_>], number: u32) -> Option<u64>
     ensures { IsUint64 number (map field_of fields.now) result }
 {
@@ -45,7 +45,7 @@ pub fn uint64(fields: &[Field<'_>], number: u32) -> Option<u64>
     last
 }
 
-// Its low 32 bits.
+// The low 32 bits of the last number.
 pub fn uint32(fields: &[Field<'_>], number: u32) -> Option<u32>
     ensures { IsUint32 number (map field_of fields.now) result }
 {
@@ -55,7 +55,7 @@ pub fn uint32(fields: &[Field<'_>], number: u32) -> Option<u32>
     }
 }
 
-// It in two's complement.
+// The last number in two's complement.
 pub fn int64(fields: &[Field<'_>], number: u32) -> Option<i64>
     ensures { IsInt64 number (map field_of fields.now) result }
 {
@@ -65,7 +65,7 @@ pub fn int64(fields: &[Field<'_>], number: u32) -> Option<i64>
     }
 }
 
-// Its low 32 bits in two's complement.
+// The low 32 bits of the last number in two's complement.
 pub fn int32(fields: &[Field<'_>], number: u32) -> Option<i32>
     ensures { IsInt32 number (map field_of fields.now) result }
 {
@@ -75,7 +75,7 @@ pub fn int32(fields: &[Field<'_>], number: u32) -> Option<i32>
     }
 }
 
-// The same, or the default of the enum.
+// The number of an enum, which is its default where there is none.
 pub fn enumeration(fields: &[Field<'_>], number: u32, default: i32) -> i32
     ensures { IsEnum number default (map field_of fields.now) result }
 {
@@ -85,7 +85,7 @@ pub fn enumeration(fields: &[Field<'_>], number: u32, default: i32) -> i32
     }
 }
 
-// Whether the last number isn't 0.
+// Whether there is a last number that isn't 0.
 pub fn boolean(fields: &[Field<'_>], number: u32) -> bool
     ensures { IsBool number (map field_of fields.now) result }
 {
@@ -112,7 +112,7 @@ pub fn bodies<'a>(
     Ok(list)
 }
 
-// The last of bodies that are all UTF-8.
+// The last of these bodies, if there is one, where all are UTF-8.
 fn last_text<'a>(bodies: &[&'a [u8]]) -> Result<Option<&'a str>, Utf8Error>
     ensures { MatchResult result
         (λ last. AllByRecursion IsUtf8 (map (λ body. body.now) bodies.now) × (option_map (λ text. text.now) last ≡ last_or None (map (λ body. body.now) bodies.now)))
@@ -127,7 +127,7 @@ fn last_text<'a>(bodies: &[&'a [u8]]) -> Result<Option<&'a str>, Utf8Error>
 
 // A copy of a text that may be missing.
 fn copied(alloc: Global, text: Option<&str>) -> Result<Option<Text>, AllocError>
-    ensures { IfOk result (λ copy. copy ≡ option_map (λ text. text.now) text) }
+    ensures { IfOk result (λ copy. copy ≡ option_map (λ found. found.now) text.entry) }
 {
     match text {
         Some(text) => Ok(Some(Text::copied(alloc, text)?)),
@@ -135,7 +135,7 @@ fn copied(alloc: Global, text: Option<&str>) -> Result<Option<Text>, AllocError>
     }
 }
 
-// The last text of a field number.
+// The last text of a field number, if there is one. Each is UTF-8.
 pub fn text(alloc: Global, fields: &[Field<'_>], number: u32) -> Result<Option<Text>, PlainFault>
     ensures { Finds (IsText number (map field_of fields.now)) result }
 {
@@ -144,7 +144,7 @@ pub fn text(alloc: Global, fields: &[Field<'_>], number: u32) -> Result<Option<T
     Ok(copied(alloc, last)?)
 }
 
-// The same, where it has to be there.
+// The last text of a field number, which has to be there.
 pub fn required_text(alloc: Global, fields: &[Field<'_>], number: u32) -> Result<Text, PlainFault>
     ensures { Finds (λ text. IsText number (map field_of fields.now) (Some text)) result }
 {

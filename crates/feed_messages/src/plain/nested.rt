@@ -33,7 +33,7 @@ pub fn read<M: Message>(alloc: Global, bytes: &[u8]) -> Result<M, PlainFault>
     M::of_fields(alloc, fields.as_slice())
 }
 
-// Nothing, where each body is a list of fields by itself.
+// Answers well where each body is a list of fields by itself.
 fn each_listed(alloc: Global, bodies: &[&[u8]]) -> Result<(), PlainFault>
     ensures { Finds (λ _. AreBodies (map (λ body. body.now) bodies.now)) result }
 {
@@ -71,7 +71,7 @@ pub fn embedded<M: Message>(
     Ok(Some(read(alloc, bytes.as_slice())?))
 }
 
-// The same, where it has to be there.
+// The message that the bodies of a field number mean together, which has to be there.
 pub fn required<M: Message>(
     alloc: Global,
     fields: &[Field<'_>],
