@@ -12,7 +12,7 @@ use Rattle.gateway.specs.Feeds.{journey_cmp, feed_of}
 use Rattle.gateway.specs.Frame.{journeys_of}
 use Rattle.gateway.specs.Journeys.{verdicts, taken}
 use Rattle.gateway.specs.Outcomes.{task_of, setting_in}
-use Rattle.gateway.specs.Readings.{reading, reading_of}
+use Rattle.gateway.specs.Readings.{readings, reading_of}
 use Rattle.gateway.specs.Words.{ToGtfsrt, IsToGtfsrt}
 use Rattle.gateway.specs.declared.item.Cancelled.{Cancelled}
 
@@ -36,5 +36,5 @@ pub record Publishes (words : List (List ℕ)) (files : List (List ℕ × List �
   pub written : out_now ≡ with_bytes out_before bytes
   pub means : MeansFeed bytes (feed_of (task_of command).at table.trips ordered)
   pub read :
-      map (reading (setting_in (task_of command) table) (feed_of (task_of command).at table.trips ordered)) (feed_of (task_of command).at table.trips ordered).entities
+      readings (setting_in (task_of command) table) (feed_of (task_of command).at table.trips ordered)
       ≡ map (λ journey. Some (reading_of journey)) ordered

@@ -1,6 +1,6 @@
 -- How the entities of a feed are read: the case of a cancelled trip (GTFS Realtime reference, FeedEntity, TripUpdate, and
 -- TripDescriptor with the schedule_relationship CANCELED).
-use Rattle.std.specs.Prelude.{ℕ, ℤ, pos, nat_le, Option, Some, None, option_and_then, option_map, position, if◌then◌else◌}
+use Rattle.std.specs.Prelude.{ℕ, ℤ, pos, nat_le, List, Option, Some, None, option_and_then, option_map, map, position, if◌then◌else◌}
 use Rattle.std.specs.Ordering.{int_eq}
 use Rattle.std.specs.Str.{bytes_eq}
 use Rattle.gw_base.specs.declared.messages.Entity.{Entity}
@@ -46,6 +46,10 @@ cancelled_in setting feed update =
 -- what an entity says: nothing where it is to be deleted or has no update
 abbrev pub reading : Setting → Feed → Entity → Option Reading
 reading setting feed entity = if entity.deleted then None else option_and_then (cancelled_in setting feed) entity.trip_update
+
+-- what the entities of a feed say, in order
+abbrev pub readings : Setting → Feed → List (Option Reading)
+readings setting feed = map (reading setting feed) feed.entities
 
 -- what is to be read of a cancelled journey
 abbrev pub reading_of : Cancelled → Reading
