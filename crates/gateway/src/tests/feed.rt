@@ -3,7 +3,11 @@ use super::entities::{
     L1_FIRST, L1_SECOND, LONG_FIRST, T1_FIRST, T1_SECOND, T2_SECOND, ZURICH_FIRST, assert_feed,
     feed_of,
 };
-use super::runs::{Given, assert_run, json, with_trips};
+use super::runs::{Given, JOURNEY, assert_run, json, run_given, sink, with_trips};
+use feed_messages::plain_feed;
+use gw_base::{Entity, MemorySink, Text, TripUpdate};
+use std::alloc::{AllocError, Global};
+use std::process::Abort;
 
 // The trips of the sample, in no order of the file, with items that are set aside between them.
 const MIXED: &str = "$<{'RecordedAtTime':'2024-04-30T00:00:00Z',$F:{$D:'2024-05-02',$I:'T2'},$C},\
@@ -42,4 +46,53 @@ fn long_ids_and_ids_of_any_letters_are_written(rt: HostRuntime) {
     };
     let expected = (0, feed.as_slice(), "f taken 2 passed 0 aside 0\n");
     assert_run(&rt, rt.alloc(), "other ids", &given, expected);
+}
+
+// Standard output of a run on the journey of T1.
+fn written(alloc: Global) -> Result<MemorySink, AllocError> {
+    let delivery = json(alloc, JOURNEY)?;
+    let given = with_trips(delivery.as_str().as_bytes(), &[]);
+    let mut out = sink(alloc, 100, &[])?;
+    let mut err = sink(alloc, 100, &[])?;
+    run_given(alloc, &given, &mut out, &mut err)?;
+    Ok(out)
+}
+
+// The text is there and is this one.
+fn assert_text(rt: &impl Abort, text: &Option<Text>, expected: &str) {
+    let text = text.as_ref().expect(rt, "a text");
+    assert_eq!(rt; text.as_str(), expected);
+}
+
+// The update says that the trip is cancelled on its day, as was recorded then.
+fn assert_cancelled(rt: &impl Abort, update: &TripUpdate) {
+    assert_text(rt, &update.trip.trip_id, "T1");
+    assert_text(rt, &update.trip.start_date, "20240501");
+    assert_eq!(rt; update.trip.relation, 3);
+    assert!(rt; update.updates.is_empty());
+    assert_eq!(rt; update.timestamp, Some(1_714_543_200));
+}
+
+// The entity is that of the cancelled journey.
+fn assert_entity(rt: &impl Abort, entity: &Entity) {
+    assert_eq!(rt; entity.id.as_str(), "20240501:T1");
+    assert!(rt; !entity.deleted);
+    assert!(rt; entity.alert.is_none());
+    let update = entity.trip_update.as_ref().expect(rt, "an update");
+    assert_cancelled(rt, update);
+}
+
+// The plain reader knows nothing of the writers.
+#[test]
+fn what_is_written_is_read_as_the_cancelled_journey(rt: HostRuntime) {
+    let out = written(rt.alloc()).expect(&rt, "memory");
+    let feed = plain_feed(rt.alloc(), out.written()).expect(&rt, "a feed");
+    assert_eq!(rt; out.written().len(), 56);
+    assert_eq!(rt; feed.version.as_str(), "2.0");
+    assert_eq!(rt; feed.incrementality, 0);
+    assert_eq!(rt; feed.timestamp, Some(1_714_543_200));
+    assert_eq!(rt; feed.entities.len(), 1);
+    for entity in feed.entities.as_slice() {
+        assert_entity(&rt, entity);
+    }
 }
