@@ -12,3 +12,8 @@ Rose before now = (before < now) ⊎ (last_count ≤ now)
 -- the count after one more fault
 abbrev pub counted : ℕ → ℕ
 counted faults = min (faults + 1) last_count
+
+-- a count over a call: it never falls, and it rose where the call answered so
+pub record Counts (Failed : Type 0) (before now : ℕ) : Type 0 where
+  pub cause : Failed → Rose before now
+  pub never_falls : before ≤ now

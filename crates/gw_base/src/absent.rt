@@ -1,6 +1,6 @@
 //! A door and a clock that are not there: each call fails and raises the count, and nothing is told.
-ghost use Rattle.std.specs.Prelude.{◌≡◌, ◌≤◌, true, None, IsErr};
-ghost use Rattle.gw_base.specs.Count.{Rose, counted};
+ghost use Rattle.std.specs.Prelude.{◌≡◌, true, None, IsErr};
+ghost use Rattle.gw_base.specs.Count.{Counts, counted};
 
 use crate::clock::Clock;
 use crate::door::{Door, Mark};
@@ -62,8 +62,7 @@ impl Sink for NoDoor {
     fn write(&mut self, _piece: &[u8]) -> Result<usize, Failed>
         ensures fails { IsErr result }
         ensures counts { self.new ≡ counted self.old }
-        ensures cause { Rose self.old self.new }
-        ensures never_falls { self.old ≤ self.new }
+        ensures rose { Counts (IsErr result) self.old self.new }
     {
         self.faults = self.faults.saturating_add(1);
         Err(Failed)
@@ -74,8 +73,7 @@ impl Door for NoDoor {
     fn next(&mut self) -> Result<bool, Failed>
         ensures fails { IsErr result }
         ensures counts { self.new ≡ counted self.old }
-        ensures cause { Rose self.old self.new }
-        ensures never_falls { self.old ≤ self.new }
+        ensures rose { Counts (IsErr result) self.old self.new }
     {
         self.faults = self.faults.saturating_add(1);
         Err(Failed)
@@ -84,8 +82,7 @@ impl Door for NoDoor {
     fn read(&mut self, _buf: &mut [u8]) -> Result<usize, Failed>
         ensures fails { IsErr result }
         ensures counts { self.new ≡ counted self.old }
-        ensures cause { Rose self.old self.new }
-        ensures never_falls { self.old ≤ self.new }
+        ensures rose { Counts (IsErr result) self.old self.new }
     {
         self.faults = self.faults.saturating_add(1);
         Err(Failed)
@@ -106,8 +103,7 @@ impl Clock for NoClock {
     fn now(&mut self) -> Result<Moment, Failed>
         ensures fails { IsErr result }
         ensures counts { self.new ≡ counted self.old }
-        ensures cause { Rose self.old self.new }
-        ensures never_falls { self.old ≤ self.new }
+        ensures rose { Counts (IsErr result) self.old self.new }
     {
         self.faults = self.faults.saturating_add(1);
         Err(Failed)

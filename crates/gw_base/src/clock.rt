@@ -1,6 +1,6 @@
 //! A clock.
-ghost use Rattle.std.specs.Prelude.{◌≡◌, ℕ, ◌≤◌, ℤ, List, ◌∷◌, Option, IfOk, OnOk, OnErr, option_map};
-ghost use Rattle.gw_base.specs.Count.{Rose};
+ghost use Rattle.std.specs.Prelude.{◌≡◌, ℕ, ℤ, List, ◌∷◌, Option, IfOk, OnOk, OnErr, IsErr, option_map};
+ghost use Rattle.gw_base.specs.Count.{Counts};
 
 use crate::moment::Moment;
 use crate::sink::Failed;
@@ -18,6 +18,5 @@ pub trait Clock {
         ensures given { IfOk result (λ moment. told self.old ≡ option_map (λ later. moment ∷ later) (told self.new)) }
         ensures calm { OnOk result (faults self.new ≡ faults self.old) }
         ensures failed { OnErr result (told self.new ≡ told self.old) }
-        ensures cause { OnErr result (Rose (faults self.old) (faults self.new)) }
-        ensures never_falls { faults self.old ≤ faults self.new };
+        ensures counts { Counts (IsErr result) (faults self.old) (faults self.new) };
 }

@@ -1,6 +1,6 @@
 //! A door: connections that come one after the other, and the log of those that were finished.
-ghost use Rattle.std.specs.Prelude.{◌≡◌, ◌≤◌, ◌<◌, true, false, [], length, take, Ok, OnErr, IfOk, is_some, option_map};
-ghost use Rattle.gw_base.specs.Count.{Rose};
+ghost use Rattle.std.specs.Prelude.{◌≡◌, ◌≢◌, ◌≤◌, ◌<◌, true, false, [], length, take, Ok, OnErr, IfOk, IsErr, option_map};
+ghost use Rattle.gw_base.specs.Count.{Counts};
 ghost use Rattle.gw_base.specs.Connections.{Arrives, NoneComes, Takes, Logs};
 
 use crate::list::Bytes;
@@ -41,16 +41,16 @@ pub struct Entry {
 
 /// Connections, one after the other. What is written as to a sink is the present connection's output.
 pub trait Door: Sink {
-    /// Makes the next connection present, with nothing written; false where none is to come.
+    /// Makes the next connection present, with nothing written; false where none is to come. Where none
+    /// comes, and after a failure, the output that is told stays as it was.
     fn next(&mut self) -> Result<bool, Failed>
         requires { (Self.beside self.old).present ≡ false }
         ensures came { result ≡ Ok true → Arrives (Self.beside self.old) (Self.beside self.new) }
         ensures fresh { result ≡ Ok true → Self.told self.new ≡ option_map (λ _. []) (Self.told self.old) }
         ensures none { result ≡ Ok false → NoneComes (Self.beside self.old) (Self.beside self.new) }
         ensures failed { OnErr result (Self.beside self.new ≡ Self.beside self.old) }
-        ensures tells { is_some (Self.told self.new) ≡ is_some (Self.told self.old) }
-        ensures cause { OnErr result (Rose (Self.faults self.old) (Self.faults self.new)) }
-        ensures never_falls { Self.faults self.old ≤ Self.faults self.new };
+        ensures stays { result ≢ Ok true → Self.told self.new ≡ Self.told self.old }
+        ensures counts { Counts (IsErr result) (Self.faults self.old) (Self.faults self.new) };
 
     /// Reads the next bytes of the present connection's input into the front of `buf`, and answers how
     /// many; 0 exactly at the input's end.
@@ -61,13 +61,13 @@ pub trait Door: Sink {
         ensures taken { IfOk result (λ n. Takes (Self.beside self.old) (Self.beside self.new) (take n buf.new)) }
         ensures failed { OnErr result (Self.beside self.new ≡ Self.beside self.old) }
         ensures output { Self.told self.new ≡ Self.told self.old }
-        ensures cause { OnErr result (Rose (Self.faults self.old) (Self.faults self.new)) }
-        ensures never_falls { Self.faults self.old ≤ Self.faults self.new };
+        ensures counts { Counts (IsErr result) (Self.faults self.old) (Self.faults self.new) };
 
-    /// Ends the present connection, and logs it with its whole input and output.
+    /// Ends the present connection, and logs it with its whole input and output. Nothing is written
+    /// to the next one yet.
     fn finish(&mut self, mark: Mark, moment: Option<Moment>)
         requires { (Self.beside self.old).present ≡ true }
         ensures logged { Logs (Self.beside self.old) (Self.beside self.new) (Self.told self.old) mark moment }
-        ensures tells { is_some (Self.told self.new) ≡ is_some (Self.told self.old) }
-        ensures never_falls { Self.faults self.old ≤ Self.faults self.new };
+        ensures fresh { Self.told self.new ≡ option_map (λ _. []) (Self.told self.old) }
+        ensures counts { Counts ⊥ (Self.faults self.old) (Self.faults self.new) };
 }

@@ -1,6 +1,6 @@
 //! Files by name.
 ghost use Rattle.std.specs.Prelude.{◌≡◌, ◌≢◌, ℕ, ◌≤◌, ◌++◌, List, Option, None, length, Ok, IfSome, IsErrOf};
-ghost use Rattle.gw_base.specs.Count.{Rose};
+ghost use Rattle.gw_base.specs.Count.{Counts};
 ghost use Rattle.gw_base.specs.Directory.{bytes_of, IsRead, IsLonger};
 
 use crate::list::Bytes;
@@ -41,7 +41,6 @@ pub trait Files {
         ensures whole { result ≡ Ok Got.Whole → IfSome (told self.old) (λ files. IsRead (bytes_of files name.now) limit into.old into.new) }
         ensures missing { result ≡ Ok Got.Missing → IfSome (told self.old) (λ files. bytes_of files name.now ≡ None) }
         ensures too_long { result ≡ Ok Got.TooLong → IfSome (told self.old) (λ files. IsLonger (bytes_of files name.now) limit) }
-        ensures cause { IsErrOf result FileFault.Failed → Rose (faults self.old) (faults self.new) }
-        ensures never_falls { faults self.old ≤ faults self.new }
+        ensures counts { Counts (IsErrOf result FileFault.Failed) (faults self.old) (faults self.new) }
         ensures same { told self.new ≡ told self.old };
 }

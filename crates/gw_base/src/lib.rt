@@ -4,7 +4,6 @@
 
 mod absent;
 mod buffer;
-mod calls;
 mod clock;
 mod door;
 mod files;
@@ -17,6 +16,7 @@ mod sink;
 #[cfg(test)]
 mod tests;
 mod text;
+mod uses;
 mod wire_kind;
 
 pub use absent::{NoClock, NoDoor};

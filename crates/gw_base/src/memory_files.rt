@@ -1,40 +1,40 @@
 //! Files in memory.
 ghost use Rattle.std.specs.Prelude.{◌≡◌, ◌≢◌, ◌++◌, ◌≤◌, ℕ, List, true, false, if◌then◌else◌, length, Ok, Err, Some, None, IsErrOf, option_map};
-ghost use Rattle.gw_base.specs.Count.{Rose};
+ghost use Rattle.gw_base.specs.Count.{Counts};
 ghost use Rattle.gw_base.specs.Directory.{bytes_of, IsRead, IsLonger};
-ghost use Rattle.gw_base.specs.Memory.{Folder, fails_next, after_call, after_fault};
+ghost use Rattle.gw_base.specs.Memory.{fails_next, after_use, after_fault};
 
-use crate::calls::Plan;
 use crate::files::{FileFault, Files, Got};
 use crate::list::{Bytes, List};
 use crate::text::Text;
+use crate::uses::Uses;
 use std::marker::Model;
 
 /// Files in memory, with the numbers of the reads that are to fail. It tells its files. A contract sees
-/// the files and the calls.
+/// the files and the uses.
 #[derive(Debug, Drop)]
 pub struct MemoryFiles {
     files: List<(Text, Bytes)>,
-    calls: Plan,
+    uses: Uses,
 }
 
 impl Model for MemoryFiles {
-    ghost use Rattle.gw_base.specs.Memory.{Folder};
+    ghost use Rattle.gw_base.specs.Memory.{FilesInMemory};
 
-    ghost Value = { Folder };
+    ghost Value = { FilesInMemory };
 
-    ghost view = { λ m. record { files = m.files; calls = m.calls } };
+    ghost view = { λ m. record { files = m.files; uses = m.uses } };
 }
 
 impl MemoryFiles {
     /// These files; of two equal names the first counts. `fails` has the numbers, from 1, of the reads
     /// that are to fail. Takes no memory.
     pub fn make(files: List<(Text, Bytes)>, fails: List<u64>) -> MemoryFiles
-        ensures { result ≡ record { files = files; calls = record { fails = fails; made = 0; faults = 0 } } }
+        ensures { result ≡ record { files = files; uses = record { fails = fails; made = 0; faults = 0 } } }
     {
         MemoryFiles {
             files,
-            calls: Plan::new(fails),
+            uses: Uses::new(fails),
         }
     }
 }
@@ -54,7 +54,7 @@ fn file_of<'a>(files: &'a [(Text, Bytes)], name: &str) -> Option<&'a Bytes>
 impl Files for MemoryFiles {
     ghost told = { λ m. Some m.files };
 
-    ghost faults = { λ m. m.calls.faults };
+    ghost faults = { λ m. m.uses.faults };
 
     fn read_file(&mut self, name: &str, limit: u64, into: &mut Bytes) -> Result<Got, FileFault>
         ensures appended { result ≡ Ok Got.Whole → (bytes : List ℕ) × (length bytes ≤ limit) × (into.new ≡ into.old ++ bytes) }
@@ -62,16 +62,15 @@ impl Files for MemoryFiles {
         ensures whole { result ≡ Ok Got.Whole → IsRead (bytes_of self.old.files name.now) limit into.old into.new }
         ensures missing { result ≡ Ok Got.Missing → bytes_of self.old.files name.now ≡ None }
         ensures too_long { result ≡ Ok Got.TooLong → IsLonger (bytes_of self.old.files name.now) limit }
-        ensures cause { IsErrOf result FileFault.Failed → Rose self.old.calls.faults self.new.calls.faults }
-        ensures never_falls { self.old.calls.faults ≤ self.new.calls.faults }
+        ensures counts { Counts (IsErrOf result FileFault.Failed) self.old.uses.faults self.new.uses.faults }
 
-        // It fails exactly where the call's number is among those that are to fail.
-        ensures fails { fails_next self.old.calls ≡ true → result ≡ Err FileFault.Failed }
-        ensures goes { fails_next self.old.calls ≡ false → result ≢ Err FileFault.Failed }
+        // It fails exactly where the use's number is among those that are to fail.
+        ensures fails { fails_next self.old.uses ≡ true → result ≡ Err FileFault.Failed }
+        ensures goes { fails_next self.old.uses ≡ false → result ≢ Err FileFault.Failed }
         ensures files { self.new.files ≡ self.old.files }
-        ensures calls { self.new.calls ≡ (if fails_next self.old.calls then after_fault self.old.calls else after_call self.old.calls) }
+        ensures uses { self.new.uses ≡ (if fails_next self.old.uses then after_fault self.old.uses else after_use self.old.uses) }
     {
-        if !self.calls.begin(true) {
+        if !self.uses.begin(true) {
             return Err(FileFault::Failed);
         }
         let Some(bytes) = file_of(self.files.as_slice(), name) else {

@@ -1,7 +1,7 @@
 //! Where bytes are written to, and the one way to write all of a text.
 ghost use Rattle.std.specs.Prelude.{◌≡◌, ℕ, ◌<◌, ◌≤◌, List, Option, length, take, OnOk, OnErr, IfOk, IsErr};
-ghost use Rattle.gw_base.specs.Count.{Rose};
-ghost use Rattle.gw_base.specs.Told.{with_bytes};
+ghost use Rattle.gw_base.specs.Count.{Rose, Counts};
+ghost use Rattle.gw_base.specs.Told.{with_bytes, PutsUnless};
 ghost use Rattle.gw_base.specs.Connections.{Beside, nothing_beside};
 
 /// A call to the outside failed. The count of faults of the object rose.
@@ -25,8 +25,7 @@ pub trait Sink {
         ensures some { IfOk result (λ n. (0 < n) × (n ≤ length piece.now)) }
         ensures appended { IfOk result (λ n. told self.new ≡ with_bytes (told self.old) (take n piece.now)) }
         ensures failed { OnErr result (told self.new ≡ told self.old) }
-        ensures cause { OnErr result (Rose (faults self.old) (faults self.new)) }
-        ensures never_falls { faults self.old ≤ faults self.new }
+        ensures counts { Counts (IsErr result) (faults self.old) (faults self.new) }
         ensures others { beside self.new ≡ beside self.old };
 }
 
@@ -34,9 +33,8 @@ pub trait Sink {
 /// Takes no memory.
 pub fn put_all<S: Sink>(sink: &mut S, bytes: &[u8]) -> Result<(), Failed>
     ensures all { OnOk result (S.told sink.new ≡ with_bytes (S.told sink.old) bytes.now) }
-    ensures front { (n : ℕ) × (n ≤ length bytes.now) × (S.told sink.new ≡ with_bytes (S.told sink.old) (take n bytes.now)) }
-    ensures cause { OnErr result (Rose (S.faults sink.old) (S.faults sink.new)) }
-    ensures never_falls { S.faults sink.old ≤ S.faults sink.new }
+    ensures front { PutsUnless (Rose (S.faults sink.old) (S.faults sink.new)) (S.told sink.old) (S.told sink.new) bytes.now }
+    ensures counts { Counts (IsErr result) (S.faults sink.old) (S.faults sink.new) }
     ensures others { S.beside sink.new ≡ S.beside sink.old }
 {
     let mut done = 0;

@@ -1,4 +1,4 @@
-//! Each public call once on its happy path, and the objects in memory with calls that fail.
+//! Each public call once on its happy path, and the objects in memory with uses that fail.
 ghost use Rattle.std.specs.Prelude.{None};
 
 use super::*;

@@ -1,5 +1,5 @@
 //! A text. Contracts see it as the list of its UTF-8 bytes.
-ghost use Rattle.std.specs.Prelude.{◌≡◌, IfOk};
+ghost use Rattle.std.specs.Prelude.{◌≡◌, ◌++◌, [], IfOk, OnOk, OnErr};
 ghost use Rattle.std.specs.String.{string_bytes};
 
 use std::alloc::{AllocError, Global};
@@ -21,6 +21,15 @@ impl Model for Text {
 }
 
 impl Text {
+    /// An empty text, which takes no memory.
+    pub fn new(alloc: Global) -> Text
+        ensures empty { result ≡ [] }
+    {
+        Text {
+            text: String::new(alloc),
+        }
+    }
+
     /// The text of a string, which takes no memory.
     pub fn from_string(text: String) -> Text
         ensures same { result ≡ string_bytes text }
@@ -35,6 +44,14 @@ impl Text {
         Ok(Text {
             text: String::from_str(alloc, text)?,
         })
+    }
+
+    /// Adds a text at the end. For want of memory the text stays as it was.
+    pub fn push(&mut self, piece: &str) -> Result<(), AllocError>
+        ensures added { OnOk result (self.new ≡ self.old ++ piece.now) }
+        ensures kept { OnErr result (self.new ≡ self.old) }
+    {
+        self.text.push_str(piece)
     }
 
     /// The text.
