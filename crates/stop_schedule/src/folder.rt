@@ -1,9 +1,9 @@
 //! The files of a folder, by name.
-ghost use Rattle.std.specs.Prelude.{◌≡◌, ◌≤◌, IfSome, IfOk, IsErrOf};
+ghost use Rattle.std.specs.Prelude.{◌≡◌, IfSome, IfOk};
 ghost use Rattle.std.specs.String.{string_bytes};
-ghost use Rattle.gw_base.specs.Count.{Rose};
+ghost use Rattle.gw_base.specs.Count.{Counts};
 ghost use Rattle.gw_base.specs.Directory.{bytes_of};
-ghost use Rattle.stop_schedule.specs.Answers.{GivesFile};
+ghost use Rattle.stop_schedule.specs.Answers.{GivesFile, HasFailed};
 ghost use Rattle.stop_schedule.specs.Timetable.{path_of};
 
 use crate::table_fault::TableFault;
@@ -32,8 +32,7 @@ pub(crate) fn read_file<F: Files>(
     file: TableFile,
 ) -> Result<Bytes, TableFault>
     ensures exact { IfSome (F.told files.old) (λ told. GivesFile result file (bytes_of told (path_of dir.now file))) }
-    ensures cause { (at : TableFile) → IsErrOf result (TableFault.Failed at) → Rose (F.faults files.old) (F.faults files.new) }
-    ensures never_falls { F.faults files.old ≤ F.faults files.new }
+    ensures counts { Counts (HasFailed result) (F.faults files.old) (F.faults files.new) }
     ensures same { F.told files.new ≡ F.told files.old }
 {
     let Ok(path) = path(alloc, dir, file) else {

@@ -1,8 +1,9 @@
 //! The timetable of a folder. The functions meet `specs/Timetable.antt`.
-ghost use Rattle.std.specs.Prelude.{◌≡◌, ◌≤◌, ◌<◌, Some, length, slice_get, position, option_map, IfSome, IsErrOf, IsTrue};
+ghost use Rattle.std.specs.Prelude.{◌≡◌, ◌≤◌, ◌<◌, Some, length, slice_get, position, option_map, IfSome, IsTrue};
 ghost use Rattle.std.specs.Str.{bytes_eq};
-ghost use Rattle.gw_base.specs.Count.{Rose};
-ghost use Rattle.stop_schedule.specs.Answers.{Gives};
+ghost use Rattle.gw_base.specs.Count.{Counts};
+ghost use Rattle.stop_schedule.specs.Answers.{HasFailed, is_free};
+ghost use Rattle.gw_base.specs.Answers.{UnlessFree};
 ghost use Rattle.stop_schedule.specs.Ids.{are_distinct};
 ghost use Rattle.stop_schedule.specs.Timetable.{timetable as timetable_of};
 
@@ -81,9 +82,8 @@ pub fn read_timetable<F: Files>(
     files: &mut F,
     dir: &str,
 ) -> Result<Timetable, TableFault>
-    ensures exact { IfSome (F.told files.old) (λ told. Gives result (timetable_of told dir.now)) }
-    ensures cause { (file : TableFile) → IsErrOf result (TableFault.Failed file) → Rose (F.faults files.old) (F.faults files.new) }
-    ensures never_falls { F.faults files.old ≤ F.faults files.new }
+    ensures exact { IfSome (F.told files.old) (λ told. UnlessFree is_free result (λ answer. answer ≡ timetable_of told dir.now)) }
+    ensures counts { Counts (HasFailed result) (F.faults files.old) (F.faults files.new) }
     ensures same { F.told files.new ≡ F.told files.old }
 {
     let bytes = read_file(alloc, files, dir, TableFile::Trips)?;
