@@ -1,9 +1,6 @@
-mod EndingLemmas
 mod FeedLemmas
 mod FrameLemmas
 mod JourneyLemmas
-mod OutcomeLemmas
-mod SinkLemmas
 mod PublishedLemmas
 mod ReadingLemmas
 mod WordLemmas

@@ -19,7 +19,7 @@ use Rattle.service_day.specs.Utc.{utc_of}
 use Rattle.service_day.specs.declared.days.DayForm.TheVariants.{Dashed}
 use Rattle.service_day.proofs.DayTextLemmas.{compact_day-compact_text}
 use Rattle.gateway.specs.Feeds.{id_of, message_of, feed_of}
-use Rattle.gateway.specs.Journeys.{Spelt, Setting, text_under, is_cancelled, is_extra, recorded_at, day_at, trip_at, in_window, dated, judged, verdict, spelt, behind, verdicts, verdicts_behind, taken, same_journey}
+use Rattle.gateway.specs.Journeys.{Spelt, text_under, is_cancelled, is_extra, recorded_at, day_at, trip_at, in_window, dated, judged, verdict, spelt, behind, verdicts, verdicts_behind, taken, same_journey}
 use Rattle.gateway.specs.Outcomes.{task_of, setting_in}
 use Rattle.gateway.specs.Words.{ToGtfsrt, IsToGtfsrt, beginning, day_count, decimal_number, first_day, last_day}
 use Rattle.stop_schedule.specs.Table.{Table}
@@ -28,10 +28,11 @@ use Rattle.gateway.specs.declared.item.Aside.{Aside}
 use Rattle.gateway.specs.declared.item.Aside.TheVariants.{NotYet, OutOfWindow}
 use Rattle.gateway.specs.declared.item.Cancelled.{Cancelled}
 use Rattle.gateway.proofs.JourneyLemmas.{utc_of-IsMoment}
+use Rattle.gateway.specs.declared.setting.Setting.{Setting}
 
 -- what is known of a journey that is taken
 pub record IsReadable (setting : Setting) (journey : Cancelled) : Type 0 where
-  pub trip : position (bytes_eq (id_of setting.trips journey.trip.0)) setting.trips ≡ Some journey.trip.0
+  pub trip : position (bytes_eq (id_of setting.table.trips journey.trip.0)) setting.table.trips ≡ Some journey.trip.0
   pub day : IsDay journey.day
   pub within : in_window setting journey.day ≡ true
   pub moment : IsMoment journey.recorded
@@ -45,12 +46,12 @@ moment_is (negsuc n) h = let first = h.0 in absurd (omega (arith, ints))
 
 -- such a journey is read from its entity in any feed
 read_one : (at : ℤ) (setting : Setting) (all : List Cancelled) (journey : Cancelled) → IsReadable setting journey
-    → reading setting (feed_of at setting.trips all) (message_of setting.trips journey) ≡ Some (reading_of journey)
+    → reading setting (feed_of at setting.table.trips all) (message_of setting.table.trips journey) ≡ Some (reading_of journey)
 read_one at setting all journey h =
     rw (h.trip, compact_day-compact_text journey.day h.day, h.within, moment_is journey.recorded h.moment) refl
 
 pub read_all : (at : ℤ) (setting : Setting) (all journeys : List Cancelled) → AllByRecursion (IsReadable setting) journeys
-    → map (reading setting (feed_of at setting.trips all)) (map (message_of setting.trips) journeys) ≡ map (λ journey. Some (reading_of journey)) journeys
+    → map (reading setting (feed_of at setting.table.trips all)) (map (message_of setting.table.trips) journeys) ≡ map (λ journey. Some (reading_of journey)) journeys
 read_all at setting all [] h = refl
 read_all at setting all (journey ∷ journeys) h = λ i. read_one at setting all journey h.0 i ∷ read_all at setting all journeys h.1 i
 
@@ -101,20 +102,20 @@ same_Ok x y e = cc
 
 -- a journey that is taken
 dated_readable : (setting : Setting) (said : Spelt) (trip : Option ℕ) (journey : Cancelled) → IsWindowed setting → IsMoment said.recorded
-    → position (bytes_eq said.trip_id) setting.trips ≡ trip → dated setting said trip ≡ Ok journey → IsReadable setting journey
+    → position (bytes_eq said.trip_id) setting.table.trips ≡ trip → dated setting said trip ≡ Ok journey → IsReadable setting journey
 dated_readable setting said None journey w m found e = absurd (cc)
 dated_readable setting said (Some trip) journey w m found e = by (in_window setting said.day) refl e
   where
     by : (b : Bool) → in_window setting said.day ≡ b
         → ◌≡◌ {A = Result Cancelled Aside} (if b then Ok (record { day = said.day; trip = record { 0 = trip }; recorded = said.recorded }) else Err OutOfWindow) (Ok journey) → IsReadable setting journey
     by true within e =
-        subst (IsReadable setting) (same_Ok _ _ e) (record { trip = same_id setting.trips said.trip_id trip found; day = in_days setting said.day w within; within = within; moment = m })
+        subst (IsReadable setting) (same_Ok _ _ e) (record { trip = same_id setting.table.trips said.trip_id trip found; day = in_days setting said.day w within; within = within; moment = m })
     by false within e = absurd (cc)
 
 judged_readable : (setting : Setting) (found : Option Spelt) (journey : Cancelled) → IsWindowed setting → ((s : Spelt) → found ≡ Some s → IsMoment s.recorded)
     → judged setting found ≡ Ok journey → IsReadable setting journey
 judged_readable setting None journey w m e = absurd (cc)
-judged_readable setting (Some s) journey w m e = dated_readable setting s (position (bytes_eq s.trip_id) setting.trips) journey w (m s refl) refl e
+judged_readable setting (Some s) journey w m e = dated_readable setting s (position (bytes_eq s.trip_id) setting.table.trips) journey w (m s refl) refl e
 
 verdict_readable : (setting : Setting) (item : Data) (journey : Cancelled) → IsWindowed setting → verdict setting item ≡ Ok journey → IsReadable setting journey
 verdict_readable setting item journey w e = judged_readable setting (spelt item) journey w (λ s found. spelt_moment item s found) e

@@ -1,12 +1,13 @@
-pub mod Endings
+pub mod Exits
 pub mod Feeds
 pub mod Frame
 pub mod Items
 pub mod Journeys
-pub mod Outcomes
 pub mod Published
 pub mod Readings
 pub mod Reports
-pub mod Stops
+pub mod Runs
+pub mod Windowed
 pub mod Words
+pub mod Work
 pub mod Works

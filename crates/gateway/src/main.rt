@@ -5,15 +5,17 @@
 mod command_line;
 mod delivery;
 mod devices;
+mod exit;
 mod feed;
 mod frame;
 mod item;
-mod outcome;
 mod report;
+mod setting;
 #[cfg(test)]
 mod tests;
 mod top;
 mod words;
+mod work;
 
 use command_line::words_of;
 use devices::{DirFiles, StdSink};

@@ -1,3 +1,3 @@
+pub mod AnswerLemmas
 pub mod CountLemmas
-pub mod StepLemmas
 pub mod ToldLemmas
