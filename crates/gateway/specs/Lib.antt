@@ -1,12 +1,16 @@
 pub mod Endings
 pub mod Feeds
+pub mod Forms
 pub mod Frame
 pub mod Items
 pub mod Journeys
 pub mod Outcomes
+pub mod Pairs
 pub mod Published
 pub mod Readings
 pub mod Reports
+pub mod Rows
 pub mod Stops
+pub mod Tables
 pub mod Words
 pub mod Works
