@@ -43,7 +43,7 @@ no_number_other text h = rw h refl
 pub is_number : (text : List ℕ) → all_ascii_digits text ≡ true → 1 ≤ length text → length text ≤ 10 → Some (going_on 0 text) ≡ decimal_number text
 is_number text digits some short = grind (arith, nat_tests)
 
--- the moments that texts name
+-- parts of tests
 
 pub cond_then : {A : Type 0} (b : Bool) (o : Option A) (x : A) → cond b o None ≡ Some x → (b ≡ true) × (o ≡ Some x)
 cond_then true o x h = (refl, h)
@@ -56,19 +56,6 @@ both_left false b h = h
 pub both_right : (a b : Bool) → (a && b) ≡ true → b ≡ true
 both_right true b h = h
 both_right false b h = absurd cc
-
-moment_if_range : (secs at : ℤ) → moment_if secs ≡ Some at → IsMoment at
-moment_if_range secs at h = grind (arith, ints, common_steps)
-
-moment_at_range : (day : Option ℤ) (hour minute second : ℕ) (at : ℤ) → moment_at day hour minute second ≡ Some at → IsMoment at
-moment_at_range None hour minute second at h = absurd (none-some at h)
-moment_at_range (Some day) hour minute second at h = moment_if_range (seconds_at day hour minute second) at (cond_then (is_clock hour minute second) _ at h).1
-
-pub utc_range : (text : List ℕ) (at : ℤ) → utc_of text ≡ Some at → IsMoment at
-unfolding utc_of
-utc_range text at h =
-    moment_at_range (date_number (four_at text 0) (two_at text 5) (two_at text 8)) (two_at text 11) (two_at text 14) (two_at text 17) at
-    (cond_then (has_form utc_form text) _ at h).1
 
 -- a day of a window is between the first and the last
 pub beginning_range : (word : List ℕ) (first : ℤ) → beginning word ≡ Some first → (int_le FIRST_DAY first && int_le first LAST_DAY) ≡ true

@@ -21,13 +21,16 @@ use Rattle.service_day.proofs.DayTextLemmas.{compact_day-compact_text}
 use Rattle.gateway.specs.Feeds.{id_of, message_of, feed_of}
 use Rattle.gateway.specs.Journeys.{Spelt, Setting, text_under, is_cancelled, is_extra, recorded_at, day_at, trip_at, in_window, dated, judged, verdict, spelt, behind, verdicts, verdicts_behind, taken, same_journey}
 use Rattle.gateway.specs.Outcomes.{task_of, setting_in}
-use Rattle.gateway.specs.Words.{ToGtfsrt, IsToGtfsrt, beginning, day_count, decimal_number, first_day, last_day}
+use Rattle.gateway.specs.Words.{ToGtfsrt, IsToGtfsrt}
+use Rattle.gateway.specs.declared.words.forms.TheConstants.{FIRST_DAY, LAST_DAY}
 use Rattle.stop_schedule.specs.Table.{Table}
 use Rattle.gateway.specs.Readings.{reading, reading_of, moment_in}
 use Rattle.gateway.specs.declared.item.Aside.{Aside}
 use Rattle.gateway.specs.declared.item.Aside.TheVariants.{NotYet, OutOfWindow}
 use Rattle.gateway.specs.declared.item.Cancelled.{Cancelled}
+use Rattle.gateway.proofs.FormLemmas.{cond_then, both_right}
 use Rattle.gateway.proofs.JourneyLemmas.{utc_of-IsMoment}
+use Rattle.gateway.proofs.WordLemmas.{windowed}
 
 -- what is known of a journey that is taken
 pub record IsReadable (setting : Setting) (journey : Cancelled) : Type 0 where
@@ -77,14 +80,6 @@ same_id : (trips : List (List ℕ)) (id : List ℕ) (trip : ℕ) → position (b
 same_id trips id trip e =
     let same : id ≡ get_or trips trip [] = (bytes_eq-Decides id (get_or trips trip [])).0 (position_passes (bytes_eq id) trips trip e) in
     rw (← same) e
-
-cond_then : {A : Type 0} (b : Bool) (o : Option A) (x : A) → (if b then o else None) ≡ Some x → (b ≡ true) × (o ≡ Some x)
-cond_then true o x e = (refl, e)
-cond_then false o x e = absurd (none-some x e)
-
-both_right : (a b : Bool) → (a && b) ≡ true → b ≡ true
-both_right true b e = e
-both_right false b e = absurd (false≢true e)
 
 -- what is recorded is a moment
 spelt_moment : (item : Data) (journey : Spelt) → spelt item ≡ Some journey → IsMoment journey.recorded
@@ -147,18 +142,7 @@ ordered_readable setting items ordered w same =
 -- the window of an accepted command
 pub command_windowed : (words : List (List ℕ)) (command : ToGtfsrt) (table : Table) → IsToGtfsrt words command → IsWindowed (setting_in (task_of command) table)
 command_windowed words command table h =
-    let first : pos 365 ≤ℤ command.from = first_in h.0 command.from h.9 in
-    let last : int_le (command.from +ℤ pos command.days -ℤ pos 1) last_day ≡ true = last_in command.from h.1 command.days h.10 in
-    record { first = first; last = grind (arith, ints) }
-  where
-    first_in : (word : List ℕ) (from : ℤ) → beginning word ≡ Some from → pos 365 ≤ℤ from
-    first_in word from e = option_and_then_some _ (day_of Dashed word) from e (λ day found f.
-        let both : (int_le first_day day && int_le day last_day ≡ true) × (Some day ≡ Some from) = cond_then _ _ from f in
-        let low = both.0 in
-        let same : day ≡ from = same_Some day from both.1 in
-        subst (λ d. pos 365 ≤ℤ d) same (grind (arith, ints)))
-
-    last_in : (from : ℤ) (word : List ℕ) (days : ℕ) → day_count from word ≡ Some days → int_le (from +ℤ pos days -ℤ pos 1) last_day ≡ true
-    last_in from word days e = option_and_then_some _ (decimal_number word) days e (λ n found f.
-        let all : (nat_le 1 n && nat_le n 32 && int_le (from +ℤ pos n -ℤ pos 1) last_day ≡ true) × (Some n ≡ Some days) = cond_then _ _ days f in
-        subst (λ d. int_le (from +ℤ pos d -ℤ pos 1) last_day ≡ true) (same_Some n days all.1) (both_right (nat_le 1 n && nat_le n 32) _ all.0))
+    let window = windowed words command h in
+    let low : int_le FIRST_DAY command.from ≡ true = window.0 in
+    let high : int_le (command.from +ℤ pos command.days -ℤ pos 1) LAST_DAY ≡ true = both_right _ _ window.1 in
+    record { first = grind (arith, ints); last = grind (arith, ints) }

@@ -3,8 +3,9 @@ use Rattle.std.proofs.Common.{◌≡◌, ◌≢◌, ◌⊎◌, inl, inr, refl, a
 use Rattle.std.specs.Prelude.{IsTrue, nat_eq}
 use Rattle.std.specs.Cmp.Lexicographic.{pointwise}
 use Rattle.std.specs.List.{list_any}
+use Rattle.std.proofs.Math.ListN.{get_or-eq_default}
 use Rattle.std.proofs.Math.Seq.{drop-cons}
-use Rattle.std.proofs.lemmas.Bool.{cases_lt}
+use Rattle.std.proofs.lemmas.Bool.{cases_lt, false≢true}
 use Rattle.std.proofs.lemmas.Cmp.{nat_list_eq_equiv}
 use Rattle.std.proofs.lemmas.List.{length-map, get_or-map}
 use Rattle.std.proofs.lemmas.Option.{none-some, same_Some, slice_get-get_or, slice_get_within}
@@ -265,6 +266,18 @@ pair_of command (suc k) m number before (flag ∷ value ∷ words) e below h =
       value_is = rest.value_is;
       is = rest.is;
     }
+
+-- a command without repeated pairs has exactly its words
+pub all_pairs : (command : Command) → command.repeated ≡ [] → (k number : ℕ) (before : List ℕ) (words : Words) → length command.pairs ≡ number + k
+    → ArePairs command number before words → length words ≡ double k
+all_pairs command none k number before (flag ∷ []) e h = absurd h
+all_pairs command none zero number before [] e h = refl
+all_pairs command none zero number before (flag ∷ value ∷ words) e h =
+    let last : choices_at command number ≡ [] = get_or-eq_default command.pairs command.repeated (omega arith) ∙ none in
+    absurd (false≢true (rw last at h.0))
+all_pairs command none (suc k) number before [] e h = absurd (omega arith)
+all_pairs command none (suc k) number before (flag ∷ value ∷ words) e h =
+    ap (λ n. suc (suc n)) (all_pairs command none k (number + 1) value words (omega arith) h.1)
 
 -- several commands: the farthest place at which one of them stops
 

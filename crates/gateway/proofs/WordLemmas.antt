@@ -1,5 +1,5 @@
 -- What the words of an accepted list say.
-use Rattle.std.proofs.Common.{◌≡◌, ◌≢◌, ◌⊎◌, refl, ap, sym, ◌∙◌, ℕ, zero, suc, ◌+◌, ◌<◌, ◌≤◌, ℤ, List, [], ◌∷◌, Option, Some, None, length, drop, get_or, slice_get, subst, arith, Bool, true, false, ◌&&◌, ◌||◌}
+use Rattle.std.proofs.Common.{inl, length-drop, ◌≡◌, ◌≢◌, ◌⊎◌, refl, ap, sym, ◌∙◌, ℕ, zero, suc, ◌+◌, ◌<◌, ◌≤◌, ℤ, List, [], ◌∷◌, Option, Some, None, length, drop, get_or, slice_get, subst, arith, Bool, true, false, ◌&&◌, ◌||◌}
 use Rattle.std.specs.Prelude.{IsTrue, pos, int_le, nat_le, is_some, option_and_then, ◌+ℤ◌, ◌-ℤ◌, map}
 use Rattle.std.proofs.lemmas.Bool.Decides.{nat_tests}
 use Rattle.std.specs.Option.{option_map}
@@ -7,12 +7,12 @@ use Rattle.std.proofs.lemmas.Option.{none-some, same_Some, slice_get-map, slice_
 use Rattle.gateway.specs.Forms.{is_filled, is_day, is_day_count, is_moment, beginning, decimal_number, is_window_of}
 use Rattle.gateway.specs.Rows.{row_of, IsOneOf}
 use Rattle.gateway.specs.Tables.{Form, Choice, Command, is_pair, choices_at, IsCommand, CanBeMet, HaveChoices, IsSatisfiable, AreSatisfiable}
-use Rattle.gateway.specs.Words.{flagged, to_gtfsrt, commands, ToGtfsrt, IsToGtfsrt}
+use Rattle.gateway.specs.Words.{flagged, to_gtfsrt, commands, ToGtfsrt, IsToGtfsrt, IsRefusedAt}
 use Rattle.gateway.specs.declared.words.table.Command as declared
 use Rattle.gateway.specs.declared.words.table.Kind.{Kind}
 use Rattle.gateway.specs.declared.words.forms.TheConstants.{FIRST_DAY, LAST_DAY, MOST_DAYS}
 use Rattle.gateway.proofs.FormLemmas.{filled_met, day_met, day_count_met, moment_met, beginning_range, both_left, both_right}
-use Rattle.gateway.proofs.TableLemmas.{PairOf, pair_of, double}
+use Rattle.gateway.proofs.TableLemmas.{PairOf, pair_of, double, all_pairs}
 use Rattle.service_day.specs.Utc.{utc_of}
 
 -- each pair of `to-gtfsrt` has a flag, and its form can be met
@@ -105,3 +105,13 @@ few_days words command days is same =
     let few : nat_le command.days 32 ≡ true = both_right (nat_le 1 command.days) _ (both_left _ _ window) in
     let e : command.days ≡ days = same_Some _ _ (sym is.days ∙ same) in
     subst (λ n. n ≤ 32) e (grind (arith, nat_tests, few))
+
+-- accepted words aren't refused
+pub not_both : (words : List (List ℕ)) (command : ToGtfsrt) (at : ℕ) → IsToGtfsrt words command → IsRefusedAt words at → ⊥
+not_both words command at is refused = refused.none (inl is.accepted)
+
+-- its deliveries are one pair
+pub one_delivery : (words : List (List ℕ)) (command : ToGtfsrt) → IsToGtfsrt words command → length (drop 11 words) ≡ 2
+one_delivery [] command is = absurd is.accepted
+one_delivery (name ∷ words) command is =
+    let all : length words ≡ 12 = all_pairs to_gtfsrt refl 6 0 name words refl is.accepted.1 in omega (arith, length-drop 11 (name ∷ words))

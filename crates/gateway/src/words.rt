@@ -1,5 +1,5 @@
 //! The words of a command line. Only exactly the lists of words of a command are accepted.
-ghost use Rattle.std.specs.Prelude.{IfOk, IfErr};
+ghost use Rattle.std.specs.Prelude.{◌≡◌, length, IfOk, IfErr};
 ghost use Rattle.gateway.specs.Words.{ToGtfsrt, IsToGtfsrt, IsRefusedAt};
 ghost use Rattle.gateway.specs.Works.{command_of};
 
@@ -81,7 +81,8 @@ static COMMANDS: [Command; 1] = [Command {
 // What the words of `to-gtfsrt` say.
 fn to_gtfsrt(words: &[Text]) -> Work<'_>
     requires { (command : ToGtfsrt) × IsToGtfsrt words.now command }
-    ensures { IsToGtfsrt words.now (command_of result) }
+    ensures read { IsToGtfsrt words.now (command_of result) }
+    ensures delivery { length (command_of result).more ≡ 2 }
 {
     Work::ToGtfsrt {
         gtfs: &words[2],
@@ -97,6 +98,7 @@ fn to_gtfsrt(words: &[Text]) -> Work<'_>
 pub fn job(words: &[Text]) -> Result<Work<'_>, BadWord>
     ensures accepted { IfOk result (λ work. IsToGtfsrt words.now (command_of work)) }
     ensures refused { IfErr result (λ bad. IsRefusedAt words.now bad.at) }
+    ensures delivery { IfOk result (λ work. length (command_of work).more ≡ 2) }
 {
     match which(&COMMANDS, words)? {
         Kind::ToGtfsrt => Ok(to_gtfsrt(words)),

@@ -1,8 +1,8 @@
-use Rattle.std.proofs.Common.{refl, sym, ◌∙◌, ◌≤◌, arith}
+use Rattle.std.proofs.Common.{refl, ap, sym, length, ◌∙◌, ◌≤◌, arith}
 use Rattle.std.proofs.lemmas.List.{take_rest}
 use Rattle.std.proofs.lemmas.Option.{slice_get_read, slice_get_within}
 use Rattle.gateway.specs.Forms.{beginning, decimal_number}
-use Rattle.gateway.proofs.WordLemmas.{read_at, few_days}
+use Rattle.gateway.proofs.WordLemmas.{read_at, few_days, one_delivery}
 use Rattle.gateway.proofs.words.to_gtfsrt.Goals as goal
 use Rattle.service_day.specs.Utc.{utc_of}
 
@@ -13,8 +13,8 @@ overflow_cast-result c =
         (read_at decimal_number c.args.words.now 8 _ c.unwrap-2.result _ is.days c.index-words-8.is (sym c.number.ensures ∙ c.unwrap-2.ensures)) in
     omega arith
 
-pub returns : goal.returns
-returns c =
+pub returns-clause-read : goal.returns-clause-read
+returns-clause-read c =
     let is = c.requires.1 in
     let words = c.args.words.now in
     record {
@@ -26,3 +26,6 @@ returns c =
       at = read_at utc_of words 10 _ _ _ is.at c.index-words-10.is (sym c.moment.ensures ∙ c.unwrap-3.ensures);
       more = sym (take_rest words 11);
     }
+
+pub returns-clause-delivery : goal.returns-clause-delivery
+returns-clause-delivery c = ap length (take_rest c.args.words.now 11) ∙ one_delivery c.args.words.now c.requires.0 c.requires.1
