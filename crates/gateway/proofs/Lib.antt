@@ -1,6 +1,8 @@
 mod FeedLemmas
+mod FormLemmas
 mod FrameLemmas
 mod JourneyLemmas
 mod PublishedLemmas
 mod ReadingLemmas
+mod TableLemmas
 mod WordLemmas

@@ -1,12 +1,16 @@
 pub mod Exits
 pub mod Feeds
+pub mod Forms
 pub mod Frame
 pub mod Items
 pub mod Journeys
+pub mod Pairs
 pub mod Published
 pub mod Readings
 pub mod Reports
+pub mod Rows
 pub mod Runs
+pub mod Tables
 pub mod Windowed
 pub mod Words
 pub mod Work

@@ -1,5 +1,5 @@
 //! The real files and streams. They count their faults, and tell nothing of their content.
-ghost use Rattle.std.specs.Prelude.{None};
+ghost use Rattle.std.specs.Prelude.{◌≡◌, None};
 
 use gw_base::{Bytes, Failed, FileFault, Files, Got, Sink};
 use std::alloc::Global;
@@ -24,8 +24,10 @@ impl<'a, R: std::rt::Files> Model for DirFiles<'a, R> {
 }
 
 impl<'a, R: std::rt::Files> DirFiles<'a, R> {
-    /// The files that the runtime reaches.
-    pub fn new(alloc: Global, rt: &'a R) -> DirFiles<'a, R> {
+    /// The files that the runtime reaches, with no fault so far.
+    pub fn new(alloc: Global, rt: &'a R) -> DirFiles<'a, R>
+        ensures { result ≡ 0 }
+    {
         DirFiles {
             rt,
             alloc,
@@ -82,8 +84,10 @@ impl<W: Write + Drop> Model for StdSink<W> {
 }
 
 impl<W: Write + Drop> StdSink<W> {
-    /// A sink that writes to the stream.
-    pub fn new(stream: W) -> StdSink<W> {
+    /// A sink that writes to the stream, with no fault so far.
+    pub fn new(stream: W) -> StdSink<W>
+        ensures { result ≡ 0 }
+    {
         StdSink { stream, faults: 0 }
     }
 }

@@ -1,8 +1,8 @@
 use Rattle.std.proofs.Common.{arith, sym, ◌∙◌, ◌≤◌, length}
 use Rattle.std.proofs.lemmas.Grind.{common_steps}
-use Rattle.gateway.proofs.WordLemmas.{number_parsed, no_number_empty, no_number_long, no_number_other, is_number}
-use Rattle.gateway.proofs.words.number.Goals as goal
-use Rattle.gateway.proofs.words.number.Goals.{then-is_empty-via-then-is_empty, then-is_empty-via-else-is_empty+then-text-gt10, then-is_empty-via-else-is_empty+else-text-gt10+then-not-is_digits}
+use Rattle.gateway.proofs.FormLemmas.{number_parsed, no_number_empty, no_number_long, no_number_other, is_number}
+use Rattle.gateway.proofs.words.forms.number.Goals as goal
+use Rattle.gateway.proofs.words.forms.number.Goals.{then-is_empty-via-then-is_empty, then-is_empty-via-else-is_empty+then-text-gt10, then-is_empty-via-else-is_empty+else-text-gt10+then-not-is_digits}
 
 pub returns-then-is_empty : goal.returns-then-is_empty
 returns-then-is_empty c =

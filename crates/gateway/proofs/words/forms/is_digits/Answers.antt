@@ -4,7 +4,7 @@ use Rattle.std.specs.Str.{all_ascii_digits}
 use Rattle.std.specs.Char.{is_ascii_digit}
 use Rattle.std.proofs.lemmas.Iterator.{YieldsList-from_slice}
 use Rattle.std.proofs.lemmas.Iterator.Search.{all_from_yields_List}
-use Rattle.gateway.proofs.words.is_digits.Goals as goal
+use Rattle.gateway.proofs.words.forms.is_digits.Goals as goal
 
 all_digits : (text : List ℕ) → list_all is_ascii_digit text ≡ all_ascii_digits text
 all_digits [] = refl
