@@ -59,9 +59,9 @@ completed command met (suc n) k before h =
     elim (cases_lt k (length command.pairs)) [
       | inr all ↦ ([], all)
       | inl below ↦
-        let pair = pair_met command.pairs command.repeated k before met.pairs below in
-        let rest = completed command met n (k + 1) pair.1 (omega arith) in
-        (pair.0 ∷ pair.1 ∷ rest.0, (pair.2, rest.1))
+          let pair = pair_met command.pairs command.repeated k before met.pairs below in
+          let rest = completed command met n (k + 1) pair.1 (omega arith) in
+          (pair.0 ∷ pair.1 ∷ rest.0, (pair.2, rest.1))
     ]
 
 can_end : (command : Command) → IsSatisfiable command → (k : ℕ) (before : List ℕ) → IsStart (ArePairs command k before) []
@@ -135,15 +135,15 @@ leads_on Accepted words at Left word leads is =
     elim (head_cases words at leads.within) [
       | inl end ↦ absurd (none-some word (sym end.0 ∙ is))
       | inr more ↦
-        let e : drop at words ≡ word ∷ drop (at + 1) words = more.2 ∙ ap (λ w. w ∷ drop (at + 1) words) (same_Some _ _ (sym more.1 ∙ is)) in
-        record {
-          within = more.3;
-          accepts = λ h. leads.accepts (subst Left (sym e) h);
-          refuses = λ n stops.
-              let on : StopsAt Accepted words (at + suc n) =
-                  leads.refuses (suc n) (subst (λ ws. StopsAt Left ws (suc n)) (sym e) (stops-cons Left word _ n stops)) in
-              subst (λ k. StopsAt Accepted words k) (omega arith) on;
-        }
+          let e : drop at words ≡ word ∷ drop (at + 1) words = more.2 ∙ ap (λ w. w ∷ drop (at + 1) words) (same_Some _ _ (sym more.1 ∙ is)) in
+          record {
+            within = more.3;
+            accepts = λ h. leads.accepts (subst Left (sym e) h);
+            refuses = λ n stops.
+                let on : StopsAt Accepted words (at + suc n) =
+                leads.refuses (suc n) (subst (λ ws. StopsAt Left ws (suc n)) (sym e) (stops-cons Left word _ n stops)) in
+                subst (λ k. StopsAt Accepted words k) (omega arith) on;
+          }
     ]
 
 leads_no_more : (Accepted : Words → Type 0) (words : Words) (at : ℕ) (Left : Words → Type 0) → Leads Accepted words at Left → IsStart Left []
@@ -187,7 +187,7 @@ on_pair command words number at on pair =
     let two : at + 1 + 1 ≡ at + 2 = omega arith in
     let last : at + 2 - 1 ≡ at + 1 = omega arith in
     let is : IsTrue (is_pair (choices_at command number) on.before pair.flag pair.value) =
-        subst (λ b. IsTrue (is_pair (choices_at command number) b pair.flag pair.value)) (same_word words (at - 1) _ _ pair.before_is on.before_is) pair.is in
+    subst (λ b. IsTrue (is_pair (choices_at command number) b pair.flag pair.value)) (same_word words (at - 1) _ _ pair.before_is on.before_is) pair.is in
     record {
       before = pair.value;
       before_is = rw last pair.value_is;
@@ -204,6 +204,7 @@ off_pair command words number at bad met on more (inl none) =
   where
     ends : slice_get words at ≡ None → ¬ (length command.pairs ≤ number)
     ends e le = elim more [ inl below ↦ omega arith | inr below ↦ none-some _ (sym e ∙ slice_get-get_or words at [] below) ]
+
     wrong : (word : List ℕ) → slice_get words at ≡ Some word → (rest : Words) → ¬ (ArePairs command number on.before (word ∷ rest))
     wrong word is [] h = h
     wrong word is (value ∷ rest) h = absurd (let f : is_pair (choices_at command number) on.before word value ≡ false = no_flag _ on.before word value (none.0 word is) in cc (h.0))
@@ -294,8 +295,8 @@ farther Left Right words a b left right = record {
   within = omega (arith, left.within, right.within);
   start = elim (cases_lt a b) [
     | inl lt ↦
-      let is : max a b ≡ b = omega arith in
-      rw is (elim right.start as (λ _. (b ≡ 0) ⊎ IsStart (λ ws. Left ws ⊎ Right ws) (take b words)) [ inl none ↦ inl none | inr s ↦ inr (s.0, inr s.1) ])
+        let is : max a b ≡ b = omega arith in
+        rw is (elim right.start as (λ _. (b ≡ 0) ⊎ IsStart (λ ws. Left ws ⊎ Right ws) (take b words)) [ inl none ↦ inl none | inr s ↦ inr (s.0, inr s.1) ])
     | inr ge ↦ let is : max a b ≡ a = omega arith in rw is (inr (left.start.0, inl left.start.1))
   ];
   longest = λ n within start. elim start.1 [

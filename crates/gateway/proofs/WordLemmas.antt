@@ -67,17 +67,18 @@ read (name ∷ words) h =
     let at = pair name words 4 (omega arith) h in
     let first = some_of (beginning from.value) (form_met _ is_day _ _ from) in
     let count = counted (beginning days.before) (decimal_number days.value) (form_met _ is_day_count _ _ days) in
-    let second = some_of (utc_of at.value) (form_met _ is_moment _ _ at) in
-    (record { gtfs = gtfs.value; rule = rule.value; from = first.0; days = count.0; at = second.0; more = drop 11 (name ∷ words) },
-    record {
-      accepted = h;
-      gtfs = gtfs.value_is;
-      rule = rule.value_is;
-      from = ap (option_and_then beginning) from.value_is ∙ first.1;
-      days = ap (option_and_then decimal_number) days.value_is ∙ count.1;
-      at = ap (option_and_then utc_of) at.value_is ∙ second.1;
-      more = refl;
-    })
+    let second = some_of (utc_of at.value) (form_met _ is_moment _ _ at) in (
+      record { gtfs = gtfs.value; rule = rule.value; from = first.0; days = count.0; at = second.0; more = drop 11 (name ∷ words) },
+      record {
+        accepted = h;
+        gtfs = gtfs.value_is;
+        rule = rule.value_is;
+        from = ap (option_and_then beginning) from.value_is ∙ first.1;
+        days = ap (option_and_then decimal_number) days.value_is ∙ count.1;
+        at = ap (option_and_then utc_of) at.value_is ∙ second.1;
+        more = refl;
+      },
+    )
 
 -- what else is read at a place is what is read there
 pub read_at : {A : Type 0} (f : List ℕ → Option A) (words : List (List ℕ)) (k : ℕ) (known value : A) (word : List ℕ)

@@ -12,13 +12,13 @@ abbrev pub to_gtfsrt : Command
 to_gtfsrt = record {
   name = codes "to-gtfsrt";
   pairs =
-    flagged (codes "--gtfs") is_filled
-    ∷ flagged (codes "--zone-rule") is_filled
-    ∷ flagged (codes "--from") is_day
-    ∷ flagged (codes "--days") is_day_count
-    ∷ flagged (codes "--at") is_moment
-    ∷ flagged (codes "--et") is_filled
-    ∷ [];
+      flagged (codes "--gtfs") is_filled
+      ∷ flagged (codes "--zone-rule") is_filled
+      ∷ flagged (codes "--from") is_day
+      ∷ flagged (codes "--days") is_day_count
+      ∷ flagged (codes "--at") is_moment
+      ∷ flagged (codes "--et") is_filled
+      ∷ [];
   repeated = [];
 }
 

@@ -8,9 +8,9 @@ ghost use Rattle.gateway.specs.Items.{Saw, sorted};
 
 use crate::frame::{FrameFault, journeys};
 use crate::item::{Aside, Cancelled, verdict};
+use crate::setting::Setting;
 use gw_base::List;
 use indexmap::IndexSet;
-use crate::setting::Setting;
 use serde_json::Value;
 use std::alloc::{AllocError, AllocFailed, Global};
 
@@ -76,11 +76,7 @@ fn counted(
 }
 
 // The items of a delivery, each taken or set aside.
-fn sorted_out(
-    alloc: Global,
-    items: &[&Value],
-    setting: &Setting,
-) -> Result<Delivery, AllocError>
+fn sorted_out(alloc: Global, items: &[&Value], setting: &Setting) -> Result<Delivery, AllocError>
     ensures sorted { IfOk result (λ delivery. delivery ≡ sorted setting.now (map (λ item. view item.now) items.now)) }
     ensures trips { IfOk result (λ delivery. AllByRecursion (λ journey. journey.trip.0 < length setting.now.table.trips) delivery.taken) }
 {

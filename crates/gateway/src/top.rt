@@ -89,9 +89,10 @@ pub fn gateway<F: Files, D: Door, C: Clock, S: Sink, E: Sink>(
 
     // The status, and what the devices show before and after: how the run ended, by its words.
     ensures run { IsRun words.now result (record {
-        files = change F.told F.faults files.old files.new;
-        out = change S.told S.faults out.old out.new;
-        err = change E.told E.faults err.old err.new }) }
+      files = change F.told F.faults files.old files.new;
+      out = change S.told S.faults out.old out.new;
+      err = change E.told E.faults err.old err.new;
+    }) }
 
     // With status 0 and files that are told, `out` got a feed that publishes just the journeys taken.
     ensures publishes { result ≡ 0 → IfSome (F.told files.old) (λ told.

@@ -137,12 +137,7 @@ fn setting<F: Files>(
 }
 
 // The journeys of a delivery, each taken or set aside.
-fn delivery(
-    alloc: Global,
-    body: &[u8],
-    name: &str,
-    setting: &Setting,
-) -> Result<Delivery, Exit>
+fn delivery(alloc: Global, body: &[u8], name: &str, setting: &Setting) -> Result<Delivery, Exit>
     ensures told { UnlessFree is_free result (steps.DeliveryOf setting.now name.now body.now) }
     ensures calm { ¬ IsErrOf result Exit.Failed }
     ensures trips { IfOk result (λ delivery.
@@ -203,8 +198,13 @@ fn to_gtfsrt<F: Files>(
     requires file { length more.now ≡ 2 }
     requires window { HasWindow words.now.first words.now.days }
     ensures told { IfSome (F.told files.old) (λ told. UnlessFree is_free result (steps.ToGtfsrtWork (record {
-        gtfs = words.now.gtfs.now; rule = rule_of words.now.zone; from = words.now.first; days = words.now.days;
-        at = at; more = more.now }) told)) }
+      gtfs = words.now.gtfs.now;
+      rule = rule_of words.now.zone;
+      from = words.now.first;
+      days = words.now.days;
+      at = at;
+      more = more.now;
+    }) told)) }
     ensures counts { Counts (IsErrOf result Exit.Failed) (F.faults files.old) (F.faults files.new) }
     ensures same { F.told files.new ≡ F.told files.old }
 {
@@ -213,11 +213,7 @@ fn to_gtfsrt<F: Files>(
 }
 
 /// The work of a command over the files: what it writes, or how it ends.
-pub fn carried_out<F: Files>(
-    alloc: Global,
-    work: &Work<'_>,
-    files: &mut F,
-) -> Result<Done, Exit>
+pub fn carried_out<F: Files>(alloc: Global, work: &Work<'_>, files: &mut F) -> Result<Done, Exit>
     requires file { length (command_of work.now).more ≡ 2 }
     requires window { HasWindow (command_of work.now).from (command_of work.now).days }
     ensures told { IfSome (F.told files.old) (λ told. UnlessFree is_free result

@@ -1,5 +1,5 @@
 //! Words that are no command's, and words that are.
-use super::runs::{Given, WORDS, assert_run, folder, run, sink, words_of, words_with};
+use super::runs::{Given, WORDS, assert_run, files_with, run, sink, words_of, words_with};
 use gw_base::{Bytes, Files, MemorySink, Sink, Text};
 use std::alloc::{AllocError, Global};
 use std::process::Abort;
@@ -84,7 +84,7 @@ static LISTS: [(&str, usize); 8] = [
 static RIGHT: [&str; 13] = [
     // Each rule, each number of days.
     "to-gtfsrt --gtfs g --zone-rule CET-1CEST,M3.5.0,M10.5.0/3 --from 2024-05-01 --days 2 --at 2024-05-01T06:00:00Z --et f",
-    "to-gtfsrt --gtfs g --zone-rule - --from 2024-05-01 --days 2 --at 2024-05-01T06:00:00Z --et f",
+    "to-gtfsrt --gtfs g --zone-rule x --from 2024-05-01 --days 2 --at 2024-05-01T06:00:00Z --et f",
     "to-gtfsrt --gtfs g --zone-rule CET-1CEST,M3.5.0,M10.5.0/3 --from 2024-05-01 --days 1 --at 2024-05-01T06:00:00Z --et f",
     "to-gtfsrt --gtfs g --zone-rule CET-1CEST,M3.5.0,M10.5.0/3 --from 2024-05-01 --days 32 --at 2024-05-01T06:00:00Z --et f",
     "to-gtfsrt --gtfs g --zone-rule CET-1CEST,M3.5.0,M10.5.0/3 --from 2024-05-01 --days 02 --at 2024-05-01T06:00:00Z --et f",
@@ -107,7 +107,7 @@ fn run_uncalled(
     words: &[Text],
     err: &mut MemorySink,
 ) -> Result<u8, AllocError> {
-    let mut files = folder(alloc, None, None, &[1])?;
+    let mut files = files_with(alloc, &[], &[1])?;
     let mut out = sink(alloc, 100, &[1])?;
     let status = run(alloc, words, &mut files, &mut out, err);
     let mut into = Bytes::new(alloc);
@@ -178,8 +178,7 @@ fn words_of_a_command_are_accepted(rt: HostRuntime) {
     for words in RIGHT.iter() {
         let given = Given {
             words,
-            trips: None,
-            delivery: None,
+            others: &[("g/trips.txt", None)],
             fails: &[],
         };
         assert_run(

@@ -42,9 +42,8 @@ pub struct Command {
 fn is_choice(choices: &[Choice], before: &Text, flag: &Text, value: &Text) -> bool
     ensures { result ≡ is_pair (map choice_of choices.now) before.now flag.now value.now }
 {
-    choices
-        .iter()
-        .any(|choice| choice.flag == flag.as_str() && has_form(choice.form, before, value))
+    choices.iter().any(|choice| choice.flag == flag.as_str()
+        && has_form(choice.form, before, value))
 }
 
 // A flag of these choices.

@@ -10,7 +10,7 @@ pub overflow_cast-result : goal.overflow_cast-result
 overflow_cast-result c =
     let is = c.requires.1 in
     let few : c.unwrap-2.result ≤ 32 = few_days c.args.words.now c.requires.0 c.unwrap-2.result is
-        (read_at decimal_number c.args.words.now 8 _ c.unwrap-2.result _ is.days c.index-words-8.is (sym c.number.ensures ∙ c.unwrap-2.ensures)) in
+    (read_at decimal_number c.args.words.now 8 _ c.unwrap-2.result _ is.days c.index-words-8.is (sym c.number.ensures ∙ c.unwrap-2.ensures)) in
     omega arith
 
 pub returns-clause-read : goal.returns-clause-read

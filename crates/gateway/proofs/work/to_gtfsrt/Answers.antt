@@ -14,6 +14,6 @@ returns-clause-told g c =
     let named : c.as_str.result.now ≡ get_or c.args.more.now 1 [] = c.as_str.ensures.same ∙ c.index-more-1.is ∙ get_or_default c.args.more.now 1 _ [] within in
     let second = rw (c.setting.ensures.same, named) at c.conversion.ensures.told in
     went_on (g.F.Files.told c.args.files.now) is_free
-        (λ files. SettingOf words.gtfs.now (rule_of words.zone) words.first words.days files)
-        (λ files setting. Conversion c.args.at setting (get_or c.args.more.now 1 []) files)
-        c.in_ok-setting.setting c.conversion.result c.in_ok-setting.ensures.told second
+    (λ files. SettingOf words.gtfs.now (rule_of words.zone) words.first words.days files)
+    (λ files setting. Conversion c.args.at setting (get_or c.args.more.now 1 []) files)
+    c.in_ok-setting.setting c.conversion.result c.in_ok-setting.ensures.told second

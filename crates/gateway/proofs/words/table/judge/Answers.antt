@@ -15,7 +15,7 @@ returns-in_default-clause-refused c =
     (λ is. other_text _ _ (sym c.if-eq.false ∙ c.eq.ensures) (c.as_str.ensures.same ∙ same_Some _ _ (c.in-Some.ensures.value ∙ is)))
 
 pub returns-in_default-2-clause-refused : goal.returns-in_default-2-clause-refused
-returns-in_default-2-clause-refused c = no_name (row_of c.args.command.now) c.args.words.now c.requires 
+returns-in_default-2-clause-refused c = no_name (row_of c.args.command.now) c.args.words.now c.requires
     (λ is. none-some {A = List ℕ} _ (rw c.in_default.is at c.first.ensures.value ∙ is))
 
 pub loop-number-init : goal.loop-number-init
@@ -27,10 +27,10 @@ pub returns-in_err-pair_at-clause-refused : goal.returns-in_err-pair_at-clause-r
 returns-in_err-pair_at-clause-refused c =
     let p = err_from_is_err_and c.from_residual.result c.from_residual.ensures.1 in
     let more : (c.loop-number.number < length (row_of c.args.command.now).pairs) ⊎ (c.loop-number.at < length c.args.words.now) =
-        elim c.if-number-command.branch [
-          | then-number-command w ↦ inl (simp length-map w.if-number-command.true)
-          | else-number-command+then-at-words w ↦ inr w.if-at-words.true
-        ] in
+    elim c.if-number-command.branch [
+      | then-number-command w ↦ inl (simp length-map w.if-number-command.true)
+      | else-number-command+then-at-words w ↦ inr w.if-at-words.true
+    ] in
     rw (p.1, p.2) (off_pair (row_of c.args.command.now) c.args.words.now c.loop-number.number c.loop-number.at c.in_err-pair_at.field-0.0.at c.requires c.loop-number.invariant more
     (subst (λ choices. IsNoPairAt choices c.args.words.now c.loop-number.at c.in_err-pair_at.field-0.0.at) c.choices_at.ensures c.in_err-pair_at.ensures.wrong))
 

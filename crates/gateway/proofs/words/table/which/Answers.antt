@@ -22,10 +22,10 @@ pub loop-command-preserved : goal.loop-command-preserved
 loop-command-preserved c =
     let rows = map row_of c.args.commands.now in
     let farthest : max c.loop-command.farthest c.in-Err.bad.at ≡ c.if-farthest-bad.farthest =
-        elim c.if-farthest-bad.branch [
-          | then-farthest-bad w ↦ omega (arith, w.if-farthest-bad.true, w.farthest-is)
-          | else-farthest-bad w ↦ omega (arith, w.if-farthest-bad.false, w.farthest-is)
-        ] in
+    elim c.if-farthest-bad.branch [
+      | then-farthest-bad w ↦ omega (arith, w.if-farthest-bad.true, w.farthest-is)
+      | else-farthest-bad w ↦ omega (arith, w.if-farthest-bad.false, w.farthest-is)
+    ] in
     subst (λ far. Tried rows c.args.words.now (drop (c.loop-command.command-index + 1) rows) far) farthest
     (one_tried rows _ _ c.args.words.now c.loop-command.farthest c.in-Err.bad.at
     (subst (λ left. Tried rows c.args.words.now left c.loop-command.farthest)
