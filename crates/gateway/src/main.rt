@@ -42,7 +42,7 @@ fn main(rt: HostRuntime) -> ExitCode {
             words => top::gateway(
                 alloc,
                 words,
-                &mut DirFiles::new(alloc, &rt),
+                &mut DirFiles::new(&rt),
                 &mut NoDoor::new(),
                 &mut NoClock::new(),
                 &mut out,
