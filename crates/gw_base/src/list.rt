@@ -69,6 +69,13 @@ impl<T> List<T> {
 }
 
 impl<T: Drop> List<T> {
+    /// Takes all elements out. The room stays.
+    pub fn clear(&mut self)
+        ensures empty { self.new ≡ [] }
+    {
+        self.items.clear();
+    }
+
     /// Adds an element at the end. For want of memory the list stays and the element is dropped.
     pub fn push(&mut self, value: T) -> Result<(), AllocError>
         ensures added { OnOk result (self.new ≡ self.old ++ value ∷ []) }

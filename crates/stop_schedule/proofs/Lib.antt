@@ -1,5 +1,3 @@
 pub mod FieldLemmas
 pub mod IdLemmas
 pub mod RowLemmas
-pub mod TripLemmas
-mod WorkedValues
