@@ -1,5 +1,6 @@
 -- The first fault of a file: its columns, then its rows in order, in a row the causes in order.
 use Rattle.std.specs.Prelude.{◌≡◌, ◌≤◌, ◌&&◌, ◌||◌, ◌+◌, ℕ, Bool, true, false, nat_lt, List, [], ◌∷◌, ◌++◌, length, Option, Some, None, Result, Ok, Err, if◌then◌else◌}
+use Rattle.std.specs.Option.{option_or}
 use Rattle.std.specs.Str.{is_utf8}
 use Rattle.stop_schedule.specs.Forms.{fits}
 use Rattle.stop_schedule.specs.Layout.{columns, row_limit}
@@ -10,11 +11,6 @@ use Rattle.stop_schedule.specs.declared.forms.Form.TheVariants.{Id}
 use Rattle.stop_schedule.specs.declared.table_file.TableFile.{TableFile}
 use Rattle.stop_schedule.specs.declared.table_fault.TableFault.{TableFault}
 use Rattle.stop_schedule.specs.declared.table_fault.TableFault.TheVariants.{Missing, NotUtf8, BadField, Limit}
-
--- the first of two, if there is one
-abbrev pub or_else : {A : Type 0} → Option A → Option A → Option A
-or_else None second = second
-or_else (Some first) second = Some first
 
 -- a fault where the test holds
 abbrev pub fault_if : Bool → TableFault → Option TableFault
@@ -47,7 +43,7 @@ bad_fault file number (Some column) = Some (BadField file number column)
 abbrev pub common_fault : TableFile → ℕ → Row → Option TableFault
 common_fault file number row =
     if all_text 0 (columns file) row
-    then or_else (bad_fault file number (first_bad 0 (columns file) row))
+    then option_or (bad_fault file number (first_bad 0 (columns file) row))
     (fault_if (any_long 0 (columns file) row || nat_lt (row_limit file) number) (Limit file number))
     else Some (NotUtf8 file number)
 
@@ -60,12 +56,12 @@ pub record Fits (file : TableFile) (number : ℕ) (row : Row) : Type 0 where
 
 -- the first fault of a row by the rows before it, where its fields have their forms by these further causes
 abbrev pub row_fault : TableFile → (List Row → Row → Option TableFault) → List Row → Row → Option TableFault
-row_fault file further before row = or_else (common_fault file (length before + 1) row) (further before row)
+row_fault file further before row = option_or (common_fault file (length before + 1) row) (further before row)
 
 -- the first fault of rows that stand behind others
 abbrev pub first_fault : (List Row → Row → Option TableFault) → List Row → List Row → Option TableFault
 first_fault fault before [] = None
-first_fault fault before (row ∷ rows) = or_else (fault before row) (first_fault fault (before ++ row ∷ []) rows)
+first_fault fault before (row ∷ rows) = option_or (fault before row) (first_fault fault (before ++ row ∷ []) rows)
 
 -- the first fault of what is there of a file
 abbrev pub fault_in : TableFile → (List Row → Row → Option TableFault) → Result (List Row) TableFault → Option TableFault

@@ -1,8 +1,9 @@
 -- The timetable that the files of a folder mean (GTFS Schedule reference).
 use Rattle.std.specs.Prelude.{ℕ, ℤ, Bool, false, List, [], ◌∷◌, ◌++◌, map, slice_get, codes, Option, Some, None, option_map, Result, Ok, Err}
+use Rattle.std.specs.Option.{option_or}
 use Rattle.gw_base.specs.Directory.{bytes_of}
 use Rattle.stop_schedule.specs.Causes.{zone_fault, duplicate_fault, trip_fault, calendar_fault, date_fault, frequency_fault, stop_time_fault}
-use Rattle.stop_schedule.specs.Faults.{or_else, needed_fault, optional_fault}
+use Rattle.stop_schedule.specs.Faults.{needed_fault, optional_fault}
 use Rattle.stop_schedule.specs.Services.{runs_by, exception_in, calendar_in}
 use Rattle.stop_schedule.specs.Sheet.{Row, nth, sheet_in, rows_in}
 use Rattle.stop_schedule.specs.StopTimes.{stops_in, filled, untimed_end, least}
@@ -49,7 +50,7 @@ dates_fault calendar (Some dates) = optional_fault CalendarDates date_fault (Som
 -- the first fault of the two
 abbrev pub calendars_fault : Sheets → Option TableFault
 calendars_fault sheets =
-    or_else (optional_fault Calendar calendar_fault (sheets Calendar)) (dates_fault (sheets Calendar) (sheets CalendarDates))
+    option_or (optional_fault Calendar calendar_fault (sheets Calendar)) (dates_fault (sheets Calendar) (sheets CalendarDates))
 
 -- the trips that are carried
 abbrev pub trips_in : Sheets → List Row
@@ -63,13 +64,13 @@ untimed_in sheets =
 -- the first fault of a folder: files in their order, and untimed ends after all rows
 abbrev pub folder_fault : Sheets → Option TableFault
 folder_fault sheets =
-    or_else (needed_fault Agency zone_fault (sheets Agency))
-    (or_else (needed_fault Stops (duplicate_fault Stops) (sheets Stops))
-    (or_else (needed_fault Routes (duplicate_fault Routes) (sheets Routes))
-    (or_else (needed_fault Trips (trip_fault (ids_in sheets Routes)) (sheets Trips))
-    (or_else (calendars_fault sheets)
-    (or_else (optional_fault Frequencies (frequency_fault (ids_in sheets Trips)) (sheets Frequencies))
-    (or_else (needed_fault StopTimes (stop_time_fault (ids_in sheets Trips) (ids_in sheets Stops)) (sheets StopTimes))
+    option_or (needed_fault Agency zone_fault (sheets Agency))
+    (option_or (needed_fault Stops (duplicate_fault Stops) (sheets Stops))
+    (option_or (needed_fault Routes (duplicate_fault Routes) (sheets Routes))
+    (option_or (needed_fault Trips (trip_fault (ids_in sheets Routes)) (sheets Trips))
+    (option_or (calendars_fault sheets)
+    (option_or (optional_fault Frequencies (frequency_fault (ids_in sheets Trips)) (sheets Frequencies))
+    (option_or (needed_fault StopTimes (stop_time_fault (ids_in sheets Trips) (ids_in sheets Stops)) (sheets StopTimes))
     (option_map UntimedEnd (untimed_in sheets))))))))
 
 -- the route of a trip

@@ -60,6 +60,7 @@ fn are_digits(text: &[u8]) -> bool
 }
 
 /// The number of a stop in its trip that digits name.
+#[tactic(auto, unfolding(crate::specs::Forms::sequence))]
 pub(crate) fn sequence(text: &[u8]) -> Option<u32>
     ensures { result ≡ spec.sequence text.now }
 {
@@ -89,6 +90,7 @@ fn number(text: &[u8]) -> Option<u32>
 }
 
 /// The seconds of a time of day, which may pass midnight.
+#[tactic(auto, unfolding(crate::specs::Forms::seconds))]
 pub(crate) fn seconds(text: &[u8]) -> Option<u32>
     ensures { result ≡ spec.seconds text.now }
 {

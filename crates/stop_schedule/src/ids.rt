@@ -1,5 +1,5 @@
 //! Ids, numbered from 0 in the order in which they came. The functions meet `specs/Ids.antt`.
-ghost use Rattle.std.specs.Prelude.{◌≡◌, ◌&&◌, ◌||◌, ◌+◌, ◌≤◌, ◌<◌, ◌++◌, ◌∷◌, [], not, Some, if◌then◌else◌, length, slice_get, position, true, IfOk, OnErr, IfSome, IsTrue};
+ghost use Rattle.std.specs.Prelude.{◌≡◌, ◌&&◌, ◌||◌, ◌+◌, ◌≤◌, ◌<◌, ◌++◌, ◌∷◌, [], not, Some, is_some, if◌then◌else◌, length, slice_get, position, true, IfOk, OnErr, IfSome, IsTrue};
 ghost use Rattle.std.specs.Str.{bytes_eq, is_utf8};
 ghost use Rattle.stop_schedule.specs.Ids.{are_ids, has_id, has_id_len as has_len, is_id, with_id};
 ghost use Rattle.stop_schedule.specs.Sheet.{nth};
@@ -54,6 +54,7 @@ impl Ids {
     pub(crate) fn len(&self) -> usize
         ensures value { result ≡ length self.now }
         ensures ids { IsTrue (are_ids self.now) }
+        ensures few { result ≤ 4294967295 }
     {
         self.ids.len()
     }
@@ -61,10 +62,13 @@ impl Ids {
     /// The number of an id.
     pub(crate) fn find(&self, id: &str) -> Option<u32>
         ensures place { result ≡ position (bytes_eq id.now) self.now }
+        ensures found { is_some result ≡ has_id id.now self.now }
         ensures within { IfSome result (λ place. place < length self.now) }
     {
-        let place = self.ids.get_index_of(id)?;
-        Some(place as u32)
+        match self.ids.get_index_of(id) {
+            Some(place) => Some(place as u32),
+            None => None,
+        }
     }
 
     /// The id of a number.
@@ -106,18 +110,25 @@ impl Ids {
         ensures number { IfOk result (λ number. slice_get self.new number ≡ Some id.now) }
         ensures kept { OnErr result (self.new ≡ self.old) }
     {
-        if let Some(number) = self.find(id) {
-            return Ok(number);
+        match self.find(id) {
+            Some(number) => Ok(number),
+            None => {
+                let number = self.len() as u32;
+                self.add(alloc, id.as_bytes())?;
+                Ok(number)
+            }
         }
-        let number = self.len() as u32;
-        self.add(alloc, id.as_bytes())?;
-        Ok(number)
     }
 }
 
 /// The number of the id in a column of the row at hand.
 pub(crate) fn find_in(ids: &Ids, sheet: &Sheet<'_>, column: usize) -> Option<u32>
-    ensures { is_utf8 (nth column sheet.now.row) ≡ true → result ≡ position (bytes_eq (nth column sheet.now.row)) ids.now }
+    ensures place { is_utf8 (nth column sheet.now.row) ≡ true → result ≡ position (bytes_eq (nth column sheet.now.row)) ids.now }
+    ensures found { is_utf8 (nth column sheet.now.row) ≡ true → is_some result ≡ has_id (nth column sheet.now.row) ids.now }
+    ensures within { IfSome result (λ place. place < length ids.now) }
 {
-    ids.find(sheet.text(column)?)
+    match sheet.text(column) {
+        Some(id) => ids.find(id),
+        None => None,
+    }
 }

@@ -1,5 +1,6 @@
 //! The rows of `calendar.txt` and `calendar_dates.txt`: on which days services run.
-ghost use Rattle.std.specs.Prelude.{◌≡◌, IfOk, map};
+ghost use Rattle.std.specs.Prelude.{◌≡◌, true};
+ghost use Rattle.std.specs.Str.{is_utf8};
 ghost use Rattle.stop_schedule.specs.Services as spec;
 ghost use Rattle.stop_schedule.specs.Sheet.{nth};
 
@@ -60,9 +61,12 @@ fn is_one(sheet: &Sheet<'_>, column: usize) -> bool
 
 // The day that a field of the row at hand names.
 fn day(sheet: &Sheet<'_>, column: usize) -> Option<Day>
-    ensures { result ≡ spec.day_in column sheet.now.row }
+    ensures { is_utf8 (nth column sheet.now.row) ≡ true → result ≡ spec.day_in column sheet.now.row }
 {
-    date(sheet.text(column)?)
+    match sheet.text(column) {
+        Some(text) => date(text),
+        None => None,
+    }
 }
 
 impl TakesRows for CalendarRows {

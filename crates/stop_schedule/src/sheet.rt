@@ -3,12 +3,13 @@
 ghost use Rattle.std.specs.Prelude.{◌≡◌, ◌∷◌, [], Ok, IfOk};
 ghost use Rattle.std.specs.Bool.{MatchBool};
 ghost use Rattle.std.specs.Option.{MatchOption};
-ghost use Rattle.std.specs.Prelude.{false};
+ghost use Rattle.std.specs.Prelude.{true, false};
 ghost use Rattle.std.specs.Str.{is_utf8};
 ghost use Rattle.gw_base.specs.Answers.{UnlessFree};
 ghost use Rattle.stop_schedule.specs.Answers.{is_free};
 ghost use Rattle.stop_schedule.specs.Rows.{rows};
-ghost use Rattle.stop_schedule.specs.Sheet.{left_of, nth, sheet_of};
+ghost use Rattle.stop_schedule.specs.Sheet.{left_of, map_ok, nth, places_of, sheet_of};
+ghost use Rattle.stop_schedule.specs.Layout.{columns as columns_of};
 
 use crate::layout::columns;
 use crate::rows::Rows;
@@ -35,6 +36,20 @@ impl<'a> Model for Sheet<'a> {
     ghost view = { λ s. record { row = fields_at s.places.items s.rows.row; left = map (fields_at s.places.items) s.rows.left } };
 }
 
+// The places of a file's columns where the row at hand names the columns, or the first that it doesn't name.
+fn find_places(alloc: Global, rows: &Rows<'_>, file: TableFile) -> Result<Vec<usize>, TableFault>
+    ensures { UnlessFree is_free result (λ answer. map_ok (λ places. places.items) answer ≡ places_of file rows.now.row (columns_of file)) }
+{
+    let mut places = Vec::new(alloc);
+    for (column, _) in columns(file) {
+        let Some(place) = rows.column(column.name()) else {
+            return Err(TableFault::NoColumn(file, *column));
+        };
+        places.push(place)?;
+    }
+    Ok(places)
+}
+
 impl<'a> Sheet<'a> {
     /// The data rows of a file by its bytes, of which none is read yet; or the first column that the first
     /// row doesn't name.
@@ -47,13 +62,7 @@ impl<'a> Sheet<'a> {
     {
         let mut rows = Rows::open(alloc, bytes);
         rows.advance()?;
-        let mut places = Vec::new(alloc);
-        for (column, _) in columns(file) {
-            let Some(place) = rows.column(column.name()) else {
-                return Err(TableFault::NoColumn(file, *column));
-            };
-            places.push(place)?;
-        }
+        let places = find_places(alloc, &rows, file)?;
         Ok(Sheet { rows, places })
     }
 
@@ -76,8 +85,11 @@ impl<'a> Sheet<'a> {
 
     /// The same as a text, if it is one.
     pub(crate) fn text(&self, column: usize) -> Option<&str>
-        ensures cases { MatchOption result (is_utf8 (nth column self.now.row) ≡ false) (λ text. text.now ≡ nth column self.now.row) }
+        ensures cases { MatchOption result (is_utf8 (nth column self.now.row) ≡ false) (λ text. (text.now ≡ nth column self.now.row) × (is_utf8 (nth column self.now.row) ≡ true)) }
     {
-        str::from_utf8(self.field(column)).ok()
+        match str::from_utf8(self.field(column)) {
+            Ok(text) => Some(text),
+            Err(_) => None,
+        }
     }
 }

@@ -67,7 +67,9 @@ fn take_rows<T: TakesRows>(
         if let Some(fault) = row_fault(sheet, taker.file(), number) {
             return Err(fault);
         }
-        taker.take(alloc, sheet, number)?;
+        if let Err(fault) = taker.take(alloc, sheet, number) {
+            return Err(fault);
+        }
     }
     Ok(())
 }
