@@ -1,5 +1,5 @@
 -- Ids by place, and ids with one more.
-use Rattle.std.proofs.Common.{◌≡◌, ◌∙◌, ◌<◌, ◌≤◌, ◌+◌, ◌&&◌, ◌||◌, ℕ, zero, suc, Bool, true, false, cond, not, nat_le, List, [], ◌∷◌, ◌++◌, map, length, slice_get, position, Some, refl, sym, ap, subst, add-one, add_comm}
+use Rattle.std.proofs.Common.{◌≡◌, ◌∙◌, ◌<◌, ◌≤◌, ◌+◌, ◌&&◌, ◌||◌, ℕ, zero, suc, Bool, true, false, cond, not, nat_le, List, [], ◌∷◌, ◌++◌, map, length, slice_get, get_or, position, Some, refl, arith, sym, ap, subst, add-one, add_comm}
 use Rattle.std.specs.List.{list_all, list_any, prefix_len}
 use Rattle.std.specs.Str.{bytes_eq, is_utf8}
 use Rattle.std.proofs.lemmas.List.{length-map, map-append}
@@ -10,7 +10,8 @@ use Rattle.indexmap.specs.IndexSet.{insert_key}
 use Rattle.std.proofs.lemmas.List.Folds.{list_all-append, list_any-append}
 use Rattle.std.proofs.lemmas.Slice.Eq.{bytes_eq-Decides}
 use Rattle.std.proofs.lemmas.Bool.{leb-true, lt-ltb, false≢true}
-use Rattle.std.proofs.lemmas.Option.{slice_get_within}
+use Rattle.std.proofs.lemmas.Option.{slice_get_within, slice_get-get_or}
+use Rattle.std.proofs.lemmas.List.Quantifiers.{position-Some}
 use Rattle.std.proofs.Math.Bool.{and-false, or-true}
 use Rattle.std.specs.Cmp.{both_ways}
 use Rattle.std.specs.Cmp.Derive.{both_true}
@@ -166,3 +167,21 @@ module _ {Z : Type 0} (key : String Z) (keys : List (String Z)) where
       by true e = good
       by false e =
           rw (map-append string_bytes keys (key ∷ []), are_ids-push (map string_bytes keys) (string_bytes key) good, sound, ← lacks-text (string_bytes key) refl, e) refl
+
+-- ---- the number of an id
+
+-- an id that has a place stands there
+pub id-of-place : (ids : List (List ℕ)) (place : ℕ) (id : List ℕ) → position (bytes_eq id) ids ≡ Some place → slice_get ids place ≡ Some id
+id-of-place ids place id at =
+    let found = position-Some (bytes_eq id) ids place [] at in
+    let same : id ≡ get_or ids place [] = (bytes_eq-Decides id (get_or ids place [])).0 found.1 in
+    slice_get-get_or ids place [] found.0 ∙ ap Some (sym same)
+
+pub one-more : (before after : ℕ) (added : Bool) → after ≡ before + cond added 1 0 → before < 4294967295 → after ≤ 4294967295
+one-more before after true is few = omega arith
+one-more before after false is few = omega arith
+
+-- the id behind others has the next number
+pub id-behind : (ids : List (List ℕ)) (id : List ℕ) → slice_get (ids ++ id ∷ []) (length ids) ≡ Some id
+id-behind [] id = refl
+id-behind (first ∷ ids) id = id-behind ids id

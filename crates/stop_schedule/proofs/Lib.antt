@@ -1,5 +1,7 @@
+pub mod FaultLemmas
 pub mod FieldLemmas
+pub mod FormLemmas
 pub mod IdLemmas
 pub mod RowLemmas
-pub mod TripLemmas
-mod WorkedValues
+pub mod TakingLemmas
+pub mod TextLemmas

@@ -1,30 +1,46 @@
 -- What an answer of reading a timetable says of the folder.
-use Rattle.std.specs.Prelude.{◌≡◌, ◌≤◌, ℕ, Bool, true, false, List, length, Option, Some, None, Result, Ok, Err, ⊤}
-use Rattle.gw_base.specs.Directory.{IsLonger}
-use Rattle.stop_schedule.specs.Timetable.{file_limit}
+use Rattle.std.specs.Prelude.{◌≡◌, Bool, true, false, Option, Some, None, Result, Ok, Err, ⊤}
+use Rattle.std.specs.Bool.{MatchBool}
 use Rattle.stop_schedule.specs.declared.table_file.TableFile.{TableFile}
 use Rattle.stop_schedule.specs.declared.table_fault.TableFault.{TableFault}
-use Rattle.stop_schedule.specs.declared.table_fault.TableFault.TheVariants.{Missing, BadTable, Failed, Memory}
+use Rattle.stop_schedule.specs.declared.table_fault.TableFault.TheVariants.{Missing, TooLong, NoColumn, NotUtf8, BadField, Limit, Zones, Unknown, Duplicate, UntimedEnd, Failed, Memory}
 
 -- a read that failed and want of memory say nothing of the folder
 abbrev pub is_free : TableFault → Bool
 is_free (Missing file) = false
-is_free (BadTable file) = false
+is_free (TooLong file) = false
+is_free (NoColumn file column) = false
+is_free (NotUtf8 file row) = false
+is_free (BadField file row column) = false
+is_free (Limit file row) = false
+is_free (Zones row) = false
+is_free (Unknown file row column) = false
+is_free (Duplicate file row) = false
+is_free (UntimedEnd row) = false
 is_free (Failed file) = true
 is_free Memory = true
 
--- the answer to reading one file, by its bytes in the folder, if it is there
-abbrev pub GivesFile : Result (List ℕ) TableFault → TableFile → Option (List ℕ) → Type 0
-GivesFile (Ok bytes) file found = (found ≡ Some bytes) × (length bytes ≤ file_limit)
-GivesFile (Err (Missing at)) file found = (at ≡ file) × (found ≡ None)
-GivesFile (Err (BadTable at)) file found = (at ≡ file) × IsLonger found file_limit
-GivesFile (Err (Failed at)) file found = ⊤
-GivesFile (Err Memory) file found = ⊤
+-- a fault is that a read failed
+abbrev pub IsFailure : TableFault → Type 0
+IsFailure (Missing file) = ⊥
+IsFailure (TooLong file) = ⊥
+IsFailure (NoColumn file column) = ⊥
+IsFailure (NotUtf8 file row) = ⊥
+IsFailure (BadField file row column) = ⊥
+IsFailure (Limit file row) = ⊥
+IsFailure (Zones row) = ⊥
+IsFailure (Unknown file row column) = ⊥
+IsFailure (Duplicate file row) = ⊥
+IsFailure (UntimedEnd row) = ⊥
+IsFailure (Failed file) = ⊤
+IsFailure Memory = ⊥
 
 -- the answer is that a read failed
 abbrev pub HasFailed : {T : Type 0} → Result T TableFault → Type 0
 HasFailed (Ok found) = ⊥
-HasFailed (Err (Missing file)) = ⊥
-HasFailed (Err (BadTable file)) = ⊥
-HasFailed (Err (Failed file)) = ⊤
-HasFailed (Err Memory) = ⊥
+HasFailed (Err fault) = IsFailure fault
+
+-- where there is no fault the answer is a value of which this holds, and else the fault; a free fault may come instead
+abbrev pub Finds : {T : Type 0} → Option TableFault → (T → Type 0) → Result T TableFault → Type 0
+Finds fault Holds (Ok value) = (fault ≡ None) × Holds value
+Finds fault Holds (Err told) = MatchBool (is_free told) ⊤ (fault ≡ Some told)

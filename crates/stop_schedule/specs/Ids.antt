@@ -1,5 +1,5 @@
 -- Ids of trips, stops and routes.
-use Rattle.std.specs.Prelude.{◌&&◌, ℕ, Bool, true, not, nat_le, List, [], ◌∷◌, length}
+use Rattle.std.specs.Prelude.{◌&&◌, ◌++◌, ℕ, Bool, true, not, nat_le, List, [], ◌∷◌, length, if◌then◌else◌}
 use Rattle.std.specs.List.{list_all, list_any}
 use Rattle.std.specs.Str.{bytes_eq, is_utf8}
 
@@ -23,3 +23,7 @@ are_distinct (id ∷ ids) = not (has_id id ids) && are_distinct ids
 -- each is an id, and none stands there twice
 abbrev pub are_ids : List (List ℕ) → Bool
 are_ids ids = list_all is_id ids && are_distinct ids
+
+-- the ids with one more, if they lack it
+abbrev pub with_id : List ℕ → List (List ℕ) → List (List ℕ)
+with_id id ids = if has_id id ids then ids else ids ++ id ∷ []

@@ -1,54 +1,109 @@
--- The timetable that the files of a folder mean (GTFS Schedule reference, trips.txt).
-use Rattle.std.specs.Prelude.{◌&&◌, ℕ, nat_le, List, [], ◌∷◌, ◌++◌, map, length, codes, Option, Some, None, option_and_then, Result, Ok, Err, if◌then◌else◌}
+-- The timetable that the files of a folder mean (GTFS Schedule reference).
+use Rattle.std.specs.Prelude.{ℕ, ℤ, Bool, false, List, [], ◌∷◌, ◌++◌, map, slice_get, codes, Option, Some, None, option_map, Result, Ok, Err}
+use Rattle.std.specs.Option.{option_or}
 use Rattle.gw_base.specs.Directory.{bytes_of}
-use Rattle.stop_schedule.specs.Fields.{field_of}
-use Rattle.stop_schedule.specs.Ids.{are_ids}
-use Rattle.stop_schedule.specs.Rows.{rows, column}
+use Rattle.stop_schedule.specs.Causes.{zone_fault, duplicate_fault, trip_fault, calendar_fault, date_fault, frequency_fault, stop_time_fault}
+use Rattle.stop_schedule.specs.Faults.{needed_fault, optional_fault}
+use Rattle.stop_schedule.specs.Services.{runs_by, exception_in, calendar_in}
+use Rattle.stop_schedule.specs.Sheet.{Row, nth, sheet_in, rows_in}
+use Rattle.stop_schedule.specs.StopTimes.{stops_in, filled, untimed_end, least}
 use Rattle.stop_schedule.specs.Table.{Table}
+use Rattle.stop_schedule.specs.Trips.{carried_rows}
+use Rattle.stop_schedule.specs.declared.stop_times.StopRow.{StopRow}
 use Rattle.stop_schedule.specs.declared.table_file.TableFile.{TableFile}
-use Rattle.stop_schedule.specs.declared.table_file.TableFile.TheVariants.{Trips}
+use Rattle.stop_schedule.specs.declared.table_file.TableFile.TheVariants.{Agency, Stops, Routes, Trips, Calendar, CalendarDates, Frequencies, StopTimes}
 use Rattle.stop_schedule.specs.declared.table_fault.TableFault.{TableFault}
-use Rattle.stop_schedule.specs.declared.table_fault.TableFault.TheVariants.{Missing, BadTable}
+use Rattle.stop_schedule.specs.declared.table_fault.TableFault.TheVariants.{Missing, UntimedEnd}
 
 -- the name of a file in the folder
 abbrev pub file_name : TableFile → List ℕ
+file_name Agency = codes "agency.txt"
+file_name Stops = codes "stops.txt"
+file_name Routes = codes "routes.txt"
 file_name Trips = codes "trips.txt"
+file_name Calendar = codes "calendar.txt"
+file_name CalendarDates = codes "calendar_dates.txt"
+file_name Frequencies = codes "frequencies.txt"
+file_name StopTimes = codes "stop_times.txt"
 
 -- the name of a file behind its folder's
 abbrev pub path_of : List ℕ → TableFile → List ℕ
 path_of dir file = dir ++ codes "/" ++ file_name file
 
--- the bytes that a file has at most
-abbrev pub file_limit : ℕ
-file_limit = 268435456
+-- what is there of each file of a folder: nothing, its data rows, or its fault before them
+abbrev pub Sheets : Type 0
+Sheets = TableFile → Option (Result (List Row) TableFault)
 
--- the data rows that trips.txt has at most
-abbrev pub trip_limit : ℕ
-trip_limit = 200000
+abbrev pub sheets_in : List (List ℕ × List ℕ) → List ℕ → Sheets
+sheets_in files dir file = option_map (sheet_in file) (bytes_of files (path_of dir file))
 
--- ids, where there are at most that many, each is an id and none stands there twice
-abbrev pub if_ids : ℕ → List (List ℕ) → Option (List (List ℕ))
-if_ids limit ids = if nat_le (length ids) limit && are_ids ids then Some ids else None
+-- the ids of a file's rows
+abbrev pub ids_in : Sheets → TableFile → List (List ℕ)
+ids_in sheets file = map (nth 0) (rows_in (sheets file))
 
--- the ids of a column, by the row that names the columns and the data rows
-abbrev pub ids_under : ℕ → List ℕ → List (List (List ℕ)) → Option (List (List ℕ))
-ids_under limit name [] = None
-ids_under limit name (names ∷ below) = option_and_then (λ place. if_ids limit (map (field_of place) below)) (column name names)
+-- of the two calendar files one has to be there, which is found at the second
+abbrev pub dates_fault : Option (Result (List Row) TableFault) → Option (Result (List Row) TableFault) → Option TableFault
+dates_fault None None = Some (Missing Calendar)
+dates_fault (Some calendar) None = None
+dates_fault calendar (Some dates) = optional_fault CalendarDates date_fault (Some dates)
 
--- the ids of the trips by the bytes of trips.txt, where each rule holds
-abbrev pub trip_ids : List ℕ → Option (List (List ℕ))
-trip_ids bytes = ids_under trip_limit (codes "trip_id") (rows bytes)
+-- the first fault of the two
+abbrev pub calendars_fault : Sheets → Option TableFault
+calendars_fault sheets =
+    option_or (optional_fault Calendar calendar_fault (sheets Calendar)) (dates_fault (sheets Calendar) (sheets CalendarDates))
 
--- the table of these trips, or the fault where there are none by the rules
-abbrev pub table_of : Option (List (List ℕ)) → Result Table TableFault
-table_of None = Err (BadTable Trips)
-table_of (Some ids) = Ok (record { trips = ids })
+-- the trips that are carried
+abbrev pub trips_in : Sheets → List Row
+trips_in sheets = carried_rows (rows_in (sheets Frequencies)) (rows_in (sheets Trips))
 
--- the table by the bytes of trips.txt, if there is that file
-abbrev pub by_trips : Option (List ℕ) → Result Table TableFault
-by_trips None = Err (Missing Trips)
-by_trips (Some bytes) = if nat_le (length bytes) file_limit then table_of (trip_ids bytes) else Err (BadTable Trips)
+-- the least row of a carried trip's first or last stop that has no times
+abbrev pub untimed_in : Sheets → Option ℕ
+untimed_in sheets =
+    least (map (λ trip. untimed_end (stops_in (ids_in sheets Stops) (rows_in (sheets StopTimes)) (nth 0 trip))) (trips_in sheets))
+
+-- the first fault of a folder: files in their order, and untimed ends after all rows
+abbrev pub folder_fault : Sheets → Option TableFault
+folder_fault sheets =
+    option_or (needed_fault Agency zone_fault (sheets Agency))
+    (option_or (needed_fault Stops (duplicate_fault Stops) (sheets Stops))
+    (option_or (needed_fault Routes (duplicate_fault Routes) (sheets Routes))
+    (option_or (needed_fault Trips (trip_fault (ids_in sheets Routes)) (sheets Trips))
+    (option_or (calendars_fault sheets)
+    (option_or (optional_fault Frequencies (frequency_fault (ids_in sheets Trips)) (sheets Frequencies))
+    (option_or (needed_fault StopTimes (stop_time_fault (ids_in sheets Trips) (ids_in sheets Stops)) (sheets StopTimes))
+    (option_map UntimedEnd (untimed_in sheets))))))))
+
+-- the route of a trip
+abbrev pub route_in : Option Row → List ℕ
+route_in None = []
+route_in (Some trip) = nth 1 trip
+
+-- its stops, by the ids of stops and the rows of stop_times.txt
+abbrev pub stop_rows_in : List (List ℕ) → List Row → Option Row → List StopRow
+stop_rows_in stops rows None = []
+stop_rows_in stops rows (Some trip) = filled (stops_in stops rows (nth 0 trip))
+
+-- whether it runs on a day, by the rows of the calendar files
+abbrev pub runs_in : List Row → List Row → Option Row → ℤ → Bool
+runs_in calendars dates None day = false
+runs_in calendars dates (Some trip) day = runs_by (exception_in dates (nth 2 trip) day) (calendar_in calendars (nth 2 trip)) day
+
+-- the timetable of a folder without fault
+abbrev pub table_of : Sheets → Table
+table_of sheets = record {
+  trips = map (nth 0) (trips_in sheets);
+  stops = ids_in sheets Stops;
+  routes = ids_in sheets Routes;
+  route_of = λ trip. route_in (slice_get (trips_in sheets) trip);
+  stops_of = λ trip. stop_rows_in (ids_in sheets Stops) (rows_in (sheets StopTimes)) (slice_get (trips_in sheets) trip);
+  runs = λ trip day. runs_in (rows_in (sheets Calendar)) (rows_in (sheets CalendarDates)) (slice_get (trips_in sheets) trip) day;
+}
+
+-- the table unless there is a fault
+abbrev pub unless_fault : Option TableFault → Table → Result Table TableFault
+unless_fault None table = Ok table
+unless_fault (Some fault) table = Err fault
 
 -- the timetable of a folder, or its first fault; of two files of one name the first counts
 abbrev pub timetable : List (List ℕ × List ℕ) → List ℕ → Result Table TableFault
-timetable files dir = by_trips (bytes_of files (path_of dir Trips))
+timetable files dir = unless_fault (folder_fault (sheets_in files dir)) (table_of (sheets_in files dir))

@@ -1,14 +1,19 @@
 //! Ids, numbered from 0 in the order in which they came. The functions meet `specs/Ids.antt`.
-ghost use Rattle.std.specs.Prelude.{◌≡◌, ◌&&◌, ◌<◌, ◌++◌, ◌∷◌, [], not, Some, if◌then◌else◌, length, slice_get, position, IfOk, OnErr, IfSome, IsTrue};
-ghost use Rattle.std.specs.Str.{bytes_eq};
-ghost use Rattle.stop_schedule.specs.Ids.{are_ids, has_id, has_id_len as has_len, is_id};
+ghost use Rattle.std.specs.Prelude.{◌≡◌, ◌&&◌, ◌||◌, ◌+◌, ◌≤◌, ◌<◌, ◌++◌, ◌∷◌, [], not, Some, is_some, if◌then◌else◌, length, slice_get, position, true, IfOk, OnErr, IfSome, IsTrue};
+ghost use Rattle.std.specs.Str.{bytes_eq, is_utf8};
+ghost use Rattle.stop_schedule.specs.Ids.{are_ids, has_id, has_id_len as has_len, is_id, with_id};
+ghost use Rattle.stop_schedule.specs.Sheet.{nth};
 
+use crate::sheet::Sheet;
 use indexmap::IndexSet;
 use std::alloc::{AllocError, Global};
 use std::marker::Model;
 
 // The bytes that an id has at most.
 const MAX_ID_LEN: usize = 200;
+
+// The ids that can be numbered.
+const MAX_IDS: usize = 4_294_967_295;
 
 // Whether bytes are as many as an id has.
 fn has_id_len(id: &[u8]) -> bool
@@ -24,7 +29,7 @@ pub(crate) struct Ids {
 }
 
 impl Model for Ids {
-    ghost use Rattle.std.specs.Prelude.{◌≡◌, true, List, ℕ, map};
+    ghost use Rattle.std.specs.Prelude.{◌≡◌, ◌≤◌, true, List, ℕ, map, length};
     ghost use Rattle.std.specs.String.{string_bytes};
     ghost use Rattle.stop_schedule.specs.Ids.{are_ids};
 
@@ -32,7 +37,7 @@ impl Model for Ids {
 
     ghost view = { λ a. map string_bytes a.ids.keys };
 
-    ghost invariant = { λ a. are_ids (map string_bytes a.ids.keys) ≡ true };
+    ghost invariant = { λ a. (are_ids (map string_bytes a.ids.keys) ≡ true) × (length a.ids.keys ≤ 4294967295) };
 }
 
 impl Ids {
@@ -49,25 +54,30 @@ impl Ids {
     pub(crate) fn len(&self) -> usize
         ensures value { result ≡ length self.now }
         ensures ids { IsTrue (are_ids self.now) }
+        ensures few { result ≤ 4294967295 }
     {
         self.ids.len()
     }
 
-    /// The place of an id.
-    pub(crate) fn find(&self, id: &str) -> Option<usize>
+    /// The number of an id.
+    pub(crate) fn find(&self, id: &str) -> Option<u32>
         ensures place { result ≡ position (bytes_eq id.now) self.now }
+        ensures found { is_some result ≡ has_id id.now self.now }
         ensures within { IfSome result (λ place. place < length self.now) }
     {
-        self.ids.get_index_of(id)
+        match self.ids.get_index_of(id) {
+            Some(place) => Some(place as u32),
+            None => None,
+        }
     }
 
-    /// The id at a place.
-    pub(crate) fn at(&self, place: usize) -> &str
+    /// The id of a number.
+    pub(crate) fn at(&self, place: u32) -> &str
         requires { place < length self.now }
         ensures value { slice_get self.now place ≡ Some result.now }
         ensures ids { IsTrue (are_ids self.now) }
     {
-        self.ids.get_index(place).unwrap().as_str()
+        self.ids.get_index(place as usize).unwrap().as_str()
     }
 
     /// Adds an id at the end where it is one and is new, and says whether it was added. Want of memory
@@ -80,10 +90,45 @@ impl Ids {
         if !has_id_len(id) {
             return Ok(false);
         }
+        if self.ids.len() >= MAX_IDS {
+            return Err(AllocError);
+        }
         let Ok(text) = str::from_utf8(id) else {
             return Ok(false);
         };
         let added = self.ids.insert(String::from_str(alloc, text)?)?;
         Ok(added)
+    }
+}
+
+impl Ids {
+    /// The number of an id, which is added at the end where it is new. Want of memory leaves the ids as they
+    /// were.
+    pub(crate) fn number_of(&mut self, alloc: Global, id: &str) -> Result<u32, AllocError>
+        requires { is_id id.now ≡ true }
+        ensures ids { IfOk result (λ _. self.new ≡ with_id id.now self.old) }
+        ensures number { IfOk result (λ number. slice_get self.new number ≡ Some id.now) }
+        ensures kept { OnErr result (self.new ≡ self.old) }
+    {
+        match self.find(id) {
+            Some(number) => Ok(number),
+            None => {
+                let number = self.len() as u32;
+                self.add(alloc, id.as_bytes())?;
+                Ok(number)
+            }
+        }
+    }
+}
+
+/// The number of the id in a column of the row at hand.
+pub(crate) fn find_in(ids: &Ids, sheet: &Sheet<'_>, column: usize) -> Option<u32>
+    ensures place { is_utf8 (nth column sheet.now.row) ≡ true → result ≡ position (bytes_eq (nth column sheet.now.row)) ids.now }
+    ensures found { is_utf8 (nth column sheet.now.row) ≡ true → is_some result ≡ has_id (nth column sheet.now.row) ids.now }
+    ensures within { IfSome result (λ place. place < length ids.now) }
+{
+    match sheet.text(column) {
+        Some(id) => ids.find(id),
+        None => None,
     }
 }

@@ -1,18 +1,36 @@
-//! The timetable of a GTFS Schedule folder: its files are read once, and trips are found by id or number.
+//! The timetable of a GTFS Schedule folder: its files are read once, and trips, stops and routes are found by id or
+//! number.
 #![tactic(auto)]
 
+mod checks;
+mod column;
 mod fields;
 mod folder;
+mod forms;
+mod frequency_rows;
+mod id_rows;
 mod ids;
+mod layout;
+mod loading;
+mod numbers;
 mod rows;
+mod service_rows;
+mod sheet;
+mod stop_time_rows;
+mod stop_times;
 mod table_fault;
 mod table_file;
+mod taking;
 mod timetable;
-mod trips;
+mod trip_rows;
+mod zone_rows;
 
+pub use column::Column;
+pub use numbers::{RouteNo, StopNo, TripNo};
+pub use stop_times::StopRow;
 pub use table_fault::TableFault;
 pub use table_file::TableFile;
-pub use timetable::{Timetable, TripNo, read_timetable};
+pub use timetable::{Timetable, read_timetable};
 
 #[cfg(test)]
 mod tests;

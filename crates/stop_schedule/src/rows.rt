@@ -1,5 +1,5 @@
 //! The rows of a table, read one after the other into one record. The functions meet `specs/Rows.antt`.
-ghost use Rattle.std.specs.Prelude.{◌≡◌, ◌∷◌, [], IfOk};
+ghost use Rattle.std.specs.Prelude.{◌≡◌, ◌∷◌, [], false, IfOk};
 ghost use Rattle.std.specs.Bool.{MatchBool};
 ghost use Rattle.stop_schedule.specs.Fields.{field_of};
 ghost use Rattle.stop_schedule.specs.Rows.{rows, column as column_of};
@@ -42,13 +42,18 @@ impl<'a> Rows<'a> {
         }
     }
 
-    /// Reads the next row, and says whether there was one. After want of memory there are none.
+    /// Reads the next row, which is empty where there was none, and says whether there was one. After want of
+    /// memory there are none.
     pub(crate) fn advance(&mut self) -> Result<bool, AllocError>
+        ensures none { IfOk result (λ found. found ≡ false → self.new.row ≡ []) }
         ensures reads { IfOk result (λ found. MatchBool found (self.old.left ≡ self.new.row ∷ self.new.left) (self.old.left ≡ [])) }
     {
         let Ok(found) = self.reader.read_byte_record(&mut self.row) else {
             return Err(AllocError);
         };
+        if !found {
+            self.row.clear();
+        }
         Ok(found)
     }
 

@@ -1,0 +1,17 @@
+use Rattle.std.proofs.Common.{◌≡◌, ◌<◌, length, refl, sym, arith}
+use Rattle.stop_schedule.specs.Layout.{columns}
+use Rattle.stop_schedule.specs.Sheet.{places_of}
+use Rattle.stop_schedule.specs.declared.column.Column.TheVariants.{AgencyTimezone}
+use Rattle.stop_schedule.specs.declared.forms.Form.TheVariants.{Any}
+use Rattle.stop_schedule.proofs.FaultLemmas.{step-place}
+use Rattle.stop_schedule.proofs.sheet.find_places.Goals as goal
+
+pub loop-column-preserved : goal.loop-column-preserved
+loop-column-preserved c =
+    let file = c.args.file in
+    let names = c.args.rows.now.row in
+    let within : c.loop-column.column-index < length c.columns-column-items.result.now = omega arith in
+    let at = rw c.name.ensures at (sym c.in-Some.ensures.place) in
+    rw c.in_ok-push.ensures.items
+    (step-place file names c.columns-column-items.result.now c.loop-column.column-index (AgencyTimezone, Any) c.loop-column.places.items c.in-Some.place
+    (places_of file names (columns file)) within at c.loop-column.invariant)

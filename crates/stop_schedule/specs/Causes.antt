@@ -1,0 +1,65 @@
+-- The faults of a row beyond those of its fields, by the rows before it in its file and by the ids of other files.
+use Rattle.std.specs.Prelude.{◌==◌, ◌&&◌, ◌+◌, ℕ, Bool, false, not, nat_le, List, [], ◌∷◌, map, length, count_by, Option, Some, None}
+use Rattle.std.specs.List.{list_any}
+use Rattle.std.specs.Option.{option_or}
+use Rattle.std.specs.Str.{bytes_eq}
+use Rattle.stop_schedule.specs.Faults.{fault_if}
+use Rattle.stop_schedule.specs.Ids.{has_id}
+use Rattle.stop_schedule.specs.Services.{is_exception, day_of_row}
+use Rattle.stop_schedule.specs.Sheet.{Row, nth}
+use Rattle.stop_schedule.specs.StopTimes.{sequence_of}
+use Rattle.stop_schedule.specs.declared.column.Column.TheVariants as Column
+use Rattle.stop_schedule.specs.declared.table_file.TableFile.{TableFile}
+use Rattle.stop_schedule.specs.declared.table_file.TableFile.TheVariants.{Trips, Calendar, CalendarDates, Frequencies, StopTimes}
+use Rattle.stop_schedule.specs.declared.table_fault.TableFault.{TableFault}
+use Rattle.stop_schedule.specs.declared.table_fault.TableFault.TheVariants.{Limit, Zones, Unknown, Duplicate}
+
+-- the number of the row behind these
+abbrev pub number_behind : List Row → ℕ
+number_behind before = length before + 1
+
+-- an id stands in no earlier row
+abbrev pub duplicate_fault : TableFile → List Row → Row → Option TableFault
+duplicate_fault file before row = fault_if (has_id (nth 0 row) (map (nth 0) before)) (Duplicate file (number_behind before))
+
+abbrev pub first_row : List Row → Option Row
+first_row [] = None
+first_row (row ∷ rows) = Some row
+
+-- agency.txt: the zone is the first row's
+abbrev pub differs : Option Row → Row → Bool
+differs None row = false
+differs (Some first) row = not (bytes_eq (nth 0 first) (nth 0 row))
+
+abbrev pub zone_fault : List Row → Row → Option TableFault
+zone_fault before row = fault_if (differs (first_row before) row) (Zones (number_behind before))
+
+-- trips.txt, of which these are the ids of the routes
+abbrev pub trip_fault : List (List ℕ) → List Row → Row → Option TableFault
+trip_fault routes before row =
+    option_or (fault_if (not (has_id (nth 1 row) routes)) (Unknown Trips (number_behind before) Column.RouteId))
+    (duplicate_fault Trips before row)
+
+-- calendar.txt and calendar_dates.txt
+abbrev pub calendar_fault : List Row → Row → Option TableFault
+calendar_fault before row = duplicate_fault Calendar before row
+
+abbrev pub date_fault : List Row → Row → Option TableFault
+date_fault before row =
+    fault_if (list_any (λ other. is_exception (nth 0 row) (day_of_row row) other) before) (Duplicate CalendarDates (number_behind before))
+
+-- frequencies.txt, of which these are the ids of the trips
+abbrev pub frequency_fault : List (List ℕ) → List Row → Row → Option TableFault
+frequency_fault trips before row = fault_if (not (has_id (nth 0 row) trips)) (Unknown Frequencies (number_behind before) Column.TripId)
+
+-- the rows have the same trip
+abbrev pub same_trip : Row → Row → Bool
+same_trip row other = bytes_eq (nth 0 row) (nth 0 other)
+
+-- stop_times.txt, of which these are the ids of the trips and the stops; a trip has at most 250 rows
+abbrev pub stop_time_fault : List (List ℕ) → List (List ℕ) → List Row → Row → Option TableFault
+stop_time_fault trips stops before row =
+    option_or (fault_if (nat_le 250 (count_by (same_trip row) before)) (Limit StopTimes (number_behind before)))
+    (option_or (fault_if (not (has_id (nth 0 row) trips)) (Unknown StopTimes (number_behind before) Column.TripId))
+    (option_or (fault_if (not (has_id (nth 2 row) stops)) (Unknown StopTimes (number_behind before) Column.StopId))
+    (fault_if (list_any (λ other. same_trip row other && (sequence_of row == sequence_of other)) before) (Duplicate StopTimes (number_behind before)))))

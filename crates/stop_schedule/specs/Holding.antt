@@ -1,0 +1,66 @@
+-- What is held of the rows of a file while they are read.
+use Rattle.std.specs.Prelude.{◌≡◌, ◌&&◌, ◌≤◌, ℕ, ℤ, nat_eq, Bool, true, List, map, length, slice_get, Option, Some, None}
+use Rattle.std.specs.List.{list_all}
+use Rattle.std.specs.Ordering.{int_eq}
+use Rattle.std.specs.HashMap.{HashMap, get}
+use Rattle.std.specs.declared.hash.FoldHasher.{FoldHasher}
+use Rattle.std.specs.declared.hash.BuildHasherDefault.{BuildHasherDefault}
+use Rattle.stop_schedule.specs.Ids.{has_id}
+use Rattle.stop_schedule.specs.Services.{calendar_in, exception_in}
+use Rattle.stop_schedule.specs.Sheet.{Row, nth}
+use Rattle.stop_schedule.specs.StopTimes.{stops_in}
+use Rattle.stop_schedule.specs.declared.service_rows.Calendar.{Calendar}
+use Rattle.stop_schedule.specs.declared.stop_times.LoadedStop.{LoadedStop}
+
+-- these are the numbers of names among ids
+abbrev pub AreNumbers : List (List ℕ) → List ℕ → List (List ℕ) → Type 0
+AreNumbers ids numbers names = map (slice_get ids) numbers ≡ map Some names
+
+-- the trips of the rows, with the numbers of their routes and services
+pub record HoldsTrips (routes services trips : List (List ℕ)) (trip_routes trip_services : List ℕ) (rows : List Row) : Type 0 where
+  pub ids : trips ≡ map (nth 0) rows
+  pub routes_are : AreNumbers routes trip_routes (map (nth 1) rows)
+  pub services_are : AreNumbers services trip_services (map (nth 2) rows)
+
+abbrev pub Calendars : Type 0
+Calendars = HashMap ℕ Calendar (BuildHasherDefault FoldHasher)
+
+abbrev pub Exceptions : Type 0
+Exceptions = HashMap (ℕ × ℤ) Bool (BuildHasherDefault FoldHasher)
+
+-- the calendar of a service by its number
+abbrev pub calendar_at : Calendars → ℕ → Option Calendar
+calendar_at calendars service = get nat_eq calendars service
+
+-- the exception of a service on a day
+abbrev pub exception_at : Exceptions → ℕ → ℤ → Option Bool
+exception_at exceptions service day = get (λ x y. nat_eq x.0 y.0 && int_eq x.1 y.1) exceptions (service, day)
+
+-- each id keeps its number
+abbrev pub Extends : List (List ℕ) → List (List ℕ) → Type 0
+Extends ids more = (number : ℕ) (id : List ℕ) → slice_get ids number ≡ Some id → slice_get more number ≡ Some id
+
+-- each service among the ids has the calendar that the rows give it, no other number has one, and the rows' services
+-- are among the ids
+pub record HoldsCalendars (before services : List (List ℕ)) (calendars : Calendars) (rows : List Row) : Type 0 where
+  pub inside : (number : ℕ) (service : List ℕ) → slice_get services number ≡ Some service → calendar_at calendars number ≡ calendar_in rows service
+  pub extends : Extends before services
+  pub outside : (number : ℕ) → length services ≤ number → calendar_at calendars number ≡ None
+  pub known : list_all (λ row. has_id (nth 0 row) services) rows ≡ true
+
+-- and the exceptions
+pub record HoldsDates (before services : List (List ℕ)) (exceptions : Exceptions) (rows : List Row) : Type 0 where
+  pub inside : (number : ℕ) (service : List ℕ) (day : ℤ) → slice_get services number ≡ Some service → exception_at exceptions number day ≡ exception_in rows service day
+  pub extends : Extends before services
+  pub outside : (number : ℕ) (day : ℤ) → length services ≤ number → exception_at exceptions number day ≡ None
+  pub known : list_all (λ row. has_id (nth 0 row) services) rows ≡ true
+
+-- each service has the calendar and the exceptions that the rows give it
+pub record HoldsServices (services : List (List ℕ)) (calendars : Calendars) (exceptions : Exceptions) (calendar_rows date_rows : List Row) : Type 0 where
+  pub calendars_are : (number : ℕ) (service : List ℕ) → slice_get services number ≡ Some service → calendar_at calendars number ≡ calendar_in calendar_rows service
+  pub exceptions_are : (number : ℕ) (service : List ℕ) (day : ℤ) → slice_get services number ≡ Some service → exception_at exceptions number day ≡ exception_in date_rows service day
+
+-- each trip has the stops that the rows give it, and the rows' trips are known
+pub record HoldsStops (trips stops : List (List ℕ)) (by_trip : List (List LoadedStop)) (rows : List Row) : Type 0 where
+  pub stops_are : by_trip ≡ map (stops_in stops rows) trips
+  pub known : list_all (λ row. has_id (nth 0 row) trips) rows ≡ true

@@ -1,0 +1,60 @@
+-- On which days services run (GTFS Schedule reference, calendar.txt and calendar_dates.txt).
+use Rattle.std.specs.Prelude.{◌==◌, ◌&&◌, ℕ, ℤ, pos, int_le, Bool, false, List, [], ◌∷◌, find, slice_get, unwrap_or, codes, Option, Some, None, option_map}
+use Rattle.std.specs.Ordering.{int_eq}
+use Rattle.std.specs.Str.{bytes_eq}
+use Rattle.jiff_core.specs.Calendar.{weekday_number}
+use Rattle.stop_schedule.specs.Forms.{date}
+use Rattle.stop_schedule.specs.Sheet.{Row, nth}
+use Rattle.stop_schedule.specs.declared.service_rows.Calendar.{Calendar}
+
+-- the field of a column is `1`
+abbrev pub is_one : ℕ → Row → Bool
+is_one column row = bytes_eq (nth column row) (codes "1")
+
+-- the day that the field of a column names
+abbrev pub day_in : ℕ → Row → Option ℤ
+day_in column row = date (nth column row)
+
+-- the same, where the field is known to name one
+abbrev pub day_at : ℕ → Row → ℤ
+day_at column row = unwrap_or (day_in column row) (pos 0)
+
+-- the weekdays of a row of calendar.txt, from Monday on
+abbrev pub weekdays : Row → List Bool
+weekdays row =
+    is_one 1 row ∷ is_one 2 row ∷ is_one 3 row ∷ is_one 4 row ∷ is_one 5 row ∷ is_one 6 row ∷ is_one 7 row ∷ []
+
+-- what a row of calendar.txt says of its service
+abbrev pub calendar_of : Row → Calendar
+calendar_of row = record { weekdays = weekdays row; start = day_at 8 row; end = day_at 9 row }
+
+-- the day of a row of calendar_dates.txt
+abbrev pub day_of_row : Row → ℤ
+day_of_row row = day_at 1 row
+
+-- a row is of that service
+abbrev pub is_of : List ℕ → Row → Bool
+is_of service row = bytes_eq service (nth 0 row)
+
+-- a row of calendar_dates.txt is of that service and that day
+abbrev pub is_exception : List ℕ → ℤ → Row → Bool
+is_exception service day row = is_of service row && int_eq day (day_of_row row)
+
+-- what the rows of calendar.txt say of a service, if they say anything
+abbrev pub calendar_in : List Row → List ℕ → Option Calendar
+calendar_in calendars service = option_map calendar_of (find (is_of service) calendars)
+
+-- whether the rows of calendar_dates.txt add or remove the day of a service, if they say anything of it
+abbrev pub exception_in : List Row → List ℕ → ℤ → Option Bool
+exception_in dates service day = option_map (is_one 2) (find (is_exception service day) dates)
+
+-- the calendar has the day
+abbrev pub has_day : Calendar → ℤ → Bool
+has_day calendar day =
+    int_le calendar.start day && (int_le day calendar.end && unwrap_or (slice_get calendar.weekdays (weekday_number day)) false)
+
+-- an exception decides, then a calendar; a service of which nothing is said never runs
+abbrev pub runs_by : Option Bool → Option Calendar → ℤ → Bool
+runs_by (Some added) calendar day = added
+runs_by None (Some calendar) day = has_day calendar day
+runs_by None None day = false

@@ -1,0 +1,40 @@
+//! The rows of `stops.txt` and `routes.txt`: ids that differ.
+ghost use Rattle.std.specs.Prelude.{◌≡◌};
+
+use crate::ids::Ids;
+use crate::sheet::Sheet;
+use crate::table_fault::TableFault;
+use crate::table_file::TableFile;
+use crate::taking::TakesRows;
+use std::alloc::Global;
+
+/// The ids of a file's rows, in order.
+#[derive(Drop)]
+pub(crate) struct IdRows {
+    pub(crate) file: TableFile,
+    pub(crate) ids: Ids,
+}
+
+impl TakesRows for IdRows {
+    ghost use Rattle.std.specs.Prelude.{◌≡◌, map};
+    ghost use Rattle.stop_schedule.specs.Causes.{duplicate_fault};
+    ghost use Rattle.stop_schedule.specs.Sheet.{nth};
+
+    ghost file_of = { λ taker. taker.file };
+
+    ghost fault = { λ taker. duplicate_fault taker.file };
+
+    ghost Holds = { λ _ taker rows. taker.ids ≡ map (nth 0) rows };
+
+    fn file(&self) -> TableFile {
+        self.file
+    }
+
+    fn take(&mut self, alloc: Global, sheet: &Sheet<'_>, number: u64) -> Result<(), TableFault> {
+        let added = self.ids.add(alloc, sheet.field(0))?;
+        if !added {
+            return Err(TableFault::Duplicate(self.file, number));
+        }
+        Ok(())
+    }
+}

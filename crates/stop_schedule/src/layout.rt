@@ -1,0 +1,65 @@
+//! What is read of each file: its columns in order, and how many rows it has at most. The functions meet
+//! `specs/Layout.antt`.
+ghost use Rattle.std.specs.Prelude.{◌≡◌};
+ghost use Rattle.stop_schedule.specs.Layout as spec;
+
+use crate::column::Column;
+use crate::forms::Form;
+use crate::table_file::TableFile;
+
+/// The columns that are read of a file, with their forms.
+pub(crate) fn columns(file: TableFile) -> &'static [(Column, Form)]
+    ensures { result.now ≡ spec.columns file }
+{
+    match file {
+        TableFile::Agency => &[(Column::AgencyTimezone, Form::Any)],
+        TableFile::Stops => &[(Column::StopId, Form::Id)],
+        TableFile::Routes => &[(Column::RouteId, Form::Id)],
+        TableFile::Trips => &[
+            (Column::TripId, Form::Id),
+            (Column::RouteId, Form::Id),
+            (Column::ServiceId, Form::Id),
+        ],
+        TableFile::Calendar => &[
+            (Column::ServiceId, Form::Id),
+            (Column::Monday, Form::Flag),
+            (Column::Tuesday, Form::Flag),
+            (Column::Wednesday, Form::Flag),
+            (Column::Thursday, Form::Flag),
+            (Column::Friday, Form::Flag),
+            (Column::Saturday, Form::Flag),
+            (Column::Sunday, Form::Flag),
+            (Column::StartDate, Form::Date),
+            (Column::EndDate, Form::Date),
+        ],
+        TableFile::CalendarDates => &[
+            (Column::ServiceId, Form::Id),
+            (Column::Date, Form::Date),
+            (Column::ExceptionType, Form::Exception),
+        ],
+        TableFile::Frequencies => &[(Column::TripId, Form::Id)],
+        TableFile::StopTimes => &[
+            (Column::TripId, Form::Id),
+            (Column::StopSequence, Form::Sequence),
+            (Column::StopId, Form::Id),
+            (Column::ArrivalTime, Form::Time),
+            (Column::DepartureTime, Form::Time),
+        ],
+    }
+}
+
+/// The data rows that a file has at most.
+pub(crate) fn row_limit(file: TableFile) -> u64
+    ensures { result ≡ spec.row_limit file }
+{
+    match file {
+        TableFile::Agency => 10_000,
+        TableFile::Stops => 100_000,
+        TableFile::Routes => 100_000,
+        TableFile::Trips => 200_000,
+        TableFile::Calendar => 200_000,
+        TableFile::CalendarDates => 4_000_000,
+        TableFile::Frequencies => 200_000,
+        TableFile::StopTimes => 4_000_000,
+    }
+}

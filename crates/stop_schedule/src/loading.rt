@@ -1,0 +1,227 @@
+//! The files of a folder, each with what is made of its rows. The functions meet `specs/Timetable.antt`.
+ghost use Rattle.std.specs.Prelude.{◌≡◌, [], ⊤, map, IfSome};
+ghost use Rattle.gw_base.specs.Count.{Counts};
+ghost use Rattle.stop_schedule.specs.Answers.{Finds, HasFailed};
+ghost use Rattle.stop_schedule.specs.Causes.{zone_fault, duplicate_fault, trip_fault, frequency_fault, stop_time_fault};
+ghost use Rattle.stop_schedule.specs.Holding.{HoldsTrips, HoldsServices, HoldsStops};
+ghost use Rattle.stop_schedule.specs.Reading.{ReadsNeeded, ReadsRows};
+ghost use Rattle.stop_schedule.specs.Timetable.{calendars_fault, sheets_in};
+ghost use Rattle.stop_schedule.specs.Sheet.{nth, rows_in};
+ghost use Rattle.stop_schedule.specs.Trips.{is_carried};
+ghost use Rattle.stop_schedule.specs.declared.table_file.TableFile.TheVariants as File;
+
+use crate::id_rows::IdRows;
+use crate::ids::Ids;
+use crate::frequency_rows::FrequencyRows;
+use crate::service_rows::{Calendar, CalendarRows, DateRows};
+use crate::stop_time_rows::StopTimeRows;
+use crate::stop_times::LoadedStop;
+use crate::table_fault::TableFault;
+use crate::table_file::TableFile;
+use crate::taking::{TakesRows, read_rows};
+use crate::trip_rows::TripRows;
+use crate::zone_rows::ZoneRows;
+use gw_base::{Bytes, Files};
+use std::alloc::Global;
+use std::collections::HashMap;
+
+/// The trips of `trips.txt` with the numbers of their routes and services.
+#[derive(Drop)]
+pub(crate) struct Trips {
+    pub(crate) ids: Ids,
+    pub(crate) routes: Vec<u32>,
+    pub(crate) services: Vec<u32>,
+}
+
+/// What the calendar files say of services by their numbers.
+#[derive(Drop)]
+pub(crate) struct Services {
+    pub(crate) calendars: HashMap<u32, Calendar>,
+    pub(crate) exceptions: HashMap<(u32, i32), bool>,
+}
+
+// Reads a file that has to be there.
+fn read_needed<F: Files, T: TakesRows>(
+    alloc: Global,
+    files: &mut F,
+    dir: &str,
+    buffer: &mut Bytes,
+    taker: &mut T,
+) -> Result<(), TableFault>
+    ensures exact { IfSome (F.told files.old) (λ told. T.Holds taker.old taker.old []
+        → ReadsNeeded (T.file_of taker.old) (T.fault taker.old) (λ _. T.Holds taker.old taker.new) (sheets_in told dir.now) result) }
+    ensures counts { Counts (HasFailed result) (F.faults files.old) (F.faults files.new) }
+    ensures same { F.told files.new ≡ F.told files.old }
+{
+    if !read_rows(alloc, files, dir, buffer, taker)? {
+        return Err(TableFault::Missing(taker.file()));
+    }
+    Ok(())
+}
+
+/// Reads `agency.txt`.
+pub(crate) fn read_zones<F: Files>(
+    alloc: Global,
+    files: &mut F,
+    dir: &str,
+    buffer: &mut Bytes,
+) -> Result<(), TableFault>
+    ensures exact { IfSome (F.told files.old) (λ told. ReadsNeeded File.Agency zone_fault (λ _ _. ⊤) (sheets_in told dir.now) result) }
+    ensures counts { Counts (HasFailed result) (F.faults files.old) (F.faults files.new) }
+    ensures same { F.told files.new ≡ F.told files.old }
+{
+    let mut zones = ZoneRows { first: None };
+    read_needed(alloc, files, dir, buffer, &mut zones)
+}
+
+/// Reads `stops.txt` or `routes.txt`.
+pub(crate) fn read_ids<F: Files>(
+    alloc: Global,
+    files: &mut F,
+    dir: &str,
+    buffer: &mut Bytes,
+    file: TableFile,
+) -> Result<Ids, TableFault>
+    ensures exact { IfSome (F.told files.old) (λ told. ReadsNeeded file (duplicate_fault file) (λ ids rows. ids ≡ map (nth 0) rows) (sheets_in told dir.now) result) }
+    ensures counts { Counts (HasFailed result) (F.faults files.old) (F.faults files.new) }
+    ensures same { F.told files.new ≡ F.told files.old }
+{
+    let mut rows = IdRows {
+        file,
+        ids: Ids::new(alloc),
+    };
+    read_needed(alloc, files, dir, buffer, &mut rows)?;
+    let IdRows { file: _, ids } = rows;
+    Ok(ids)
+}
+
+/// Reads `trips.txt`, and answers the services too.
+pub(crate) fn read_trips<F: Files>(
+    alloc: Global,
+    files: &mut F,
+    dir: &str,
+    buffer: &mut Bytes,
+    routes: &Ids,
+) -> Result<(Trips, Ids), TableFault>
+    ensures exact { IfSome (F.told files.old) (λ told. ReadsNeeded File.Trips (trip_fault routes.now)
+        (λ found. HoldsTrips routes.now found.1 found.0.ids found.0.routes.items found.0.services.items) (sheets_in told dir.now) result) }
+    ensures counts { Counts (HasFailed result) (F.faults files.old) (F.faults files.new) }
+    ensures same { F.told files.new ≡ F.told files.old }
+{
+    let mut rows = TripRows {
+        known_routes: routes,
+        services: Ids::new(alloc),
+        trips: Ids::new(alloc),
+        trip_routes: Vec::new(alloc),
+        trip_services: Vec::new(alloc),
+    };
+    read_needed(alloc, files, dir, buffer, &mut rows)?;
+    let TripRows {
+        known_routes: _,
+        services,
+        trips,
+        trip_routes,
+        trip_services,
+    } = rows;
+    let trips = Trips {
+        ids: trips,
+        routes: trip_routes,
+        services: trip_services,
+    };
+    Ok((trips, services))
+}
+
+/// Reads `calendar.txt` and `calendar_dates.txt`, of which one has to be there.
+pub(crate) fn read_services<F: Files>(
+    alloc: Global,
+    files: &mut F,
+    dir: &str,
+    buffer: &mut Bytes,
+    services: Ids,
+) -> Result<Services, TableFault>
+    ensures exact { IfSome (F.told files.old) (λ told. Finds (calendars_fault (sheets_in told dir.now))
+        (λ found. HoldsServices services found.calendars found.exceptions (rows_in (sheets_in told dir.now File.Calendar)) (rows_in (sheets_in told dir.now File.CalendarDates))) result) }
+    ensures counts { Counts (HasFailed result) (F.faults files.old) (F.faults files.new) }
+    ensures same { F.told files.new ≡ F.told files.old }
+{
+    let mut rows = CalendarRows {
+        services,
+        calendars: HashMap::new(alloc),
+    };
+    let has_calendar = read_rows(alloc, files, dir, buffer, &mut rows)?;
+    let CalendarRows {
+        services,
+        calendars,
+    } = rows;
+    let mut rows = DateRows {
+        services,
+        exceptions: HashMap::new(alloc),
+    };
+    let has_dates = read_rows(alloc, files, dir, buffer, &mut rows)?;
+    if !has_calendar && !has_dates {
+        return Err(TableFault::Missing(TableFile::Calendar));
+    }
+    let DateRows {
+        services: _,
+        exceptions,
+    } = rows;
+    Ok(Services {
+        calendars,
+        exceptions,
+    })
+}
+
+/// Reads `frequencies.txt`, and answers of each trip whether it is carried.
+pub(crate) fn read_frequencies<F: Files>(
+    alloc: Global,
+    files: &mut F,
+    dir: &str,
+    buffer: &mut Bytes,
+    trips: &Ids,
+) -> Result<Vec<bool>, TableFault>
+    ensures exact { IfSome (F.told files.old) (λ told. ReadsRows File.Frequencies (frequency_fault trips.now)
+        (λ carried rows. carried.items ≡ map (is_carried rows) trips.now) (sheets_in told dir.now) result) }
+    ensures counts { Counts (HasFailed result) (F.faults files.old) (F.faults files.new) }
+    ensures same { F.told files.new ≡ F.told files.old }
+{
+    let mut carried = Vec::new(alloc);
+    for _ in 0..trips.len() {
+        carried.push(true)?;
+    }
+    let mut rows = FrequencyRows { trips, carried };
+    read_rows(alloc, files, dir, buffer, &mut rows)?;
+    let FrequencyRows { trips: _, carried } = rows;
+    Ok(carried)
+}
+
+/// Reads `stop_times.txt`, and answers the stops of each trip.
+pub(crate) fn read_stop_times<F: Files>(
+    alloc: Global,
+    files: &mut F,
+    dir: &str,
+    buffer: &mut Bytes,
+    trips: &Ids,
+    stops: &Ids,
+) -> Result<Vec<Vec<LoadedStop>>, TableFault>
+    ensures exact { IfSome (F.told files.old) (λ told. ReadsNeeded File.StopTimes (stop_time_fault trips.now stops.now)
+        (λ by_trip. HoldsStops trips.now stops.now (map (λ held. held.items) by_trip.items)) (sheets_in told dir.now) result) }
+    ensures counts { Counts (HasFailed result) (F.faults files.old) (F.faults files.new) }
+    ensures same { F.told files.new ≡ F.told files.old }
+{
+    let mut by_trip = Vec::new(alloc);
+    for _ in 0..trips.len() {
+        by_trip.push(Vec::new(alloc))?;
+    }
+    let mut rows = StopTimeRows {
+        trips,
+        stops,
+        by_trip,
+    };
+    read_needed(alloc, files, dir, buffer, &mut rows)?;
+    let StopTimeRows {
+        trips: _,
+        stops: _,
+        by_trip,
+    } = rows;
+    Ok(by_trip)
+}

@@ -1,0 +1,90 @@
+//! The rows of `stop_times.txt`: the stops of each trip, in rising sequence.
+ghost use Rattle.std.specs.Prelude.{◌≡◌, IfErr};
+ghost use Rattle.stop_schedule.specs.StopTimes as spec;
+
+use crate::column::Column;
+use crate::forms::{seconds, sequence};
+use crate::ids::{Ids, find_in};
+use crate::sheet::Sheet;
+use crate::numbers::StopNo;
+use crate::stop_times::{LoadedStop, place_of};
+use crate::table_fault::TableFault;
+use crate::table_file::TableFile;
+use crate::taking::TakesRows;
+use std::alloc::Global;
+
+// The rows that a trip has at most.
+const MAX_STOPS: usize = 250;
+
+/// The stops of each trip of `trips.txt`, in rising sequence.
+#[derive(Drop)]
+pub(crate) struct StopTimeRows<'a> {
+    pub(crate) trips: &'a Ids,
+    pub(crate) stops: &'a Ids,
+    pub(crate) by_trip: Vec<Vec<LoadedStop>>,
+}
+
+// The times of the row at hand: one time stands for both.
+fn times(sheet: &Sheet<'_>) -> Option<(u32, u32)>
+    ensures { result ≡ spec.times sheet.now.row }
+{
+    match (seconds(sheet.field(3)), seconds(sheet.field(4))) {
+        (Some(arrival), Some(departure)) => Some((arrival, departure)),
+        (Some(time), None) => Some((time, time)),
+        (None, Some(time)) => Some((time, time)),
+        (None, None) => None,
+    }
+}
+
+impl<'a> TakesRows for StopTimeRows<'a> {
+    ghost use Rattle.std.specs.Prelude.{map};
+    ghost use Rattle.stop_schedule.specs.Causes.{stop_time_fault};
+    ghost use Rattle.stop_schedule.specs.Holding.{HoldsStops};
+    ghost use Rattle.stop_schedule.specs.declared.table_file.TableFile.TheVariants.{StopTimes};
+
+    ghost file_of = { λ _. StopTimes };
+
+    ghost fault = { λ taker. stop_time_fault taker.trips.now taker.stops.now };
+
+    ghost Holds = { λ _ taker rows. HoldsStops taker.trips.now taker.stops.now (map (λ held. held.items) taker.by_trip.items) rows };
+
+    fn file(&self) -> TableFile {
+        TableFile::StopTimes
+    }
+
+    fn take(&mut self, _alloc: Global, sheet: &Sheet<'_>, number: u64) -> Result<(), TableFault> {
+        let Some(trip) = find_in(self.trips, sheet, 0) else {
+            return Err(unknown(number, Column::TripId));
+        };
+        let held = &mut self.by_trip[trip as usize];
+        if held.len() >= MAX_STOPS {
+            return Err(TableFault::Limit(TableFile::StopTimes, number));
+        }
+        let Some(stop) = find_in(self.stops, sheet, 2) else {
+            return Err(unknown(number, Column::StopId));
+        };
+        let Some(sequence) = sequence(sheet.field(1)) else {
+            return Err(unknown(number, Column::StopSequence));
+        };
+        let Some(place) = place_of(held.as_slice(), sequence) else {
+            return Err(TableFault::Duplicate(TableFile::StopTimes, number));
+        };
+        let loaded = LoadedStop {
+            row: number as u32,
+            sequence,
+            stop: StopNo(stop),
+            times: times(sheet),
+        };
+        match held.insert(place, loaded) {
+            Ok(()) => Ok(()),
+            Err(_) => Err(TableFault::Memory),
+        }
+    }
+}
+
+// The id of a column isn't in its file.
+fn unknown(number: u64, column: Column) -> TableFault
+    ensures { result ≡ TableFault.Unknown TableFile.StopTimes number column }
+{
+    TableFault::Unknown(TableFile::StopTimes, number, column)
+}

@@ -1,0 +1,99 @@
+//! The rows of a file, taken one after the other by what is made of them.
+ghost use Rattle.std.specs.Prelude.{◌≡◌, ◌+◌, ◌++◌, ◌∷◌, [], ℕ, None, Some, List, length, OnOk, IfErr, IfSome, IfOk};
+ghost use Rattle.std.specs.Bool.{MatchBool};
+ghost use Rattle.gw_base.specs.Answers.{UnlessFree};
+ghost use Rattle.gw_base.specs.Count.{Counts};
+ghost use Rattle.gw_base.specs.Directory.{bytes_of};
+ghost use Rattle.stop_schedule.specs.Answers.{Finds, HasFailed, is_free};
+ghost use Rattle.stop_schedule.specs.Faults.{Fits, first_fault, row_fault as fault_of_row};
+ghost use Rattle.stop_schedule.specs.Sheet.{Row};
+ghost use Rattle.stop_schedule.specs.Reading.{FindsFile};
+ghost use Rattle.stop_schedule.specs.Timetable.{sheets_in};
+
+use crate::checks::row_fault;
+use crate::folder::read_file;
+use crate::sheet::Sheet;
+use crate::table_fault::TableFault;
+use crate::table_file::TableFile;
+use gw_base::{Bytes, Files};
+use std::alloc::Global;
+
+/// What takes the rows of a file.
+pub(crate) trait TakesRows {
+    ghost use Rattle.std.specs.Prelude.{List, Option};
+    ghost use Rattle.stop_schedule.specs.Sheet.{Row};
+    ghost use Rattle.stop_schedule.specs.declared.table_file.TableFile.{TableFile};
+    ghost use Rattle.stop_schedule.specs.declared.table_fault.TableFault.{TableFault};
+
+    // The file.
+    ghost file_of: { Self → TableFile };
+
+    // The fault of a row whose fields have their forms, by the rows before it.
+    ghost fault: { Self → List Row → Row → Option TableFault };
+
+    // The second holds what is made of these rows from the first on.
+    ghost Holds: { Self → Self → List Row → Type 0 };
+
+    /// The file.
+    fn file(&self) -> TableFile
+        ensures { result ≡ file_of self.now };
+
+    /// Takes the row at hand, which is the data row of that number, or tells its fault.
+    fn take(&mut self, alloc: Global, sheet: &Sheet<'_>, number: u64) -> Result<(), TableFault>
+        ensures takes { (start : Self) (before : List Row) → Holds start self.old before → number ≡ length before + 1
+            → Fits (file_of self.old) number sheet.now.row
+            → Finds (fault self.old before sheet.now.row) (λ _. Holds start self.new (before ++ sheet.now.row ∷ [])) result }
+        ensures same_fault { fault self.new ≡ fault self.old }
+        ensures same_file { file_of self.new ≡ file_of self.old }
+        ensures no_failure { HasFailed result → ⊥ };
+}
+
+// Takes all rows that are left, up to the first fault.
+fn take_rows<T: TakesRows>(
+    alloc: Global,
+    sheet: &mut Sheet<'_>,
+    taker: &mut T,
+) -> Result<(), TableFault>
+    ensures takes { T.Holds taker.old taker.old []
+        → Finds (first_fault (fault_of_row (T.file_of taker.old) (T.fault taker.old)) [] sheet.old.left)
+        (λ _. T.Holds taker.old taker.new sheet.old.left) result }
+    ensures same_fault { T.fault taker.new ≡ T.fault taker.old }
+    ensures same_file { T.file_of taker.new ≡ T.file_of taker.old }
+    ensures no_failure { HasFailed result → ⊥ }
+{
+    let mut number = 0u64;
+    while sheet.advance()? {
+        number += 1;
+        if let Some(fault) = row_fault(sheet, taker.file(), number) {
+            return Err(fault);
+        }
+        if let Err(fault) = taker.take(alloc, sheet, number) {
+            return Err(fault);
+        }
+    }
+    Ok(())
+}
+
+/// Reads the rows of a file of a folder into the taker, and says whether there is the file.
+pub(crate) fn read_rows<F: Files, T: TakesRows>(
+    alloc: Global,
+    files: &mut F,
+    dir: &str,
+    buffer: &mut Bytes,
+    taker: &mut T,
+) -> Result<bool, TableFault>
+    ensures exact { IfSome (F.told files.old) (λ told. T.Holds taker.old taker.old []
+        → FindsFile (T.file_of taker.old) (T.fault taker.old) (T.Holds taker.old taker.new) (sheets_in told dir.now) result) }
+    ensures same_fault { T.fault taker.new ≡ T.fault taker.old }
+    ensures same_file { T.file_of taker.new ≡ T.file_of taker.old }
+    ensures counts { Counts (HasFailed result) (F.faults files.old) (F.faults files.new) }
+    ensures same { F.told files.new ≡ F.told files.old }
+{
+    let file = taker.file();
+    if !read_file(alloc, files, dir, file, buffer)? {
+        return Ok(false);
+    }
+    let mut sheet = Sheet::open(alloc, buffer.as_slice(), file)?;
+    take_rows(alloc, &mut sheet, taker)?;
+    Ok(true)
+}
