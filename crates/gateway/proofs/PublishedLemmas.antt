@@ -8,7 +8,6 @@ use Rattle.service_day.specs.Windows.{IsWindow}
 use Rattle.stop_schedule.specs.Table.{Table}
 use Rattle.stop_schedule.specs.Timetable.{timetable}
 use Rattle.stop_schedule.specs.declared.table_fault.TableFault.{TableFault}
-use Rattle.stop_schedule.specs.declared.table_fault.TableFault.TheVariants as fault
 use Rattle.gateway.specs.Exits.{missing}
 use Rattle.gateway.specs.Feeds.{IsFeed}
 use Rattle.gateway.specs.Frame.{journeys_of}
@@ -33,10 +32,7 @@ found_table dir (Ok other) table e = ap (λ t. Ok t) (sym (same_ok table other e
   where
     same_ok : (a b : Table) → ◌≡◌ {A = Result Table Exit} (Ok a) (Ok b) → a ≡ b
     same_ok a b e = cc
-found_table dir (Err (fault.Missing file)) table e = absurd cc
-found_table dir (Err (fault.BadTable file)) table e = absurd cc
-found_table dir (Err (fault.Failed file)) table e = absurd cc
-found_table dir (Err fault.Memory) table e = absurd cc
+found_table dir (Err fault) table e = absurd cc
 
 found_body : (limit : ℕ) (name : List ℕ) (there : Option (List ℕ)) (body : List ℕ) → Ok body ≡ further limit name there → there ≡ Some body
 found_body limit name None body e = absurd cc

@@ -26,7 +26,7 @@ use Rattle.gateway.specs.Windowed.{HasWindow}
 use Rattle.gateway.specs.Words.{ToGtfsrt}
 use Rattle.gateway.specs.Readings.{reading, reading_of, moment_in}
 use Rattle.gateway.specs.declared.item.Aside.{Aside}
-use Rattle.gateway.specs.declared.item.Aside.TheVariants.{NotYet, OutOfWindow}
+use Rattle.gateway.specs.declared.item.Aside.TheVariants.{NotYet, OutOfWindow, NotRunning}
 use Rattle.gateway.specs.declared.item.Cancelled.{Cancelled}
 use Rattle.gateway.proofs.FormLemmas.{cond_then}
 use Rattle.gateway.proofs.JourneyLemmas.{utc_of-IsMoment}
@@ -37,6 +37,7 @@ pub record IsReadable (setting : Setting) (journey : Cancelled) : Type 0 where
   pub trip : position (bytes_eq (id_of setting.table.trips journey.trip.0)) setting.table.trips ≡ Some journey.trip.0
   pub day : IsDay journey.day
   pub within : in_window setting journey.day ≡ true
+  pub runs : setting.table.runs journey.trip.0 journey.day ≡ true
   pub moment : IsMoment journey.recorded
 
 moment_is : (moment : ℤ) → IsMoment moment → moment_in (Some (unsigned_abs moment)) ≡ Some moment
@@ -50,7 +51,7 @@ moment_is (negsuc n) h = let first = h.0 in absurd (omega (arith, ints))
 read_one : (at : ℤ) (setting : Setting) (all : List Cancelled) (journey : Cancelled) → IsReadable setting journey
     → reading setting (feed_of at setting.table.trips all) (message_of setting.table.trips journey) ≡ Some (reading_of journey)
 read_one at setting all journey h =
-    rw (h.trip, compact_day-compact_text journey.day h.day, h.within, moment_is journey.recorded h.moment) refl
+    rw (h.trip, compact_day-compact_text journey.day h.day, h.within, h.runs, moment_is journey.recorded h.moment) refl
 
 pub read_all : (at : ℤ) (setting : Setting) (all journeys : List Cancelled) → AllByRecursion (IsReadable setting) journeys
     → map (reading setting (feed_of at setting.table.trips all)) (map (message_of setting.table.trips) journeys) ≡ map (λ journey. Some (reading_of journey)) journeys
@@ -107,9 +108,15 @@ dated_readable setting said None journey w m found e = absurd (cc)
 dated_readable setting said (Some trip) journey w m found e = by (in_window setting said.day) refl e
   where
     by : (b : Bool) → in_window setting said.day ≡ b
-        → ◌≡◌ {A = Result Cancelled Aside} (if b then Ok (record { day = said.day; trip = record { 0 = trip }; recorded = said.recorded }) else Err OutOfWindow) (Ok journey) → IsReadable setting journey
-    by true within e =
-        subst (IsReadable setting) (same_Ok _ _ e) (record { trip = same_id setting.table.trips said.trip_id trip found; day = in_days setting said.day w within; within = within; moment = m })
+        → ◌≡◌ {A = Result Cancelled Aside} (if b then (if setting.table.runs trip said.day then Ok (record { day = said.day; trip = record { 0 = trip }; recorded = said.recorded }) else Err NotRunning) else Err OutOfWindow) (Ok journey)
+        → IsReadable setting journey
+    by true within e = running (setting.table.runs trip said.day) refl e
+      where
+        running : (b : Bool) → setting.table.runs trip said.day ≡ b
+            → ◌≡◌ {A = Result Cancelled Aside} (if b then Ok (record { day = said.day; trip = record { 0 = trip }; recorded = said.recorded }) else Err NotRunning) (Ok journey) → IsReadable setting journey
+        running true runs e =
+            subst (IsReadable setting) (same_Ok _ _ e) (record { trip = same_id setting.table.trips said.trip_id trip found; day = in_days setting said.day w within; within = within; runs = runs; moment = m })
+        running false runs e = absurd (cc)
     by false within e = absurd (cc)
 
 judged_readable : (setting : Setting) (found : Option Spelt) (journey : Cancelled) → IsWindowed setting → ((s : Spelt) → found ≡ Some s → IsMoment s.recorded)

@@ -11,7 +11,7 @@ use Rattle.service_day.specs.Utc.{utc_of}
 use Rattle.service_day.specs.Windows.{start_in}
 use Rattle.service_day.specs.declared.days.DayForm.TheVariants.{Dashed}
 use Rattle.gateway.specs.declared.item.Aside.{Aside}
-use Rattle.gateway.specs.declared.item.Aside.TheVariants.{NotYet, UnknownJourney, OutOfWindow}
+use Rattle.gateway.specs.declared.item.Aside.TheVariants.{NotYet, UnknownJourney, OutOfWindow, NotRunning}
 use Rattle.gateway.specs.declared.item.Cancelled.{Cancelled}
 use Rattle.gateway.specs.declared.setting.Setting.{Setting}
 
@@ -60,12 +60,14 @@ spelt item =
 abbrev pub in_window : Setting → ℤ → Bool
 in_window setting day = is_some (start_in setting.window day)
 
--- a trip's journey on a day, if there is the trip and the day is in the window
+-- a trip's journey on a day, if there is the trip, the day is in the window and the trip runs on it
 abbrev pub dated : Setting → Spelt → Option ℕ → Result Cancelled Aside
 dated setting journey None = Err UnknownJourney
 dated setting journey (Some trip) =
     if in_window setting journey.day
+    then (if setting.table.runs trip journey.day
     then Ok (record { day = journey.day; trip = record { 0 = trip }; recorded = journey.recorded })
+    else Err NotRunning)
     else Err OutOfWindow
 
 -- what an item is by what it spells

@@ -1,5 +1,6 @@
 pub mod Exits
 pub mod Feeds
+pub mod FolderTexts
 pub mod Forms
 pub mod Frame
 pub mod Items

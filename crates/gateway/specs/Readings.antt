@@ -37,12 +37,14 @@ abbrev pub day_in : Setting → TripDescriptor → Option ℤ
 day_in setting trip =
     option_and_then (λ day. if in_window setting day then Some day else None) (option_and_then (day_of Compact) trip.start_date)
 
--- what an update says of a trip that is cancelled: its schedule_relationship is 3, CANCELED
+-- what an update says of a trip that is cancelled: its schedule_relationship is 3, CANCELED, and the trip runs on the day
 abbrev pub cancelled_in : Setting → Feed → TripUpdate → Option Reading
 cancelled_in setting feed update =
     if int_eq update.trip.relation (pos 3)
-    then option_and_then (λ trip. option_map (λ day. record { day = day; trip = trip; recorded = recorded_in (moment_in update.timestamp) (moment_in feed.timestamp) })
-    (day_in setting update.trip)) (trip_in setting update.trip)
+    then option_and_then (λ trip. option_and_then (λ day.
+    if setting.table.runs trip day
+    then Some (record { day = day; trip = trip; recorded = recorded_in (moment_in update.timestamp) (moment_in feed.timestamp) })
+    else None) (day_in setting update.trip)) (trip_in setting update.trip)
     else None
 
 -- what an entity says: nothing where it is to be deleted or has no update

@@ -3,13 +3,14 @@ use Rattle.std.specs.Prelude.{ℕ, List, ◌++◌, codes, length, decimal}
 use Rattle.std.specs.List.{flat_map}
 use Rattle.gateway.specs.Journeys.{taken}
 use Rattle.gateway.specs.declared.item.Aside.{Aside}
-use Rattle.gateway.specs.declared.item.Aside.TheVariants.{NotYet, UnknownJourney, OutOfWindow}
+use Rattle.gateway.specs.declared.item.Aside.TheVariants.{NotYet, UnknownJourney, OutOfWindow, NotRunning}
 use Rattle.gateway.specs.declared.item.Cancelled.{Cancelled}
 
 abbrev pub aside_text : Aside → List ℕ
 aside_text NotYet = codes "NotYet"
 aside_text UnknownJourney = codes "UnknownJourney"
 aside_text OutOfWindow = codes "OutOfWindow"
+aside_text NotRunning = codes "NotRunning"
 
 -- `FILE aside I FAULT`
 abbrev pub aside_line : List ℕ → ℕ × Aside → List ℕ

@@ -8,10 +8,10 @@ use Rattle.service_day.specs.Windows.{DayStarts, IsWindow}
 use Rattle.service_day.specs.Zones.{IsRuleZone, IsBadRule}
 use Rattle.service_day.specs.declared.zones.Rules.{Rules}
 use Rattle.stop_schedule.specs.Table.{Table}
-use Rattle.stop_schedule.specs.Timetable.{timetable, path_of, file_name}
+use Rattle.stop_schedule.specs.Timetable.{timetable}
 use Rattle.stop_schedule.specs.declared.table_fault.TableFault.{TableFault}
-use Rattle.stop_schedule.specs.declared.table_fault.TableFault.TheVariants as fault
 use Rattle.gateway.specs.Exits.{missing}
+use Rattle.gateway.specs.FolderTexts.{folder_end}
 use Rattle.gateway.specs.Feeds.{IsFeed}
 use Rattle.gateway.specs.Frame.{journeys_of}
 use Rattle.gateway.specs.Items.{sorted}
@@ -19,7 +19,7 @@ use Rattle.gateway.specs.Reports.{report_text}
 use Rattle.gateway.specs.Words.{ToGtfsrt}
 use Rattle.gateway.specs.declared.delivery.Delivery.{Delivery}
 use Rattle.gateway.specs.declared.exit.Exit.{Exit}
-use Rattle.gateway.specs.declared.exit.Exit.TheVariants.{Refused, Failed, Memory}
+use Rattle.gateway.specs.declared.exit.Exit.TheVariants.{Refused}
 use Rattle.gateway.specs.declared.work.Done.{Done}
 use Rattle.gateway.specs.declared.setting.Setting.{Setting}
 
@@ -30,10 +30,7 @@ Directory = List (List ℕ × List ℕ)
 -- the timetable of a folder, or the end that its fault is
 abbrev pub folder : List ℕ → Result Table TableFault → Result Table Exit
 folder dir (Ok table) = Ok table
-folder dir (Err (fault.Missing file)) = Err (missing (path_of dir file))
-folder dir (Err (fault.BadTable file)) = Err (Refused (codes "BadTable " ++ file_name file))
-folder dir (Err (fault.Failed file)) = Err Failed
-folder dir (Err fault.Memory) = Err Memory
+folder dir (Err fault) = Err (folder_end dir fault)
 
 abbrev pub Folder : List ℕ → Directory → Result Table Exit → Type 0
 Folder dir files answer = answer ≡ folder dir (timetable files dir)

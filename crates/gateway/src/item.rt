@@ -30,6 +30,8 @@ pub enum Aside {
     UnknownJourney,
     /// Its day isn't in the window.
     OutOfWindow,
+    /// Its trip doesn't run on its day.
+    NotRunning,
 }
 
 // A cancelled journey as it is spelled: its moment, its day and its trip's id.
@@ -112,6 +114,9 @@ pub fn verdict(item: &Value, setting: &Setting) -> Result<Cancelled, Aside>
     };
     if setting.window.start_of(spelled.day).is_none() {
         return Err(Aside::OutOfWindow);
+    }
+    if !setting.table.runs(trip, spelled.day) {
+        return Err(Aside::NotRunning);
     }
     Ok(Cancelled {
         day: spelled.day,

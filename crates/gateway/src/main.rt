@@ -7,6 +7,7 @@ mod delivery;
 mod devices;
 mod exit;
 mod feed;
+mod folder_end;
 mod frame;
 mod item;
 mod report;

@@ -16,6 +16,7 @@ fn aside_text(aside: Aside) -> &'static str
         Aside::NotYet => "NotYet",
         Aside::UnknownJourney => "UnknownJourney",
         Aside::OutOfWindow => "OutOfWindow",
+        Aside::NotRunning => "NotRunning",
     }
 }
 

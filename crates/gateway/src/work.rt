@@ -11,13 +11,14 @@ ghost use Rattle.gateway.specs.Works.{command_of, rule_of};
 use crate::delivery::{Delivery, DeliveryFault, read_delivery};
 use crate::exit::Exit;
 use crate::feed::feed_bytes;
+use crate::folder_end::folder_end;
 use crate::report::report;
 use crate::setting::Setting;
 use crate::words::{Work, ZoneWord};
 use gw_base::{Bytes, FileFault, Files, Got, Moment, Text};
 use service_day::{Day, Window, Zone, ZoneFault};
 use std::alloc::{AllocError, Global};
-use stop_schedule::{TableFault, Timetable, read_timetable};
+use stop_schedule::{Timetable, read_timetable};
 
 /// What a command writes.
 #[derive(Debug, Drop)]
@@ -49,25 +50,6 @@ fn joined(alloc: Global, first: &str, second: &str) -> Result<Text, AllocError>
     Ok(text)
 }
 
-// The end that a fault of the folder is.
-fn folder_end(alloc: Global, dir: &str, fault: &TableFault) -> Result<Exit, AllocError>
-    ensures { IfOk result (λ end. Err end ≡ steps.folder dir.now (Err fault.now)) }
-{
-    match fault {
-        TableFault::Missing(file) => {
-            let mut path = joined(alloc, "Missing ", dir)?;
-            path.push("/")?;
-            path.push(file.name())?;
-            Ok(Exit::Missing(path))
-        }
-        TableFault::BadTable(file) => {
-            Ok(Exit::Refused(joined(alloc, "BadTable ", file.name())?))
-        }
-        TableFault::Failed(_) => Ok(Exit::Failed),
-        TableFault::Memory => Ok(Exit::Memory),
-    }
-}
-
 // The timetable of a folder.
 fn folder<F: Files>(alloc: Global, files: &mut F, dir: &str) -> Result<Timetable, Exit>
     ensures told { IfSome (F.told files.old) (λ told. UnlessFree is_free result (steps.Folder dir.now told)) }
@@ -76,7 +58,7 @@ fn folder<F: Files>(alloc: Global, files: &mut F, dir: &str) -> Result<Timetable
 {
     match read_timetable(alloc, files, dir) {
         Ok(table) => Ok(table),
-        Err(fault) => Err(folder_end(alloc, dir, &fault)?),
+        Err(fault) => Err(folder_end(alloc, dir, fault)?),
     }
 }
 

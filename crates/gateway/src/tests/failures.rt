@@ -6,7 +6,7 @@ use std::process::Abort;
 const FAILED: &str = "gateway: failed\n";
 
 // The number of the read of the delivery, which comes behind those of the folder.
-const DELIVERY: u64 = 2;
+const DELIVERY: u64 = 9;
 
 // Reads that fail, each list with what the run leaves.
 static READS: [(&str, &[u64], u8, &[u8], &str); 5] = [

@@ -23,7 +23,7 @@ static REFERENCE: [Member; 2] = [
 ];
 
 // Members that set an item aside, each with its fault.
-static BAD: [(Member, &str); 42] = [
+static BAD: [(Member, &str); 43] = [
     (("RecordedAtTime", ""), "NotYet"),
     (("RecordedAtTime", "null"), "NotYet"),
     (("RecordedAtTime", "1714543200"), "NotYet"),
@@ -60,6 +60,7 @@ static BAD: [(Member, &str); 42] = [
     (("DatedVehicleJourneyRef", "'NOPE'"), "UnknownJourney"),
     (("DatedVehicleJourneyRef", "'t1'"), "UnknownJourney"),
     (("DatedVehicleJourneyRef", "' T1'"), "UnknownJourney"),
+    (("DatedVehicleJourneyRef", "'N1'"), "NotRunning"),
     (("Cancellation", ""), "NotYet"),
     (("Cancellation", "false"), "NotYet"),
     (("Cancellation", "null"), "NotYet"),
@@ -72,11 +73,16 @@ static BAD: [(Member, &str); 42] = [
 ];
 
 // Two such members in one item, with the fault that counts.
-static BOTH: [(Member, Member, &str); 6] = [
+static BOTH: [(Member, Member, &str); 7] = [
     (
         ("DataFrameRef", "'2024-05-03'"),
         ("DatedVehicleJourneyRef", "'NOPE'"),
         "UnknownJourney",
+    ),
+    (
+        ("DataFrameRef", "'2024-05-03'"),
+        ("DatedVehicleJourneyRef", "'N1'"),
+        "OutOfWindow",
     ),
     (
         ("RecordedAtTime", "7"),

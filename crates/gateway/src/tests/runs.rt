@@ -16,7 +16,7 @@ pub static SAMPLE: [(&str, &[u8]); 8] = [
     ("g/routes.txt", b"route_id,route_type\nR1,3\nR2,3\n"),
     (
         "g/trips.txt",
-        b"route_id,service_id,trip_id\nR1,D,T1\nR1,D,L1\nR1,D,T2\n",
+        b"route_id,service_id,trip_id\nR1,D,T1\nR1,D,L1\nR1,D,T2\nR1,N,N1\n",
     ),
     (
         "g/calendar.txt",
