@@ -3,3 +3,4 @@ mod FieldLengths
 mod Finding
 mod HeaderLemmas
 mod OneMeaning
+mod SizeLemmas

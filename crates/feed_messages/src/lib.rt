@@ -7,6 +7,7 @@ mod header;
 mod laws;
 mod plain;
 mod plain_fault;
+mod writing;
 #[cfg(test)]
 mod tests;
 
