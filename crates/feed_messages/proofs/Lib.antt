@@ -3,4 +3,6 @@ mod FieldLengths
 mod Finding
 mod HeaderLemmas
 mod OneMeaning
+pub mod Meant
+pub mod Parts
 mod SizeLemmas

@@ -97,3 +97,7 @@ feed_header timestamp = bytes_field 1 (codes "2.0") ++ varint_field 2 0 ++ varin
 -- the header of that moment as the first field of its feed
 abbrev pub header : ℤ → List ℕ
 header moment = bytes_field 1 (feed_header (unsigned_abs moment))
+
+-- a feed of these entities that is made at that moment
+abbrev pub written_feed : ℤ → List Entity → List ℕ
+written_feed moment entities = header moment ++ flat_map written entities
