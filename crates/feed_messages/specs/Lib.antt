@@ -1,4 +1,6 @@
 pub mod Cancelled
+pub mod Faults
+pub mod Known
 pub mod Meaning
 pub mod Plain
 pub mod Sizes

@@ -3,6 +3,7 @@
 #![tactic(auto)]
 
 mod cancelled;
+mod fault;
 mod header;
 mod laws;
 mod plain;
@@ -12,6 +13,7 @@ mod writing;
 mod tests;
 
 pub use cancelled::cancelled_bytes;
+pub use fault::FeedFault;
 pub use header::{HeaderBytes, header_bytes};
 pub use laws::{a_written_feed_is_meant, an_entity_is_added, the_feed_is_one};
 pub use plain::plain_feed;
