@@ -1,4 +1,5 @@
 pub mod Building
+pub mod FaultOrder
 mod FieldLengths
 mod Finding
 mod HeaderLemmas
@@ -6,3 +7,4 @@ mod OneMeaning
 pub mod Meant
 pub mod Parts
 mod SizeLemmas
+pub mod Walking

@@ -40,22 +40,25 @@ Inside number Message inner = (outer : Piece) × Message outer × Stands outer n
 abbrev pub Only : Piece → Piece → Type 0
 Only piece other = other ≡ piece
 
+-- one of the pieces has the fault
+abbrev pub InSome : (Piece → Type 0) → (Piece → FeedFault → Type 0) → FeedFault → Type 0
+InSome Message Has fault = (piece : Piece) × Message piece × Has piece fault
+
 -- a piece breaks at this place
-abbrev pub IsTorn : (Piece → Type 0) → FeedFault → Type 0
-IsTorn Message (faults.Wire fault) =
-    (piece : Piece) × (at : ℕ) × Message piece × IsBroken piece.bytes at fault.kind × (fault.at ≡ piece.start + at)
-IsTorn Message (faults.EntityTooLong at) = ⊥
-IsTorn Message (faults.NotText at) = ⊥
-IsTorn Message (faults.MissingField at name) = ⊥
-IsTorn Message faults.Memory = ⊥
+abbrev pub IsTorn : Piece → FeedFault → Type 0
+IsTorn piece (faults.Wire fault) = (at : ℕ) × IsBroken piece.bytes at fault.kind × (fault.at ≡ piece.start + at)
+IsTorn piece (faults.EntityTooLong at) = ⊥
+IsTorn piece (faults.NotText at) = ⊥
+IsTorn piece (faults.MissingField at name) = ⊥
+IsTorn piece faults.Memory = ⊥
 
 -- a text isn't UTF-8: told at its tag
-abbrev pub IsNotText : (Piece → Type 0) → FeedFault → Type 0
-IsNotText Texts (faults.NotText at) = (piece : Piece) × Texts piece × (at ≡ piece.tag) × ¬ IsUtf8 piece.bytes
-IsNotText Texts (faults.EntityTooLong at) = ⊥
-IsNotText Texts (faults.Wire fault) = ⊥
-IsNotText Texts (faults.MissingField at name) = ⊥
-IsNotText Texts faults.Memory = ⊥
+abbrev pub IsNotText : Piece → FeedFault → Type 0
+IsNotText piece (faults.NotText at) = (at ≡ piece.tag) × ¬ IsUtf8 piece.bytes
+IsNotText piece (faults.EntityTooLong at) = ⊥
+IsNotText piece (faults.Wire fault) = ⊥
+IsNotText piece (faults.MissingField at name) = ⊥
+IsNotText piece faults.Memory = ⊥
 
 -- a piece is a list of fields, and has none with bytes of this number
 abbrev pub Lacks : ℕ → Piece → Type 0
@@ -91,14 +94,16 @@ IsMissing number (Some name) Message end faults.Memory = ⊥
 abbrev pub HasFaultIn : Known → (Piece → Type 0) → ℕ → FeedFault → Type 0
 HasFaultIn Nothing Message end fault = ⊥
 HasFaultIn (WithText number name others) Message end fault =
-    (IsNotText (Inside number Message) fault ⊎ IsMissing number name Message end fault) ⊎ HasFaultIn others Message end fault
+    (InSome (Inside number Message) IsNotText fault ⊎ IsMissing number name Message end fault)
+    ⊎ HasFaultIn others Message end fault
 -- of a message, all pieces together
 HasFaultIn (WithMessage number name inner others) Message end fault =
-    ((IsTorn (Inside number Message) fault ⊎ HasFaultIn inner (Inside number Message) end fault) ⊎ IsMissing number name Message end fault)
+    ((InSome (Inside number Message) IsTorn fault ⊎ HasFaultIn inner (Inside number Message) end fault)
+        ⊎ IsMissing number name Message end fault)
     ⊎ HasFaultIn others Message end fault
 -- of messages that repeat, each piece by itself
 HasFaultIn (WithMessages number inner others) Message end fault =
-    ((piece : Piece) × Inside number Message piece × (IsTorn (Only piece) fault ⊎ HasFaultIn inner (Only piece) end fault))
+    InSome (Inside number Message) (λ piece fault. IsTorn piece fault ⊎ HasFaultIn inner (Only piece) end fault) fault
     ⊎ HasFaultIn others Message end fault
 
 -- an entity's stated length is over the limit, whether its bytes are there or not: behind a list of fields stand the tag
@@ -128,7 +133,7 @@ IsTooLong bytes faults.Memory = ⊥
 abbrev pub HasFault : List ℕ → FeedFault → Type 0
 HasFault bytes fault =
     IsTooLong bytes fault
-    ⊎ (IsTorn (Only (whole bytes)) fault ⊎ HasFaultIn feed_known (Only (whole bytes)) (length bytes) fault)
+    ⊎ (IsTorn (whole bytes) fault ⊎ HasFaultIn feed_known (Only (whole bytes)) (length bytes) fault)
 
 -- faults in order: by their places, and at one place by their kinds
 abbrev pub order : FeedFault → ℕ

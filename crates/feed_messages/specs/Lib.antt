@@ -1,5 +1,6 @@
 pub mod Cancelled
 pub mod Faults
+pub mod Found
 pub mod Known
 pub mod Meaning
 pub mod Plain
