@@ -3,8 +3,14 @@ pub mod FaultOrder
 mod FieldLengths
 mod Finding
 mod HeaderLemmas
+pub mod MessageFaults
+pub mod MissingFields
 mod OneMeaning
+pub mod LongEntities
 pub mod Meant
 pub mod Parts
+pub mod PieceSets
+pub mod PieceWalks
 mod SizeLemmas
 pub mod Walking
+pub mod WholePieces

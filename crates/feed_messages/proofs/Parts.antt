@@ -151,7 +151,7 @@ builds_translations number (text ∷ texts) first last = builds_body number (tra
 
 -- ---- no body is longer than the message
 
-short_body : (n : ℕ) (number : ℕ) (payload : Payload) (spelling : List ℕ) → IsSpelling 64 (record { number = number; payload = payload }) spelling → length spelling ≤ n → IfSome (body_in payload) (λ body. length body ≤ n)
+pub short_body : (n : ℕ) (number : ℕ) (payload : Payload) (spelling : List ℕ) → IsSpelling 64 (record { number = number; payload = payload }) spelling → length spelling ≤ n → IfSome (body_in payload) (λ body. length body ≤ n)
 short_body n number (Varint value) spelling h le = tt
 short_body n number (Fixed64 value) spelling h le = tt
 short_body n number (Bytes body) spelling h le =

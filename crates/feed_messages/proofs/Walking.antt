@@ -9,16 +9,12 @@ use Rattle.wire_fields.proofs.Lists.{stops_at_end}
 use Rattle.wire_fields.proofs.Spellings.{fields_apart}
 use Rattle.wire_fields.proofs.Broken.{broken_once}
 use Rattle.feed_messages.specs.Faults.{Piece, Stands, IsLongAt}
+use Rattle.feed_messages.specs.Found.{IsLongHere}
+use Rattle.feed_messages.specs.Pieces.{IsHere}
 
 -- a piece whose bytes begin here
 abbrev pub from : ℕ → ℕ → List ℕ → Piece
 from tag start bytes = record { tag = tag; start = start; bytes = bytes }
-
--- the field at the front is this piece
-pub record IsHere (field : WireField) (start len number : ℕ) (inner : Piece) : Type 0 where
-  pub is : record { number = number; payload = Bytes inner.bytes } ≡ field
-  pub tag : inner.tag ≡ start
-  pub start_is : inner.start + length inner.bytes ≡ start + len
 
 behind_first : (first others rest a b : List ℕ) (x y : WireField) → IsSpelling 64 x first → IsSpelling 64 y a → a ++ b ≡ (first ++ others) ++ rest → (b ≡ others ++ rest) × (length first ≡ length a)
 behind_first first others rest a b x y h k e =
@@ -27,10 +23,10 @@ behind_first first others rest a b x y h k e =
 
 -- what stands in a piece is its first field, or stands behind it
 stands_by : (tag start : ℕ) (a b : List ℕ) (field : WireField) (number : ℕ) (inner : Piece) (fields : List WireField) → IsSpelling 64 field a → (h : Stands (from tag start (a ++ b)) number inner) → AreFields h.front fields
-    → IsHere field start (length a) number inner ⊎ Stands (from tag (start + length a) b) number inner
+    → IsHere field start (start + length a) number inner ⊎ Stands (from tag (start + length a) b) number inner
 stands_by tag start a b field number inner [] spelled h read =
     let e : a ++ b ≡ h.spelling ++ h.rest = h.joined ∙ ap (λ (l : List ℕ). l ++ (h.spelling ++ h.rest)) read in
-    let s = (fields_apart 64).same _ field h.spelling a h.rest b h.spelled spelled (sym e) in
+    let s : (record { number = number; payload = Bytes inner.bytes } ≡ field) × (h.rest ≡ b) = (fields_apart 64).same _ field h.spelling a h.rest b h.spelled spelled (sym e) in
     let len : length h.spelling ≡ length a = omega (arith, ap length e, ap length s.1, length-append a b, length-append h.spelling h.rest) in
     let none : length h.front ≡ 0 = ap length read in
     inl (record { is = s.0; tag = omega (arith, h.tag); start_is = omega (arith, h.start, h.tag) })
@@ -50,7 +46,7 @@ stands_by tag start a b field number inner (x ∷ fields) spelled h read =
     })
 
 pub stands_on : (tag start : ℕ) (a b : List ℕ) (field : WireField) (number : ℕ) (inner : Piece) → IsSpelling 64 field a → Stands (from tag start (a ++ b)) number inner
-    → IsHere field start (length a) number inner ⊎ Stands (from tag (start + length a) b) number inner
+    → IsHere field start (start + length a) number inner ⊎ Stands (from tag (start + length a) b) number inner
 stands_on tag start a b field number inner spelled h = stands_by tag start a b field number inner h.fields spelled h h.read
 
 pub stands_later : (tag start : ℕ) (a b : List ℕ) (field : WireField) (number : ℕ) (inner : Piece) → IsSpelling 64 field a → Stands (from tag (start + length a) b) number inner → Stands (from tag start (a ++ b)) number inner
@@ -66,7 +62,7 @@ stands_later tag start a b field number inner spelled h = record {
   start = h.start;
 }
 
-pub stands_here : (tag start : ℕ) (a b : List ℕ) (field : WireField) (number : ℕ) (inner : Piece) → IsSpelling 64 field a → IsHere field start (length a) number inner → Stands (from tag start (a ++ b)) number inner
+pub stands_here : (tag start : ℕ) (a b : List ℕ) (field : WireField) (number : ℕ) (inner : Piece) → IsSpelling 64 field a → IsHere field start (start + length a) number inner → Stands (from tag start (a ++ b)) number inner
 stands_here tag start a b field number inner spelled h = record {
   front = [];
   spelling = a;
@@ -139,17 +135,6 @@ broken_here bytes kind some h = record {
 }
 
 -- ---- where an entity is too long
-
--- the tag of an entity and too great a length stand at the front
-pub record IsLongHere (bytes : List ℕ) : Type 0 where
-  pub tag : List ℕ
-  pub size : List ℕ
-  pub rest : List ℕ
-  pub joined : bytes ≡ tag ++ (size ++ rest)
-  pub tagged : IsVarint tag 18
-  pub len : ℕ
-  pub sized : IsVarint size len
-  pub long : 1048576 < len
 
 pub long_here : (bytes : List ℕ) → IsLongHere bytes → IsLongAt bytes 0
 long_here bytes h = record {

@@ -3,6 +3,7 @@ pub mod Faults
 pub mod Found
 pub mod Known
 pub mod Meaning
+pub mod Pieces
 pub mod Plain
 pub mod Sizes
 pub mod Sound

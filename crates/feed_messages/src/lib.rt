@@ -4,6 +4,7 @@
 
 mod cancelled;
 mod fault;
+mod finder;
 mod header;
 mod laws;
 mod plain;

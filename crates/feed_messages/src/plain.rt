@@ -6,7 +6,7 @@ ghost use Rattle.feed_messages.specs.Tables.{MeansFeed};
 
 mod kinds;
 mod nested;
-mod tables;
+pub mod tables;
 
 use crate::plain_fault::PlainFault;
 use gw_base::Feed;
