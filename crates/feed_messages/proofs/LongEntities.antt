@@ -1,8 +1,9 @@
 -- Where an entity is too long.
-use Rattle.std.proofs.Common.{◌≡◌, ℕ, ◌+◌, ◌*◌, ◌<◌, ◌≤◌, List, [], ◌∷◌, ◌++◌, length, Ok, refl, sym, ap, subst, ◌∙◌, inl, inr, arith}
-use Rattle.std.specs.Prelude.{◌⊎◌, Option, Some, None}
+use Rattle.std.proofs.Common.{◌≡◌, ℕ, ◌+◌, ◌*◌, ◌<◌, ◌≤◌, Bool, true, false, List, [], ◌∷◌, ◌++◌, length, Ok, refl, sym, ap, subst, ◌∙◌, inl, inr, arith}
+use Rattle.std.specs.Prelude.{◌⊎◌, Option, Some, None, nat_lt, MatchBool}
 use Rattle.wire_fields.specs.Grammar.{WireField, IsVarint, BeginsNumber}
 use Rattle.wire_fields.specs.Breaks.{BeginsNone}
+use Rattle.std.proofs.lemmas.Bool.{ltb-true, ltb-false}
 use Rattle.wire_fields.specs.Reading.{varint_at}
 use Rattle.wire_fields.proofs.Numbers.{ok_is, varint_again}
 use Rattle.feed_messages.specs.declared.fault.FeedFault.{FeedFault}
@@ -110,3 +111,11 @@ none_long bytes rest h none Memory l = l
 
 pub long_nowhere : (bytes : List ℕ) (rest : Piece) → LongIn bytes rest → BeginsNone rest.bytes.now → IsLeast (IsTooLong bytes) None
 long_nowhere bytes rest h none = none_long bytes rest h none
+
+-- a test of an order, with what each answer says
+match_by : (a b : ℕ) (P Q : Type 0) (t : Bool) → nat_lt a b ≡ t → (a < b → P) → (b ≤ a → Q) → MatchBool t P Q
+match_by a b P Q true e less more = less (ltb-true a b e)
+match_by a b P Q false e less more = more (ltb-false a b e)
+
+pub match_lt : (a b : ℕ) (P Q : Type 0) → (a < b → P) → (b ≤ a → Q) → MatchBool (nat_lt a b) P Q
+match_lt a b P Q less more = match_by a b P Q (nat_lt a b) refl less more

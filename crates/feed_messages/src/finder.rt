@@ -13,7 +13,7 @@ mod tables;
 use crate::fault::FeedFault;
 use gw_base::Feed;
 use lengths::too_long;
-use messages::message_faults;
+use messages::piece_faults;
 use order::earlier;
 use piece::Piece;
 use std::alloc::{AllocError, Global};
@@ -27,7 +27,6 @@ pub fn first_fault(alloc: Global, bytes: &[u8]) -> Result<Option<FeedFault>, All
         start: 0,
         bytes,
     };
-    let pieces = std::slice::from_ref(&whole);
-    let message = message_faults::<Feed>(alloc, pieces, bytes.len() as u64)?;
+    let message = piece_faults::<Feed>(alloc, &whole, bytes.len() as u64)?;
     Ok(earlier(too_long(bytes), message))
 }

@@ -3,7 +3,7 @@ ghost use Rattle.std.specs.Prelude.{◌≡◌, ℕ, IfOk, ◌⊎◌};
 ghost use Rattle.gw_base.specs.declared.required.Required.{Required};
 ghost use Rattle.feed_messages.specs.declared.fault.FeedFault.{FeedFault};
 ghost use Rattle.feed_messages.specs.Faults.{Inside, Only, InSome, IsTorn, IsNotText, IsMissing, HasFaultIn, IsLeast};
-ghost use Rattle.feed_messages.specs.Pieces.{Listed, InText, InMessage, InEach, InRequired};
+ghost use Rattle.feed_messages.specs.Pieces.{piece_of, Listed, InText, InMessage, InEach, InRequired};
 
 use crate::fault::FeedFault;
 use crate::finder::order::earlier;
@@ -76,6 +76,19 @@ pub fn once_faults<K: KnownMessage>(
     Ok(earlier(inner, missing(pieces, number, name, end)))
 }
 
+// The first fault of a message of one piece.
+pub fn piece_faults<K: KnownMessage>(
+    alloc: Global,
+    piece: &Piece<'_>,
+    end: u64,
+) -> Result<Option<FeedFault>, AllocError>
+    ensures { IfOk result (λ found. IsLeast (InEach K.known end (piece_of piece.now)) found) }
+{
+    let one = std::slice::from_ref(piece);
+    let found = message_faults::<K>(alloc, one, end)?;
+    Ok(found)
+}
+
 // The first fault of these pieces, of which each is a message.
 fn faults_of_each<K: KnownMessage>(
     alloc: Global,
@@ -86,8 +99,7 @@ fn faults_of_each<K: KnownMessage>(
 {
     let mut found = None;
     for piece in inner {
-        let one = std::slice::from_ref(piece);
-        found = earlier(found, message_faults::<K>(alloc, one, end)?);
+        found = earlier(found, piece_faults::<K>(alloc, piece, end)?);
     }
     Ok(found)
 }

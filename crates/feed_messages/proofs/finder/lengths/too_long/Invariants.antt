@@ -3,8 +3,8 @@ use Rattle.feed_messages.proofs.LongEntities.{LongIn}
 use Rattle.feed_messages.proofs.finder.lengths.too_long.Given as goal
 
 -- what is too long stands in the rest, and not at its front
-abbrev pub invariant-loop-after : goal.invariant-loop-after
-invariant-loop-after l = LongIn l.bytes l.rest
+abbrev pub invariant-loop-field : goal.invariant-loop-field
+invariant-loop-field l = LongIn l.bytes l.rest
 
-abbrev pub decreases-loop-after : goal.decreases-loop-after
-decreases-loop-after l = length l.rest.bytes.now
+abbrev pub decreases-loop-field : goal.decreases-loop-field
+decreases-loop-field l = length l.rest.bytes.now
