@@ -1,4 +1,5 @@
 pub mod Building
+pub mod FaultLaw
 pub mod FaultOrder
 mod FieldLengths
 mod Finding
@@ -13,4 +14,5 @@ pub mod PieceSets
 pub mod PieceWalks
 mod SizeLemmas
 pub mod Walking
+pub mod WholeMessages
 pub mod WholePieces

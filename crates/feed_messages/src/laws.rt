@@ -7,6 +7,8 @@ ghost use Rattle.gw_base.specs.declared.messages.Entity.{Entity};
 ghost use Rattle.gw_base.specs.declared.messages.Feed.{Feed};
 ghost use Rattle.feed_messages.specs.Tables.{MeansFeed, MeansEntity, with_entity, full_dataset};
 ghost use Rattle.feed_messages.specs.Written.{written, written_feed};
+ghost use Rattle.feed_messages.specs.declared.fault.FeedFault.{FeedFault};
+ghost use Rattle.feed_messages.specs.Faults.{HasFault, IsLongAt};
 
 /// Bytes mean at most one feed.
 pub fn the_feed_is_one()
@@ -23,4 +25,10 @@ pub fn an_entity_is_added()
 pub fn a_written_feed_is_meant()
     ensures { (moment : ℤ) (entities : List Entity) → IsMoment moment → AllByRecursion (λ entity. MeansEntity (written entity) entity) entities
         → MeansFeed (written_feed moment entities) (full_dataset moment entities) }
+{}
+
+/// Bytes have no fault exactly where they mean some feed and no entity is too long.
+pub fn no_fault_where_a_feed_is_meant()
+    ensures meant { (bytes : List ℕ) → ((fault : FeedFault) → ¬ HasFault bytes fault) → ((feed : Feed) × MeansFeed bytes feed) × ((at : ℕ) → ¬ IsLongAt bytes at) }
+    ensures no_fault { (bytes : List ℕ) (feed : Feed) → MeansFeed bytes feed → ((at : ℕ) → ¬ IsLongAt bytes at) → (fault : FeedFault) → ¬ HasFault bytes fault }
 {}
