@@ -13,6 +13,7 @@ pub mod Parts
 pub mod PieceSets
 pub mod PieceWalks
 mod SizeLemmas
+pub mod Told
 pub mod Walking
 pub mod WholeMessages
 pub mod WholePieces

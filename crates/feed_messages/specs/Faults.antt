@@ -151,3 +151,11 @@ IsLeast Has (Some fault) = Has fault × ((other : FeedFault) → Has other → o
 -- the fault that is told
 abbrev pub IsFeedFault : List ℕ → FeedFault → Type 0
 IsFeedFault bytes fault = IsLeast (HasFault bytes) (Some fault)
+
+-- what a reader answers in place of a feed: the fault, or that memory ran out
+abbrev pub IsTold : List ℕ → FeedFault → Type 0
+IsTold bytes (faults.EntityTooLong at) = IsFeedFault bytes (faults.EntityTooLong at)
+IsTold bytes (faults.Wire fault) = IsFeedFault bytes (faults.Wire fault)
+IsTold bytes (faults.NotText at) = IsFeedFault bytes (faults.NotText at)
+IsTold bytes (faults.MissingField at name) = IsFeedFault bytes (faults.MissingField at name)
+IsTold bytes faults.Memory = Unit {0}

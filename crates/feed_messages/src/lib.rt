@@ -9,6 +9,7 @@ mod header;
 mod laws;
 mod plain;
 mod plain_fault;
+mod reading;
 mod writing;
 #[cfg(test)]
 mod tests;
@@ -21,4 +22,5 @@ pub use laws::{
 };
 pub use plain::plain_feed;
 pub use plain_fault::PlainFault;
+pub use reading::read_feed;
 pub use writing::entity_bytes;
