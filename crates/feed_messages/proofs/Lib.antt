@@ -7,6 +7,7 @@ mod HeaderLemmas
 pub mod MessageFaults
 pub mod MissingFields
 mod OneMeaning
+pub mod OneMore
 pub mod LongEntities
 pub mod Meant
 pub mod Parts

@@ -9,7 +9,9 @@ mod header;
 mod laws;
 mod plain;
 mod plain_fault;
+mod quick;
 mod reading;
+mod whole;
 mod writing;
 #[cfg(test)]
 mod tests;
