@@ -49,7 +49,7 @@ then_nothing : {fields : List WireField} {front : List ℕ} → Reads front fiel
 then_nothing {fields} {front} h = rw (append-nil front) h
 
 -- a body alone is all bodies
-one_body : {M : Type 0} (Table : List WireField → M → Type 0) (body : List ℕ) (message : M) → Means Table body message → Means Table (body ++ []) message
+pub one_body : {M : Type 0} (Table : List WireField → M → Type 0) (body : List ℕ) (message : M) → Means Table body message → Means Table (body ++ []) message
 one_body Table body message h = rw (append-nil body) h
 
 -- the header of a full dataset

@@ -3,15 +3,26 @@
 #![tactic(auto)]
 
 mod cancelled;
+mod fault;
+mod finder;
 mod header;
 mod laws;
 mod plain;
 mod plain_fault;
+mod quick;
+mod reading;
+mod whole;
+mod writing;
 #[cfg(test)]
 mod tests;
 
 pub use cancelled::cancelled_bytes;
+pub use fault::FeedFault;
 pub use header::{HeaderBytes, header_bytes};
-pub use laws::{an_entity_is_added, the_feed_is_one};
+pub use laws::{
+    a_written_feed_is_meant, an_entity_is_added, no_fault_where_a_feed_is_meant, the_feed_is_one,
+};
 pub use plain::plain_feed;
 pub use plain_fault::PlainFault;
+pub use reading::read_feed;
+pub use writing::entity_bytes;

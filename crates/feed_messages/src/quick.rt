@@ -1,0 +1,5 @@
+//! The quick reader of feeds.
+mod fields;
+mod found;
+mod nested;
+mod tables;
