@@ -7,7 +7,6 @@ mod HeaderLemmas
 pub mod MessageFaults
 pub mod MissingFields
 mod OneMeaning
-pub mod OneMore
 pub mod LongEntities
 pub mod Meant
 pub mod Parts

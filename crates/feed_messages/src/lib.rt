@@ -2,21 +2,17 @@
 //! definitions of `specs/Written.antt` name, and what is read is what `specs/Tables.antt` says that bytes mean.
 #![tactic(auto)]
 
-mod cancelled;
 mod fault;
 mod finder;
 mod header;
 mod laws;
 mod plain;
 mod plain_fault;
-mod quick;
 mod reading;
-mod whole;
 mod writing;
 #[cfg(test)]
 mod tests;
 
-pub use cancelled::cancelled_bytes;
 pub use fault::FeedFault;
 pub use header::{HeaderBytes, header_bytes};
 pub use laws::{

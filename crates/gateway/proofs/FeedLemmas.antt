@@ -6,7 +6,7 @@ use Rattle.std.specs.Prelude.{⊤, OnOk, slice_get}
 use Rattle.std.specs.List.{flat_map}
 use Rattle.gw_base.specs.declared.messages.Feed.{Feed}
 use Rattle.service_day.specs.DayTexts.{compact_text}
-use Rattle.feed_messages.specs.Cancelled.{cancelled_entity}
+use Rattle.gateway.specs.Cancelled.{cancelled_entity}
 use Rattle.feed_messages.specs.Tables.{MeansFeed, MeansEntity, with_entity, full_dataset}
 use Rattle.feed_messages.proofs.Building.{means_more}
 use Rattle.gateway.specs.Feeds.{id_of, message_of, entity_of, feed_of}

@@ -12,7 +12,7 @@ entity_id trip_id date = date ++ codes ":" ++ trip_id
 abbrev pub cancelled_trip : List ℕ → List ℕ → TripDescriptor
 cancelled_trip trip_id date = record { trip_id = Some trip_id; start_date = Some date; relation = pos 3; route_id = None }
 
--- the same, with no update of a stop, as was recorded at that moment
+-- the same, with no update of a stop, recorded at that moment
 abbrev pub cancelled_update : List ℕ → List ℕ → ℤ → TripUpdate
 cancelled_update trip_id date recorded = record { trip = cancelled_trip trip_id date; updates = []; timestamp = Some (unsigned_abs recorded) }
 
