@@ -77,7 +77,7 @@ day_met before =
 pub day_count_met : CanBeMet is_day_count
 day_count_met before = (codes "1", by (beginning before) refl)
   where
-    by : (first : Option ℤ) → beginning before ≡ first → IsTrue (ends_in_time first 1)
+    by : (first : Option ℤ) → beginning before ≡ first → IsTrue (ends_in_time first (Some 1))
     by None e = refl
     by (Some first) e = rw +ℤ-neg_ℤ_cancel (both_right (int_le FIRST_DAY first) _ (beginning_range before first e))
 

@@ -14,6 +14,6 @@ no_bad_word P (Err stop) never = λ at e. absurd (never at (ap Err e))
 -- a list is refused at one word
 pub refused_at_one : (words : List (List ℕ)) (a b : ℕ) → IsRefusedAt words a → IsRefusedAt words b → a ≡ b
 refused_at_one words a b x y =
-    let le : a ≤ b = y.longest a x.within x.start in
-    let ge : b ≤ a = x.longest b y.within y.start in
+    let le : a ≤ b = y.stops.longest a x.stops.within x.stops.start in
+    let ge : b ≤ a = x.stops.longest b y.stops.within y.stops.start in
     omega arith

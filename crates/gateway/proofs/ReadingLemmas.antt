@@ -28,7 +28,7 @@ use Rattle.gateway.specs.Readings.{reading, reading_of, moment_in}
 use Rattle.gateway.specs.declared.item.Aside.{Aside}
 use Rattle.gateway.specs.declared.item.Aside.TheVariants.{NotYet, OutOfWindow}
 use Rattle.gateway.specs.declared.item.Cancelled.{Cancelled}
-use Rattle.gateway.proofs.FormLemmas.{cond_then, both_right}
+use Rattle.gateway.proofs.FormLemmas.{cond_then}
 use Rattle.gateway.proofs.JourneyLemmas.{utc_of-IsMoment}
 use Rattle.gateway.proofs.WordLemmas.{windowed}
 
@@ -144,5 +144,5 @@ pub command_windowed : (words : List (List ℕ)) (command : ToGtfsrt) (table : T
 command_windowed words command table h =
     let window = windowed words command h in
     let low : int_le FIRST_DAY command.from ≡ true = window.0 in
-    let high : int_le (command.from +ℤ pos command.days -ℤ pos 1) LAST_DAY ≡ true = both_right _ _ window.1 in
+    let high : int_le (command.from +ℤ pos command.days -ℤ pos 1) LAST_DAY ≡ true = window.1 in
     record { first = grind (arith, ints); last = grind (arith, ints) }

@@ -20,14 +20,15 @@ decimal_number text =
 abbrev pub beginning : List ℕ → Option ℤ
 beginning word = option_and_then (λ day. if int_le FIRST_DAY day && int_le day LAST_DAY then Some day else None) (day_of Dashed word)
 
--- that many days from the first one on end in time, if there is a first one
-abbrev pub ends_in_time : Option ℤ → ℕ → Bool
-ends_in_time None days = true
-ends_in_time (Some first) days = int_le (first +ℤ pos days -ℤ pos 1) LAST_DAY
+-- a number of days of a window
+abbrev pub day_count : List ℕ → Option ℕ
+day_count word = option_and_then (λ days. if nat_le 1 days && nat_le days MOST_DAYS then Some days else None) (decimal_number word)
 
-abbrev pub is_window_of : Option ℤ → Option ℕ → Bool
-is_window_of first None = false
-is_window_of first (Some days) = nat_le 1 days && nat_le days MOST_DAYS && ends_in_time first days
+-- that many days from the first one on, if there is a first one, end in time
+abbrev pub ends_in_time : Option ℤ → Option ℕ → Bool
+ends_in_time first None = false
+ends_in_time None (Some days) = true
+ends_in_time (Some first) (Some days) = int_le (first +ℤ pos days -ℤ pos 1) LAST_DAY
 
 -- the forms: a text that isn't empty, a day, a number of days from the day before on, and a moment
 abbrev pub is_filled : Form
@@ -38,7 +39,7 @@ abbrev pub is_day : Form
 is_day before word = is_some (beginning word)
 
 abbrev pub is_day_count : Form
-is_day_count before word = is_window_of (beginning before) (decimal_number word)
+is_day_count before word = ends_in_time (beginning before) (day_count word)
 
 abbrev pub is_moment : Form
 is_moment before word = is_some (utc_of word)

@@ -1,34 +1,14 @@
--- A pair at a place of a list of words, and where a list that has none there is wrong.
-use Rattle.std.specs.Prelude.{◌≡◌, ◌⊎◌, ◌+◌, ◌-◌, ℕ, Bool, false, true, List, Some, nat_eq, slice_get}
-use Rattle.std.proofs.Common.{get_or}
-use Rattle.std.specs.List.{list_any}
-use Rattle.std.specs.Cmp.Lexicographic.{pointwise}
-use Rattle.gateway.specs.Tables.{Choice, is_pair}
+-- Where a list of words that is to begin with a pair goes wrong.
+use Rattle.std.specs.Prelude.{ℕ, List, [], ◌∷◌, Option, Some, None, if◌then◌else◌}
+use Rattle.gateway.specs.Tables.{Choice, with_flag}
 
-abbrev pub is_flag : List Choice → List ℕ → Bool
-is_flag choices flag = list_any (λ choice. pointwise nat_eq choice.flag flag) choices
+-- at the value of a choice, if there is one for the flag
+abbrev pub value_fault : Option Choice → List ℕ → List (List ℕ) → Option ℕ
+value_fault None before words = Some 0
+value_fault (Some choice) before [] = Some 1
+value_fault (Some choice) before (value ∷ words) = if choice.form before value then None else Some 1
 
--- a flag and a value of one of these choices stand at the place
-pub record IsPairAt (choices : List Choice) (words : List (List ℕ)) (at : ℕ) : Type 0 where
-  pub before : List ℕ
-  pub flag : List ℕ
-  pub value : List ℕ
-  pub before_is : slice_get words (at - 1) ≡ Some before
-  pub flag_is : slice_get words at ≡ Some flag
-  pub value_is : slice_get words (at + 1) ≡ Some value
-  pub is : is_pair choices before flag value ≡ true
-
--- a flag of one of them does, and behind it no value
-pub record IsFlagAt (choices : List Choice) (words : List (List ℕ)) (at : ℕ) : Type 0 where
-  pub before : List ℕ
-  pub flag : List ℕ
-  pub before_is : slice_get words (at - 1) ≡ Some before
-  pub flag_is : slice_get words at ≡ Some flag
-  pub is : is_flag choices flag ≡ true
-  pub no_value : (value : List ℕ) → slice_get words (at + 1) ≡ Some value → is_pair choices before flag value ≡ false
-
--- none does, from that word on
-abbrev pub IsNoPairAt : List Choice → List (List ℕ) → ℕ → ℕ → Type 0
-IsNoPairAt choices words at bad =
-    ((flag : List ℕ) → slice_get words at ≡ Some flag → is_flag choices flag ≡ false) × (bad ≡ at)
-    ⊎ IsFlagAt choices words at × (bad ≡ at + 1)
+-- at the flag or at the value behind it
+abbrev pub pair_fault : List Choice → List ℕ → List (List ℕ) → Option ℕ
+pair_fault choices before [] = Some 0
+pair_fault choices before (flag ∷ words) = value_fault (with_flag choices flag) before words

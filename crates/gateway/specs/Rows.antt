@@ -1,13 +1,12 @@
 -- What the tables of the code say.
-use Rattle.std.specs.Prelude.{◌≡◌, ℕ, List, Some, map, slice_get}
-use Rattle.gateway.specs.Tables as table
-use Rattle.gateway.specs.Tables.{Form, IsCommand}
+use Rattle.std.specs.Prelude.{map}
 use Rattle.gateway.specs.Forms.{is_filled, is_day, is_day_count, is_moment}
+use Rattle.gateway.specs.Tables as table
+use Rattle.gateway.specs.Tables.{Form}
 use Rattle.gateway.specs.declared.words.forms.Form as declared
 use Rattle.gateway.specs.declared.words.forms.Form.TheVariants as form
 use Rattle.gateway.specs.declared.words.table.Choice.{Choice}
 use Rattle.gateway.specs.declared.words.table.Command.{Command}
-use Rattle.gateway.specs.declared.words.table.Kind.{Kind}
 
 abbrev pub form_of : declared.Form → Form
 form_of form.Filled = is_filled
@@ -24,11 +23,3 @@ row_of command = record {
   pairs = map (λ pair. map choice_of pair.now) command.pairs.now;
   repeated = map choice_of command.repeated.now;
 }
-
--- the words are a command of that kind among these
-pub record IsOneOf (kind : Kind) (commands : List Command) (words : List (List ℕ)) : Type 0 where
-  pub number : ℕ
-  pub command : Command
-  pub there : slice_get commands number ≡ Some command
-  pub same : kind ≡ command.kind
-  pub is : IsCommand (row_of command) words

@@ -1,8 +1,8 @@
 -- Commands as tables of pairs of words: which lists of words a table accepts, and where another list stops being the
--- start of an accepted one. It holds of any table.
-use Rattle.std.specs.Prelude.{◌≡◌, ◌≢◌, ◌⊎◌, ◌≤◌, ◌+◌, ◌&&◌, ℕ, Bool, IsTrue, List, [], ◌∷◌, ◌++◌, take, length, nat_eq}
+-- start of an accepted one. All of it is said of any table.
+use Rattle.std.specs.Prelude.{◌<◌, ◌≤◌, ◌+◌, ℕ, Bool, IsTrue, IsSomeAnd, Option, List, [], ◌∷◌, ◌++◌, take, length, nat_eq, find}
 use Rattle.std.proofs.Common.{get_or}
-use Rattle.std.specs.List.{list_any}
+use Rattle.std.specs.List.{AllByRecursion}
 use Rattle.std.specs.Cmp.Lexicographic.{pointwise}
 
 -- a test of a value, given the value before it
@@ -20,9 +20,12 @@ pub record Command : Type 0 where
   pub pairs : List (List Choice)
   pub repeated : List Choice
 
--- the flag and the value are a pair of one of these choices, behind the value before
-abbrev pub is_pair : List Choice → List ℕ → List ℕ → List ℕ → Bool
-is_pair choices before flag value = list_any (λ choice. pointwise nat_eq choice.flag flag && choice.form before value) choices
+-- the choice of that flag, and the command of that name
+abbrev pub with_flag : List Choice → List ℕ → Option Choice
+with_flag choices flag = find (λ choice. pointwise nat_eq choice.flag flag) choices
+
+abbrev pub with_name : List Command → List ℕ → Option Command
+with_name commands name = find (λ command. pointwise nat_eq command.name name) commands
 
 -- the choices of the pair of that number: behind the last one, those of the repeated pairs
 abbrev pub choices_at : Command → ℕ → List Choice
@@ -34,17 +37,12 @@ abbrev pub ArePairs : Command → ℕ → List ℕ → List (List ℕ) → Type 
 ArePairs command number before [] = length command.pairs ≤ number
 ArePairs command number before (flag ∷ []) = ⊥
 ArePairs command number before (flag ∷ value ∷ words) =
-    IsTrue (is_pair (choices_at command number) before flag value) × ArePairs command (number + 1) value words
+    IsSomeAnd (with_flag (choices_at command number) flag) (λ choice. IsTrue (choice.form before value)) × ArePairs command (number + 1) value words
 
--- the words are the command's name and its pairs
-abbrev pub IsCommand : Command → List (List ℕ) → Type 0
-IsCommand command [] = ⊥
-IsCommand command (name ∷ words) = (name ≡ command.name) × ArePairs command 0 name words
-
--- the words are one of these commands
+-- the words are the name of one of these commands, which is the value before the first one, and its pairs
 abbrev pub IsAccepted : List Command → List (List ℕ) → Type 0
-IsAccepted [] words = ⊥
-IsAccepted (command ∷ commands) words = IsCommand command words ⊎ IsAccepted commands words
+IsAccepted commands [] = ⊥
+IsAccepted commands (name ∷ words) = IsSomeAnd (with_name commands name) (λ command. ArePairs command 0 name words)
 
 -- the words are the start of an accepted list, which may be the whole of it
 abbrev pub IsStart : (List (List ℕ) → Type 0) → List (List ℕ) → Type 0
@@ -62,19 +60,19 @@ abbrev pub CanBeMet : Form → Type 0
 CanBeMet form = (before : List ℕ) → (value : List ℕ) × IsTrue (form before value)
 
 abbrev pub CanAllBeMet : List Choice → Type 0
-CanAllBeMet [] = Unit {0}
-CanAllBeMet (choice ∷ choices) = CanBeMet choice.form × CanAllBeMet choices
+CanAllBeMet choices = AllByRecursion (λ choice. CanBeMet choice.form) choices
 
+-- there is a choice for each pair, and the form of each choice can be met
 abbrev pub HaveChoices : List (List Choice) → Type 0
 HaveChoices [] = Unit {0}
 HaveChoices ([] ∷ pairs) = ⊥
 HaveChoices ((choice ∷ choices) ∷ pairs) = CanAllBeMet (choice ∷ choices) × HaveChoices pairs
 
--- each pair has a choice, and each form can be met: then what is right so far is the start of an accepted list
+-- so what is right so far is the start of an accepted list
 pub record IsSatisfiable (command : Command) : Type 0 where
   pub pairs : HaveChoices command.pairs
   pub repeated : CanAllBeMet command.repeated
 
-abbrev pub AreSatisfiable : List Command → Type 0
-AreSatisfiable [] = Unit {0}
-AreSatisfiable (command ∷ commands) = IsSatisfiable command × AreSatisfiable commands
+pub record AreSatisfiable (commands : List Command) : Type 0 where
+  pub some : 0 < length commands
+  pub each : AllByRecursion IsSatisfiable commands

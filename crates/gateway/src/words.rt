@@ -6,10 +6,10 @@ ghost use Rattle.gateway.specs.Works.{command_of};
 mod forms;
 mod table;
 
-use forms::{Form, first_day, moment, number};
+use forms::{Form, day_count, first_day, moment};
 use gw_base::{Moment, Text};
 use service_day::Day;
-use table::{Choice, Command, Kind, which};
+use table::{Choice, Command, check};
 
 /// The word at which a list of words stops being the start of an accepted one, counted from 0.
 #[derive(Clone, Copy, Debug, PartialEq, Eq)]
@@ -47,7 +47,6 @@ pub enum Work<'a> {
 
 // The commands. In a list of words the value of the pair of number n, from 0 on, is the word of number 2n + 2.
 static COMMANDS: [Command; 1] = [Command {
-    kind: Kind::ToGtfsrt,
     name: "to-gtfsrt",
     pairs: &[
         &[Choice {
@@ -88,7 +87,7 @@ fn to_gtfsrt(words: &[Text]) -> Work<'_>
         gtfs: &words[2],
         zone: ZoneWord::Rule(&words[4]),
         from: first_day(&words[6]).unwrap(),
-        days: number(&words[8]).unwrap() as u8,
+        days: day_count(&words[8]).unwrap(),
         at: moment(&words[10]).unwrap(),
         more: &words[11..],
     }
@@ -100,7 +99,6 @@ pub fn job(words: &[Text]) -> Result<Work<'_>, BadWord>
     ensures refused { IfErr result (λ bad. IsRefusedAt words.now bad.at) }
     ensures delivery { IfOk result (λ work. length (command_of work).more ≡ 2) }
 {
-    match which(&COMMANDS, words)? {
-        Kind::ToGtfsrt => Ok(to_gtfsrt(words)),
-    }
+    check(&COMMANDS, words)?;
+    Ok(to_gtfsrt(words))
 }

@@ -1,5 +1,5 @@
 //! The forms of values, and what a value of a form is read as.
-ghost use Rattle.std.specs.Prelude.{◌≡◌, ◌≤◌};
+ghost use Rattle.std.specs.Prelude.{◌≡◌, Some};
 ghost use Rattle.std.specs.Str.{all_ascii_digits};
 ghost use Rattle.gateway.specs.Forms as spec;
 ghost use Rattle.gateway.specs.Forms.{beginning, decimal_number};
@@ -50,8 +50,8 @@ fn is_digits(text: &str) -> bool
     text.as_bytes().iter().all(|digit| digit.is_ascii_digit())
 }
 
-/// The value of a word that is a number in 1 to 10 decimal digits.
-pub fn number(word: &Text) -> Option<u64>
+// The value of a word that is a number in 1 to 10 decimal digits.
+fn number(word: &Text) -> Option<u64>
     ensures { result ≡ decimal_number word.now }
 {
     let text = word.as_str();
@@ -61,24 +61,25 @@ pub fn number(word: &Text) -> Option<u64>
     text.parse::<u64>().ok()
 }
 
-// That many days from the first one on end in 9997 at the latest, if there is a first one.
-fn ends_in_time(first: Option<Day>, days: u64) -> bool
-    requires { days ≤ 32 }
-    ensures { result ≡ spec.ends_in_time first days }
+/// The value of a word that is a number of days from 1 to 32.
+pub fn day_count(word: &Text) -> Option<u8>
+    ensures { result ≡ spec.day_count word.now }
+{
+    let days = number(word)?;
+    if 1 <= days && days <= MOST_DAYS {
+        Some(days as u8)
+    } else {
+        None
+    }
+}
+
+// That many days from the first one on, if there is a first one, end in 9997 at the latest.
+fn ends_in_time(first: Option<Day>, days: u8) -> bool
+    ensures { result ≡ spec.ends_in_time first (Some days) }
 {
     match first {
         Some(day) => day.number() + (days as i32 - 1) <= LAST_DAY,
         None => true,
-    }
-}
-
-// A number of days from 1 to 32, of which the last is in time when the first is the value before.
-fn is_day_count(before: &Text, word: &Text) -> bool
-    ensures { result ≡ spec.is_day_count before.now word.now }
-{
-    match number(word) {
-        Some(days) => 1 <= days && days <= MOST_DAYS && ends_in_time(first_day(before), days),
-        None => false,
     }
 }
 
@@ -96,7 +97,10 @@ pub fn has_form(form: Form, before: &Text, word: &Text) -> bool
     match form {
         Form::Filled => !word.as_str().is_empty(),
         Form::Day => first_day(word).is_some(),
-        Form::DayCount => is_day_count(before, word),
+        Form::DayCount => match day_count(word) {
+            Some(days) => ends_in_time(first_day(before), days),
+            None => false,
+        },
         Form::Moment => moment(word).is_some(),
     }
 }

@@ -1,20 +1,14 @@
 //! Commands as tables of pairs of words, and the place at which words stop being the start of a command.
-ghost use Rattle.std.specs.Prelude.{◌≡◌, ◌<◌, ◌≤◌, ◌^◌, map, length, IfOk, IfErr};
-ghost use Rattle.gateway.specs.Pairs.{IsPairAt, IsNoPairAt, is_flag as flag_of_these};
+ghost use Rattle.std.specs.Prelude.{◌≡◌, ◌≤◌, ◌∷◌, map, drop, length, IfOk, IfErr, MatchOption, MatchResult, None, Some};
+ghost use Rattle.std.specs.Option.{option_map, option_copied};
+ghost use Rattle.gateway.specs.Pairs.{pair_fault};
+ghost use Rattle.gateway.specs.Rows.{choice_of, row_of};
 ghost use Rattle.gateway.specs.Tables as spec;
-ghost use Rattle.gateway.specs.Tables.{IsCommand, IsAccepted, IsSatisfiable, AreSatisfiable, StopsAt, is_pair};
-ghost use Rattle.gateway.specs.Rows.{IsOneOf, choice_of, row_of};
+ghost use Rattle.gateway.specs.Tables.{ArePairs, IsAccepted, AreSatisfiable, IsSatisfiable, StopsAt, with_flag, with_name};
 
 use super::BadWord;
 use super::forms::{Form, has_form};
 use gw_base::Text;
-
-/// Which command.
-#[derive(Clone, Copy, Debug, PartialEq, Eq)]
-pub enum Kind {
-    /// `to-gtfsrt`.
-    ToGtfsrt,
-}
 
 /// A flag, and the form of the value behind it.
 #[derive(Clone, Copy, Debug)]
@@ -28,8 +22,6 @@ pub struct Choice {
 /// A command: a name, and then pairs of a flag and a value in their order.
 #[derive(Clone, Copy, Debug)]
 pub struct Command {
-    /// Which one it is.
-    pub kind: Kind,
     /// Its first word.
     pub name: &'static str,
     /// Its pairs, each of which is one of some choices.
@@ -38,37 +30,18 @@ pub struct Command {
     pub repeated: &'static [Choice],
 }
 
-// The flag and the value are a pair of one of these choices, behind the value before.
-fn is_choice(choices: &[Choice], before: &Text, flag: &Text, value: &Text) -> bool
-    ensures { result ≡ is_pair (map choice_of choices.now) before.now flag.now value.now }
+// The choice of that flag.
+fn flagged<'a>(choices: &'a [Choice], flag: &Text) -> Option<&'a Choice>
+    ensures { option_map choice_of (option_copied result) ≡ with_flag (map choice_of choices.now) flag.now }
 {
-    choices
-        .iter()
-        .any(|choice| choice.flag == flag.as_str() && has_form(choice.form, before, value))
+    choices.iter().find(|choice| choice.flag == flag.as_str())
 }
 
-// A flag of these choices.
-fn is_flag(choices: &[Choice], flag: &Text) -> bool
-    ensures { result ≡ flag_of_these (map choice_of choices.now) flag.now }
+// The command of that name.
+fn named<'a>(commands: &'a [Command], name: &Text) -> Option<&'a Command>
+    ensures { option_map row_of (option_copied result) ≡ with_name (map row_of commands.now) name.now }
 {
-    choices.iter().any(|choice| choice.flag == flag.as_str())
-}
-
-// The words at a place are a pair of one of these choices, or the place of the word at fault.
-fn pair_at(choices: &[Choice], words: &[Text], at: usize) -> Result<(), BadWord>
-    requires behind { 1 ≤ at }
-    requires within { at ≤ length words.now }
-    ensures there { IfOk result (λ _. IsPairAt (map choice_of choices.now) words.now at) }
-    ensures wrong { IfErr result (λ bad. IsNoPairAt (map choice_of choices.now) words.now at bad.at) }
-{
-    let before = &words[at - 1];
-    match words.get(at) {
-        Some(flag) if is_flag(choices, flag) => match words.get(at + 1) {
-            Some(value) if is_choice(choices, before, flag, value) => Ok(()),
-            _ => Err(BadWord { at: at as u64 + 1 }),
-        },
-        _ => Err(BadWord { at: at as u64 }),
-    }
+    commands.iter().find(|command| command.name == name.as_str())
 }
 
 // The choices of the pair of that number: behind the last one, those of the repeated pairs.
@@ -81,40 +54,64 @@ fn choices_at<'a>(command: &'a Command, number: usize) -> &'a [Choice]
     }
 }
 
-// The words are the command's, or the place of the word at fault.
-fn judge(command: &Command, words: &[Text]) -> Result<(), BadWord>
-    requires { IsSatisfiable (row_of command.now) }
-    ensures accepted { IfOk result (λ _. IsCommand (row_of command.now) words.now) }
-    ensures refused { IfErr result (λ bad. StopsAt (IsCommand (row_of command.now)) words.now bad.at) }
+// The value of the pair that the words begin with and the words behind it, or the number of the wrong word.
+fn pair<'a>(
+    choices: &[Choice],
+    before: &Text,
+    words: &'a [Text],
+) -> Result<(&'a Text, &'a [Text]), usize>
+    ensures fault { MatchResult result (λ _. pair_fault (map choice_of choices.now) before.now words.now ≡ None) (λ at. pair_fault (map choice_of choices.now) before.now words.now ≡ Some at) }
+    ensures rest { IfOk result (λ parts. drop 1 words.now ≡ parts.0.now ∷ parts.1.now) }
+    ensures within { IfErr result (λ at. at ≤ length words.now) }
 {
-    match words.first() {
-        Some(name) if name.as_str() == command.name => {}
-        _ => return Err(BadWord { at: 0 }),
+    let Some((flag, behind)) = words.split_first() else {
+        return Err(0);
+    };
+    let Some(choice) = flagged(choices, flag) else {
+        return Err(0);
+    };
+    match behind.split_first() {
+        Some((value, rest)) if has_form(choice.form, before, value) => Ok((value, rest)),
+        _ => Err(1),
     }
-    let mut number = 0;
-    let mut at = 1;
-    while number < command.pairs.len() || at < words.len() {
-        pair_at(choices_at(command, number), words, at)?;
-        number += 1;
-        at += 2;
-    }
-    Ok(())
 }
 
-/// Which of the commands the words are, or the word at fault. Takes no memory.
-pub fn which(commands: &[Command], words: &[Text]) -> Result<Kind, BadWord>
-    requires some { 0 < length commands.now }
-    requires satisfiable { AreSatisfiable (map row_of commands.now) }
-    ensures accepted { IfOk result (λ kind. IsOneOf kind commands.now words.now) }
+// The number of the first wrong word behind a command's name, if there is one.
+fn wrong_word(command: &Command, name: &Text, words: &[Text]) -> Option<usize>
+    requires { IsSatisfiable (row_of command.now) }
+    ensures { MatchOption result (ArePairs (row_of command.now) 0 name.now words.now) (λ at. StopsAt (ArePairs (row_of command.now) 0 name.now) words.now at) }
+{
+    let count = words.len();
+    let mut before = name;
+    let mut rest = words;
+    let mut number = 0;
+    while number < command.pairs.len() || !rest.is_empty() {
+        match pair(choices_at(command, number), before, rest) {
+            Ok((value, behind)) => {
+                before = value;
+                rest = behind;
+            }
+            Err(wrong) => return Some(count - rest.len() + wrong),
+        }
+        number += 1;
+    }
+    None
+}
+
+/// The words are one of the commands, or the word at fault. Takes no memory.
+pub fn check(commands: &[Command], words: &[Text]) -> Result<(), BadWord>
+    requires { AreSatisfiable (map row_of commands.now) }
+    ensures accepted { IfOk result (λ _. IsAccepted (map row_of commands.now) words.now) }
     ensures refused { IfErr result (λ bad. StopsAt (IsAccepted (map row_of commands.now)) words.now bad.at) }
 {
-    let mut farthest = 0;
-    for command in commands {
-        match judge(command, words) {
-            Ok(()) => return Ok(command.kind),
-            Err(bad) if farthest < bad.at => farthest = bad.at,
-            Err(_) => {}
-        }
+    let Some((name, behind)) = words.split_first() else {
+        return Err(BadWord { at: 0 });
+    };
+    let Some(command) = named(commands, name) else {
+        return Err(BadWord { at: 0 });
+    };
+    match wrong_word(command, name, behind) {
+        None => Ok(()),
+        Some(at) => Err(BadWord { at: at as u64 + 1 }),
     }
-    Err(BadWord { at: farthest })
 }

@@ -1,13 +1,11 @@
 -- Accepted words aren't refused, and refused words are so at one word.
 use Rattle.std.proofs.Common.{Err, ap}
-use Rattle.gateway.specs.Works.{command_of}
 use Rattle.gateway.specs.declared.outcome.Stop.TheVariants.{BadWord}
 use Rattle.gateway.proofs.OutcomeLemmas.{no_bad_word, refused_at_one}
-use Rattle.gateway.proofs.WordLemmas.{not_both}
 use Rattle.gateway.proofs.outcome.outcome.Goals as goal
 
 pub returns-in-Ok-clause-bad_words : goal.returns-in-Ok-clause-bad_words
-returns-in-Ok-clause-bad_words g c = λ at refused. absurd (not_both c.args.words.now (command_of c.in-Ok.work) at c.in-Ok.ensures.accepted refused)
+returns-in-Ok-clause-bad_words g c = λ at refused. absurd (refused.stops.none c.in-Ok.ensures.accepted.accepted)
 
 pub returns-in-Ok-clause-only_bad : goal.returns-in-Ok-clause-only_bad
 returns-in-Ok-clause-only_bad g c = no_bad_word _ c.carried_out.result c.carried_out.ensures.words
