@@ -2,14 +2,14 @@
 use Rattle.std.proofs.Common.{◌≡◌, ◌≢◌, ◌⊎◌, inl, inr, refl, ap, sym, subst, ◌∙◌, ℕ, zero, suc, ◌+◌, ◌<◌, ◌≤◌, List, [], ◌∷◌, ◌++◌, Option, Some, None, length, take, drop, get_or, slice_get, map, arith, Bool, true, false, cond, add-one}
 use Rattle.std.specs.Prelude.{IsTrue, IsSomeAnd, nat_eq, find}
 use Rattle.std.specs.Cmp.Lexicographic.{pointwise}
-use Rattle.std.specs.List.{AllByRecursion}
+use Rattle.std.specs.List.{AllByRecursion, list_any}
 use Rattle.std.specs.Option.{option_map}
 use Rattle.std.proofs.Math.ListN.{get_or-eq_default}
-use Rattle.std.proofs.lemmas.Bool.{cases_lt}
+use Rattle.std.proofs.lemmas.Bool.{cases_lt, false≢true}
 use Rattle.std.proofs.lemmas.Cmp.{nat_list_eq_equiv}
 use Rattle.std.proofs.lemmas.Option.{none-some, same_Some}
 use Rattle.gateway.specs.Pairs.{value_fault, pair_fault}
-use Rattle.gateway.specs.Tables.{Choice, Command, with_flag, with_name, choices_at, ArePairs, IsAccepted, IsStart, StopsAt, CanBeMet, CanAllBeMet, HaveChoices, IsSatisfiable, AreSatisfiable}
+use Rattle.gateway.specs.Tables.{Form, Pair, Command, is_flag, with_name, pair_at, ArePairs, IsAccepted, IsStart, StopsAt, CanBeMet, CanStand, IsSatisfiable, AreSatisfiable}
 
 abbrev Words : Type 0
 Words = List (List ℕ)
@@ -35,22 +35,23 @@ found_has P test (y ∷ xs) x all h = by (test y) (found_has P test xs x all.1) 
 
 -- pairs can be completed
 
-met_at : (pairs : List (List Choice)) (repeated : List Choice) (k : ℕ) → HaveChoices pairs → CanAllBeMet repeated → CanAllBeMet (get_or pairs k repeated)
-met_at [] repeated k pairs_met met = met
-met_at ([] ∷ pairs) repeated k pairs_met met = absurd pairs_met
-met_at ((choice ∷ choices) ∷ pairs) repeated zero pairs_met met = pairs_met.0
-met_at ((choice ∷ choices) ∷ pairs) repeated (suc k) pairs_met met = met_at pairs repeated k pairs_met.1 met
+met_at : (pairs : List Pair) (repeated : Pair) (k : ℕ) → AllByRecursion CanStand pairs → CanBeMet repeated.form → CanBeMet (get_or pairs k repeated).form
+met_at [] repeated k all met = met
+met_at (pair ∷ pairs) repeated zero all met = all.0.1
+met_at (pair ∷ pairs) repeated (suc k) all met = met_at pairs repeated k all.1 met
 
-abbrev pub IsPair : List Choice → List ℕ → List ℕ → List ℕ → Type 0
-IsPair choices before flag value = IsSomeAnd (with_flag choices flag) (λ choice. IsTrue (choice.form before value))
+flag_at : (pairs : List Pair) (repeated : Pair) (k : ℕ) → AllByRecursion CanStand pairs → k < length pairs
+    → (flag : List ℕ) × IsTrue (is_flag (get_or pairs k repeated) flag)
+flag_at [] repeated k all below = absurd (omega arith)
+flag_at (pair ∷ pairs) repeated zero all below = first pair.flags all.0.0
+  where
+    first : (flags : Words) → 0 < length flags → (flag : List ℕ) × (list_any (λ known. pointwise nat_eq known flag) flags ≡ true)
+    first [] some = absurd (omega arith)
+    first (flag ∷ flags) some = (flag, rw (nat_list_eq_equiv.refl flag) refl)
+flag_at (pair ∷ pairs) repeated (suc k) all below = flag_at pairs repeated k all.1 (omega arith)
 
-pair_met : (pairs : List (List Choice)) (repeated : List Choice) (k : ℕ) (before : List ℕ) → HaveChoices pairs → k < length pairs
-    → (flag value : List ℕ) × IsPair (get_or pairs k repeated) before flag value
-pair_met [] repeated k before met below = absurd (omega arith)
-pair_met ([] ∷ pairs) repeated k before met below = absurd met
-pair_met ((choice ∷ choices) ∷ pairs) repeated zero before met below =
-    let own = met.0.0 before in (choice.flag, own.0, rw (nat_list_eq_equiv.refl choice.flag) own.1)
-pair_met ((choice ∷ choices) ∷ pairs) repeated (suc k) before met below = pair_met pairs repeated k before met.1 (omega arith)
+value_at : (command : Command) → IsSatisfiable command → (k : ℕ) (before : List ℕ) → (value : List ℕ) × IsTrue ((pair_at command k).form before value)
+value_at command met k before = met_at command.pairs command.repeated k met.pairs met.repeated before
 
 completed : (command : Command) → IsSatisfiable command → (n k : ℕ) (before : List ℕ) → length command.pairs ≤ k + n → (rest : Words) × ArePairs command k before rest
 completed command met zero k before h = ([], omega arith)
@@ -58,9 +59,10 @@ completed command met (suc n) k before h =
     elim (cases_lt k (length command.pairs)) [
       | inr all ↦ ([], all)
       | inl below ↦
-        let pair = pair_met command.pairs command.repeated k before met.pairs below in
-        let rest = completed command met n (k + 1) pair.1 (omega arith) in
-        (pair.0 ∷ pair.1 ∷ rest.0, (pair.2, rest.1))
+        let flag = flag_at command.pairs command.repeated k met.pairs below in
+        let value = value_at command met k before in
+        let rest = completed command met n (k + 1) value.0 (omega arith) in
+        (flag.0 ∷ value.0 ∷ rest.0, (flag.1, value.1, rest.1))
     ]
 
 can_end : (command : Command) → IsSatisfiable command → (k : ℕ) (before : List ℕ) → IsStart (ArePairs command k before) []
@@ -108,30 +110,29 @@ leads_all command name words = record {
   refuses = λ n stops. subst (λ k. StopsAt (ArePairs command 0 name) words k) (omega arith) stops;
 }
 
-right_value : (o : Option Choice) (before value : List ℕ) (rest : Words) → value_fault o before (value ∷ rest) ≡ None
-    → IsSomeAnd o (λ choice. IsTrue (choice.form before value))
-right_value None before value rest h = absurd cc
-right_value (Some choice) before value rest h = by (choice.form before value) h
+right_pair : (pair : Pair) (before flag value : List ℕ) (rest : Words) → pair_fault pair before (flag ∷ value ∷ rest) ≡ None
+    → IsTrue (is_flag pair flag) × IsTrue (pair.form before value)
+right_pair pair before flag value rest h = by (is_flag pair flag) (pair.form before value) h
   where
-    by : (b : Bool) → cond {A = Option ℕ} b None (Some 1) ≡ None → b ≡ true
-    by true e = refl
-    by false e = absurd cc
+    by : (known met : Bool) → cond {A = Option ℕ} known (cond met None (Some 1)) (Some 0) ≡ None → (known ≡ true) × (met ≡ true)
+    by true true e = (refl, refl)
+    by true false e = absurd cc
+    by false met e = absurd cc
 
 pub leads_on : (command : Command) (name : List ℕ) (words : Words) (number : ℕ) (before : List ℕ) (left : Words) (value : List ℕ) (rest : Words)
-    → Leads command name words number before left → pair_fault (choices_at command number) before left ≡ None → drop 1 left ≡ value ∷ rest
+    → Leads command name words number before left → pair_fault (pair_at command number) before left ≡ None → drop 1 left ≡ value ∷ rest
     → Leads command name words (number + 1) value rest
 leads_on command name words number before [] value rest leads h e = absurd cc
 leads_on command name words number before (flag ∷ left) value rest leads h e =
-    let is : IsPair (choices_at command number) before flag value =
-        right_value (with_flag (choices_at command number) flag) before value rest (rw e at h) in
+    let is = right_pair (pair_at command number) before flag value rest (rw e at h) in
     record {
       at = leads.at + 2;
       counted = omega (arith, leads.counted, ap length e);
       passed = omega (arith, leads.passed);
-      accepts = λ pairs. leads.accepts (rw e (is, pairs));
+      accepts = λ pairs. leads.accepts (rw e (is.0, is.1, pairs));
       refuses = λ n stops.
           let Flagged : Words → Type 0 = λ ws. ArePairs command number before (flag ∷ ws) in
-          let behind : StopsAt Flagged (value ∷ rest) (suc n) = stops_behind Flagged _ value rest n (λ ws pairs. (is, pairs)) (λ ws pairs. pairs.1) stops in
+          let behind : StopsAt Flagged (value ∷ rest) (suc n) = stops_behind Flagged _ value rest n (λ ws pairs. (is.0, is.1, pairs)) (λ ws pairs. pairs.2) stops in
           let all : StopsAt (ArePairs command number before) (flag ∷ left) (suc (suc n)) =
               rw e (stops_behind (ArePairs command number before) Flagged flag (value ∷ rest) (suc n) (λ ws h. h) (λ ws h. h) behind) in
           subst (λ k. StopsAt (ArePairs command 0 name) words k) (omega arith) (leads.refuses (suc (suc n)) all);
@@ -139,51 +140,49 @@ leads_on command name words number before (flag ∷ left) value rest leads h e =
 
 -- a wrong word of a pair, where the command or the words go on
 
-no_choice : (command : Command) (number : ℕ) (before flag : List ℕ) → with_flag (choices_at command number) flag ≡ None
+no_flag : (command : Command) (number : ℕ) (before flag : List ℕ) → is_flag (pair_at command number) flag ≡ false
     → (other : Words) → ArePairs command number before other → slice_get other 0 ≢ Some flag
-no_choice command number before flag none [] pairs e = cc
-no_choice command number before flag none (word ∷ []) pairs e = pairs
-no_choice command number before flag none (word ∷ value ∷ words) pairs e =
-    let unknown : with_flag (choices_at command number) word ≡ None = ap (with_flag (choices_at command number)) (same_Some _ _ e) ∙ none in
-    rw unknown at pairs.0
+no_flag command number before flag none [] pairs e = cc
+no_flag command number before flag none (word ∷ []) pairs e = pairs
+no_flag command number before flag none (word ∷ value ∷ words) pairs e =
+    let same : is_flag (pair_at command number) flag ≡ true = ap (is_flag (pair_at command number)) (sym (same_Some _ _ e)) ∙ pairs.0 in
+    absurd cc
 
-no_value : (command : Command) (number : ℕ) (before flag : List ℕ) (choice : Choice) (bad : ℕ) → with_flag (choices_at command number) flag ≡ Some choice
-    → (left : Words) → value_fault (Some choice) before left ≡ Some bad
+no_value : (command : Command) (number : ℕ) (before flag : List ℕ) (bad : ℕ) (left : Words) → value_fault (pair_at command number).form before left ≡ Some bad
     → (other : Words) → ArePairs command number before (flag ∷ other) → slice_get other 0 ≢ slice_get left 0
-no_value command number before flag choice bad known left h [] pairs e = pairs
-no_value command number before flag choice bad known [] h (value ∷ words) pairs e = cc
-no_value command number before flag choice bad known (word ∷ left) h (value ∷ words) pairs e =
-    let right : choice.form before value ≡ true = rw known at pairs.0 in
-    let same : choice.form before word ≡ true = ap (choice.form before) (sym (same_Some _ _ e)) ∙ right in
+no_value command number before flag bad left h [] pairs e = pairs
+no_value command number before flag bad [] h (value ∷ words) pairs e = cc
+no_value command number before flag bad (word ∷ left) h (value ∷ words) pairs e =
+    let same : (pair_at command number).form before word ≡ true = ap ((pair_at command number).form before) (sym (same_Some _ _ e)) ∙ pairs.1 in
     none-some bad (rw same at h)
 
-behind_flag : (choice : Choice) (before : List ℕ) (left : Words) (bad : ℕ) → value_fault (Some choice) before left ≡ Some bad → bad ≡ 1
-behind_flag choice before [] bad h = sym (same_Some 1 bad h)
-behind_flag choice before (value ∷ left) bad h = by (choice.form before value) h
+behind_flag : (form : Form) (before : List ℕ) (left : Words) (bad : ℕ) → value_fault form before left ≡ Some bad → bad ≡ 1
+behind_flag form before [] bad h = sym (same_Some 1 bad h)
+behind_flag form before (value ∷ left) bad h = by (form before value) h
   where
     by : (b : Bool) → cond {A = Option ℕ} b None (Some 1) ≡ Some bad → bad ≡ 1
     by true e = absurd cc
     by false e = sym (same_Some 1 bad e)
 
 pub wrong_at : (command : Command) (number : ℕ) (before : List ℕ) (left : Words) (bad : ℕ) → IsSatisfiable command
-    → (number < length command.pairs) ⊎ (0 < length left) → pair_fault (choices_at command number) before left ≡ Some bad
+    → (number < length command.pairs) ⊎ (0 < length left) → pair_fault (pair_at command number) before left ≡ Some bad
     → StopsAt (ArePairs command number before) left bad
 wrong_at command number before [] bad met more h = rw (sym (same_Some 0 bad h)) (stops_here _ [] (can_end command met number before) other)
   where
     other : (other : Words) → ArePairs command number before other → slice_get other 0 ≢ None
     other [] pairs e = elim more [ inl below ↦ omega arith | inr some ↦ omega arith ]
     other (word ∷ words) pairs e = cc
-wrong_at command number before (flag ∷ left) bad met more h = by (with_flag (choices_at command number) flag) refl h
+wrong_at command number before (flag ∷ left) bad met more h = by (is_flag (pair_at command number) flag) refl h
   where
-    by : (o : Option Choice) → with_flag (choices_at command number) flag ≡ o → value_fault o before left ≡ Some bad
+    by : (b : Bool) → is_flag (pair_at command number) flag ≡ b → cond b (value_fault (pair_at command number).form before left) (Some 0) ≡ Some bad
         → StopsAt (ArePairs command number before) (flag ∷ left) bad
-    by None e h = rw (sym (same_Some 0 bad h)) (stops_here _ (flag ∷ left) (can_end command met number before) (no_choice command number before flag e))
-    by (Some choice) e h =
+    by false e h = rw (sym (same_Some 0 bad h)) (stops_here _ (flag ∷ left) (can_end command met number before) (no_flag command number before flag e))
+    by true e h =
         let Flagged : Words → Type 0 = λ ws. ArePairs command number before (flag ∷ ws) in
-        let own = found_has (λ c. CanBeMet c.form) _ (choices_at command number) choice (met_at command.pairs command.repeated number met.pairs met.repeated) e before in
-        let rest = can_end command met (number + 1) own.0 in
-        rw (behind_flag choice before left bad h) (stops_behind (ArePairs command number before) Flagged flag left 0 (λ ws h. h) (λ ws h. h)
-        (stops_here Flagged left (own.0 ∷ rest.0, (rw e own.1, rest.1)) (no_value command number before flag choice bad e left h)))
+        let value = value_at command met number before in
+        let rest = can_end command met (number + 1) value.0 in
+        rw (behind_flag (pair_at command number).form before left bad h) (stops_behind (ArePairs command number before) Flagged flag left 0 (λ ws h. h) (λ ws h. h)
+        (stops_here Flagged left (value.0 ∷ rest.0, (e, value.1, rest.1)) (no_value command number before flag bad left h)))
 
 -- a list of words is refused at its name, or behind it
 
@@ -203,38 +202,33 @@ pub behind_name : (commands : List Command) (command : Command) (name : List ℕ
 behind_name commands command name words n known stops =
     rw (add-one) (stops_behind (IsAccepted commands) (ArePairs command 0 name) name words n (λ ws h. rw known h) (λ ws h. rw known at h) stops)
 
--- a pair of an accepted list: the value before, a flag and a value
-pub record PairOf (choices : List Choice) (words : Words) (place : ℕ) : Type 0 where
-  pub before : List ℕ
-  pub flag : List ℕ
-  pub value : List ℕ
-  pub before_is : slice_get words place ≡ Some before
-  pub value_is : slice_get words (suc (suc place)) ≡ Some value
-  pub is : IsPair choices before flag value
+-- the pair of a number in an accepted list: the value before it, and its value
 
 abbrev pub double : ℕ → ℕ
 double zero = 0
 double (suc n) = suc (suc (double n))
 
+abbrev pub HasPair : Command → ℕ → Words → ℕ → Type 0
+HasPair command m words place =
+    (before value : List ℕ) × (slice_get words place ≡ Some before) × (slice_get words (suc (suc place)) ≡ Some value)
+    × IsTrue ((pair_at command m).form before value)
+
 pub pair_of : (command : Command) (k m number : ℕ) (before : List ℕ) (words : Words) → m ≡ number + k → m < length command.pairs
-    → ArePairs command number before words → PairOf (choices_at command m) (before ∷ words) (double k)
+    → ArePairs command number before words → HasPair command m (before ∷ words) (double k)
 pair_of command k m number before [] e below h = absurd (omega arith)
 pair_of command k m number before (flag ∷ []) e below h = absurd h
 pair_of command zero m number before (flag ∷ value ∷ words) e below h =
-    let same : m ≡ number = omega arith in
-    record { before = before; flag = flag; value = value; before_is = refl; value_is = refl; is = rw same h.0 }
-pair_of command (suc k) m number before (flag ∷ value ∷ words) e below h =
-    let rest = pair_of command k m (number + 1) value words (omega arith) below h.1 in
-    record { before = rest.before; flag = rest.flag; value = rest.value; before_is = rest.before_is; value_is = rest.value_is; is = rest.is }
+    let same : m ≡ number = omega arith in (before, value, refl, refl, rw same h.1)
+pair_of command (suc k) m number before (flag ∷ value ∷ words) e below h = pair_of command k m (number + 1) value words (omega arith) below h.2
 
 -- a command without repeated pairs has exactly its words
-pub all_pairs : (command : Command) → command.repeated ≡ [] → (k number : ℕ) (before : List ℕ) (words : Words) → length command.pairs ≡ number + k
+pub all_pairs : (command : Command) → command.repeated.flags ≡ [] → (k number : ℕ) (before : List ℕ) (words : Words) → length command.pairs ≡ number + k
     → ArePairs command number before words → length words ≡ double k
 all_pairs command none k number before (flag ∷ []) e h = absurd h
 all_pairs command none zero number before [] e h = refl
 all_pairs command none zero number before (flag ∷ value ∷ words) e h =
-    let last : choices_at command number ≡ [] = get_or-eq_default command.pairs command.repeated (omega arith) ∙ none in
-    absurd (rw last at h.0)
+    let last : pair_at command number ≡ command.repeated = get_or-eq_default command.pairs command.repeated (omega arith) in
+    absurd (false≢true (rw (last, none) at h.0))
 all_pairs command none (suc k) number before [] e h = absurd (omega arith)
 all_pairs command none (suc k) number before (flag ∷ value ∷ words) e h =
-    ap (λ n. suc (suc n)) (all_pairs command none k (number + 1) value words (omega arith) h.1)
+    ap (λ n. suc (suc n)) (all_pairs command none k (number + 1) value words (omega arith) h.2)

@@ -5,7 +5,7 @@ use Rattle.gateway.specs.Tables as table
 use Rattle.gateway.specs.Tables.{Form}
 use Rattle.gateway.specs.declared.words.forms.Form as declared
 use Rattle.gateway.specs.declared.words.forms.Form.TheVariants as form
-use Rattle.gateway.specs.declared.words.table.Choice.{Choice}
+use Rattle.gateway.specs.declared.words.table.Pair.{Pair}
 use Rattle.gateway.specs.declared.words.table.Command.{Command}
 
 abbrev pub form_of : declared.Form → Form
@@ -14,12 +14,8 @@ form_of form.Day = is_day
 form_of form.DayCount = is_day_count
 form_of form.Moment = is_moment
 
-abbrev pub choice_of : Choice → table.Choice
-choice_of choice = record { flag = choice.flag.now; form = form_of choice.form }
+abbrev pub pair_of : Pair → table.Pair
+pair_of pair = record { flags = map (λ flag. flag.now) pair.flags.now; form = form_of pair.form }
 
 abbrev pub row_of : Command → table.Command
-row_of command = record {
-  name = command.name.now;
-  pairs = map (λ pair. map choice_of pair.now) command.pairs.now;
-  repeated = map choice_of command.repeated.now;
-}
+row_of command = record { name = command.name.now; pairs = map pair_of command.pairs.now; repeated = pair_of command.repeated }

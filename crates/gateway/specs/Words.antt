@@ -1,25 +1,21 @@
 -- The words of the commands: their table, and what the words of each say.
 use Rattle.std.specs.Prelude.{◌≡◌, ℕ, ℤ, List, [], ◌∷◌, drop, codes, Some, option_and_then, slice_get}
 use Rattle.gateway.specs.Forms.{is_filled, is_day, is_day_count, is_moment, beginning, day_count}
-use Rattle.gateway.specs.Tables.{Form, Choice, Command, IsAccepted, StopsAt}
+use Rattle.gateway.specs.Tables.{Command, IsAccepted, StopsAt}
 use Rattle.service_day.specs.Utc.{utc_of}
-
--- a pair with one flag
-abbrev pub flagged : List ℕ → Form → List Choice
-flagged flag form = record { flag = flag; form = form } ∷ []
 
 unfoldable pub to_gtfsrt : Command
 to_gtfsrt = record {
   name = codes "to-gtfsrt";
   pairs =
-    flagged (codes "--gtfs") is_filled
-    ∷ flagged (codes "--zone-rule") is_filled
-    ∷ flagged (codes "--from") is_day
-    ∷ flagged (codes "--days") is_day_count
-    ∷ flagged (codes "--at") is_moment
-    ∷ flagged (codes "--et") is_filled
+    record { flags = codes "--gtfs" ∷ []; form = is_filled }
+    ∷ record { flags = codes "--zone-rule" ∷ []; form = is_filled }
+    ∷ record { flags = codes "--from" ∷ []; form = is_day }
+    ∷ record { flags = codes "--days" ∷ []; form = is_day_count }
+    ∷ record { flags = codes "--at" ∷ []; form = is_moment }
+    ∷ record { flags = codes "--et" ∷ []; form = is_filled }
     ∷ [];
-  repeated = [];
+  repeated = record { flags = []; form = is_filled };
 }
 
 unfoldable pub commands : List Command

@@ -9,7 +9,7 @@ mod table;
 use forms::{Form, day_count, first_day, moment};
 use gw_base::{Moment, Text};
 use service_day::Day;
-use table::{Choice, Command, check};
+use table::{Command, Pair, check};
 
 /// The word at which a list of words stops being the start of an accepted one, counted from 0.
 #[derive(Clone, Copy, Debug, PartialEq, Eq)]
@@ -49,32 +49,35 @@ pub enum Work<'a> {
 static COMMANDS: [Command; 1] = [Command {
     name: "to-gtfsrt",
     pairs: &[
-        &[Choice {
-            flag: "--gtfs",
+        Pair {
+            flags: &["--gtfs"],
             form: Form::Filled,
-        }],
-        &[Choice {
-            flag: "--zone-rule",
+        },
+        Pair {
+            flags: &["--zone-rule"],
             form: Form::Filled,
-        }],
-        &[Choice {
-            flag: "--from",
+        },
+        Pair {
+            flags: &["--from"],
             form: Form::Day,
-        }],
-        &[Choice {
-            flag: "--days",
+        },
+        Pair {
+            flags: &["--days"],
             form: Form::DayCount,
-        }],
-        &[Choice {
-            flag: "--at",
+        },
+        Pair {
+            flags: &["--at"],
             form: Form::Moment,
-        }],
-        &[Choice {
-            flag: "--et",
+        },
+        Pair {
+            flags: &["--et"],
             form: Form::Filled,
-        }],
+        },
     ],
-    repeated: &[],
+    repeated: Pair {
+        flags: &[],
+        form: Form::Filled,
+    },
 }];
 
 // What the words of `to-gtfsrt` say.

@@ -1,21 +1,21 @@
 //! Commands as tables of pairs of words, and the place at which words stop being the start of a command.
-ghost use Rattle.std.specs.Prelude.{◌≡◌, ◌≤◌, ◌∷◌, map, drop, length, IfOk, IfErr, MatchOption, MatchResult, None, Some};
+ghost use Rattle.std.specs.Prelude.{◌≡◌, ◌≤◌, ◌∷◌, map, drop, length, IfOk, IfErr, MatchOption, None, Some};
 ghost use Rattle.std.specs.Option.{option_map, option_copied};
 ghost use Rattle.gateway.specs.Pairs.{pair_fault};
-ghost use Rattle.gateway.specs.Rows.{choice_of, row_of};
+ghost use Rattle.gateway.specs.Rows.{pair_of, row_of};
 ghost use Rattle.gateway.specs.Tables as spec;
-ghost use Rattle.gateway.specs.Tables.{ArePairs, IsAccepted, AreSatisfiable, IsSatisfiable, StopsAt, with_flag, with_name};
+ghost use Rattle.gateway.specs.Tables.{ArePairs, IsAccepted, AreSatisfiable, IsSatisfiable, StopsAt, with_name};
 
 use super::BadWord;
 use super::forms::{Form, has_form};
 use gw_base::Text;
 
-/// A flag, and the form of the value behind it.
+/// A pair of words: one of some flags, and behind it a value of a form.
 #[derive(Clone, Copy, Debug)]
-pub struct Choice {
-    /// The flag.
-    pub flag: &'static str,
-    /// The form of its value.
+pub struct Pair {
+    /// The flags.
+    pub flags: &'static [&'static str],
+    /// The form of the value.
     pub form: Form,
 }
 
@@ -24,17 +24,17 @@ pub struct Choice {
 pub struct Command {
     /// Its first word.
     pub name: &'static str,
-    /// Its pairs, each of which is one of some choices.
-    pub pairs: &'static [&'static [Choice]],
-    /// The choices of the pairs behind them, of which there may be any number.
-    pub repeated: &'static [Choice],
+    /// Its pairs.
+    pub pairs: &'static [Pair],
+    /// The pair behind them that there may be any number of: none where it has no flag.
+    pub repeated: Pair,
 }
 
-// The choice of that flag.
-fn flagged<'a>(choices: &'a [Choice], flag: &Text) -> Option<&'a Choice>
-    ensures { option_map choice_of (option_copied result) ≡ with_flag (map choice_of choices.now) flag.now }
+// The word is a flag of the pair.
+fn is_flag(pair: &Pair, word: &Text) -> bool
+    ensures { result ≡ spec.is_flag (pair_of pair.now) word.now }
 {
-    choices.iter().find(|choice| choice.flag == flag.as_str())
+    pair.flags.iter().any(|flag| *flag == word.as_str())
 }
 
 // The command of that name.
@@ -44,34 +44,35 @@ fn named<'a>(commands: &'a [Command], name: &Text) -> Option<&'a Command>
     commands.iter().find(|command| command.name == name.as_str())
 }
 
-// The choices of the pair of that number: behind the last one, those of the repeated pairs.
-fn choices_at<'a>(command: &'a Command, number: usize) -> &'a [Choice]
-    ensures { map choice_of result.now ≡ spec.choices_at (row_of command.now) number }
+// The pair of that number: behind the last one, the repeated one.
+fn pair_at(command: &Command, number: usize) -> &Pair
+    ensures { pair_of result.now ≡ spec.pair_at (row_of command.now) number }
 {
     match command.pairs.get(number) {
         Some(pair) => pair,
-        None => command.repeated,
+        None => &command.repeated,
     }
 }
 
 // The value of the pair that the words begin with and the words behind it, or the number of the wrong word.
-fn pair<'a>(
-    choices: &[Choice],
+fn split_pair<'a>(
+    pair: &Pair,
     before: &Text,
     words: &'a [Text],
 ) -> Result<(&'a Text, &'a [Text]), usize>
-    ensures fault { MatchResult result (λ _. pair_fault (map choice_of choices.now) before.now words.now ≡ None) (λ at. pair_fault (map choice_of choices.now) before.now words.now ≡ Some at) }
+    ensures right { IfOk result (λ _. pair_fault (pair_of pair.now) before.now words.now ≡ None) }
     ensures rest { IfOk result (λ parts. drop 1 words.now ≡ parts.0.now ∷ parts.1.now) }
+    ensures wrong { IfErr result (λ at. pair_fault (pair_of pair.now) before.now words.now ≡ Some at) }
     ensures within { IfErr result (λ at. at ≤ length words.now) }
 {
     let Some((flag, behind)) = words.split_first() else {
         return Err(0);
     };
-    let Some(choice) = flagged(choices, flag) else {
+    if !is_flag(pair, flag) {
         return Err(0);
-    };
+    }
     match behind.split_first() {
-        Some((value, rest)) if has_form(choice.form, before, value) => Ok((value, rest)),
+        Some((value, rest)) if has_form(pair.form, before, value) => Ok((value, rest)),
         _ => Err(1),
     }
 }
@@ -86,7 +87,7 @@ fn wrong_word(command: &Command, name: &Text, words: &[Text]) -> Option<usize>
     let mut rest = words;
     let mut number = 0;
     while number < command.pairs.len() || !rest.is_empty() {
-        match pair(choices_at(command, number), before, rest) {
+        match split_pair(pair_at(command, number), before, rest) {
             Ok((value, behind)) => {
                 before = value;
                 rest = behind;

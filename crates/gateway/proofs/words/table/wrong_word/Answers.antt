@@ -19,11 +19,11 @@ returns-in-Err c =
     subst (λ k. StopsAt (ArePairs (row_of c.args.command.now) 0 c.args.name.now) c.args.words.now (k + c.in-Err.wrong)) at
     (c.loop-number.invariant.refuses c.in-Err.wrong
     (wrong_at (row_of c.args.command.now) c.loop-number.number c.loop-number.before.now c.loop-number.rest.now c.in-Err.wrong c.requires more
-    (subst (λ choices. pair_fault choices c.loop-number.before.now c.loop-number.rest.now ≡ Some c.in-Err.wrong) c.choices_at.ensures c.in-Err.ensures.fault)))
+    (subst (λ pair. pair_fault pair c.loop-number.before.now c.loop-number.rest.now ≡ Some c.in-Err.wrong) c.pair_at.ensures c.in-Err.ensures.wrong)))
 
 pub loop-number-preserved : goal.loop-number-preserved
 loop-number-preserved c =
     leads_on (row_of c.args.command.now) c.args.name.now c.args.words.now c.loop-number.number _ _ c.in-Ok.value.now c.in-Ok.behind.now
     c.loop-number.invariant
-    (subst (λ choices. pair_fault choices c.loop-number.before.now c.loop-number.rest.now ≡ None) c.choices_at.ensures c.in-Ok.ensures.fault)
+    (subst (λ pair. pair_fault pair c.loop-number.before.now c.loop-number.rest.now ≡ None) c.pair_at.ensures c.in-Ok.ensures.right)
     c.in-Ok.ensures.rest
