@@ -1,15 +1,16 @@
 -- What values of a form are read as, and a value of each form.
 use Rattle.std.proofs.Common.{◌≡◌, refl, ap, sym, ◌∙◌, ℕ, ◌+◌, ◌<◌, ◌≤◌, ℤ, List, [], ◌∷◌, Option, Some, None, Result, Ok, length, subst, arith, rules, Bool, true, false, cond, ◌&&◌}
-use Rattle.std.specs.Prelude.{IsTrue, pos, codes, int_le, is_some}
+use Rattle.std.specs.Prelude.{IsTrue, pos, codes, int_le, nat_le, is_some}
 use Rattle.std.proofs.Math.IntN.{+ℤ-neg_ℤ_cancel}
 use Rattle.std.proofs.lemmas.Bool.Decides.{nat_tests}
 use Rattle.std.proofs.lemmas.Int.{ints}
-use Rattle.std.specs.Str.{all_ascii_digits}
+use Rattle.std.specs.Char.{is_ascii_digit}
+use Rattle.std.specs.List.{list_all}
 use Rattle.std.specs.Str.Parse.{ParsesUnsigned}
 use Rattle.std.proofs.lemmas.Grind.{common_steps}
 use Rattle.std.proofs.lemmas.Option.{none-some, same_Some, option_and_then_some}
 use Rattle.std.proofs.lemmas.Str.Parse.{IsNumeralModel, numerals_by_fold, parse_gives, digits_value_short}
-use Rattle.gateway.specs.Forms.{is_filled, is_day, is_day_count, is_moment, beginning, decimal_number, going_on, ends_in_time}
+use Rattle.gateway.specs.Forms.{is_filled, is_day, is_day_count, is_moment, beginning, is_number, going_on, ends_in_time}
 use Rattle.gateway.specs.Tables.{CanBeMet}
 use Rattle.gateway.specs.declared.words.forms.TheConstants.{FIRST_DAY, LAST_DAY}
 use Rattle.service_day.specs.Digits.{has_form, two_at, four_at}
@@ -19,29 +20,6 @@ use Rattle.service_day.specs.declared.days.DayForm.TheVariants.{Dashed}
 use Rattle.service_day.specs.Utc.{utc_of, moment_if, moment_at, is_clock, seconds_at, utc_form, moment_text, IsMoment}
 use Rattle.service_day.proofs.DayTextLemmas.{dashed_day-dashed_text}
 use Rattle.service_day.proofs.UtcLemmas.{utc_of-moment_text}
-
--- the number that `parse` reads is the one that the digits spell
-
-own : IsNumeralModel (λ ds. all_ascii_digits ds ≡ true) (going_on 0)
-own = numerals_by_fold _ (search rules) going_on (search rules)
-
-pub number_parsed : {E : Type 0} (text : List ℕ) (r : Result ℕ E) → ParsesUnsigned 64 10 text r → all_ascii_digits text ≡ true
-    → 1 ≤ length text → length text ≤ 10 → r ≡ Ok (going_on 0 text)
-number_parsed text r h digits some short =
-    parse_gives own 64 text r h digits (omega arith) (omega (arith, digits_value_short own text 10 digits short))
-
-pub no_number_empty : (text : List ℕ) → length text ≡ 0 → None ≡ decimal_number text
-no_number_empty [] h = refl
-no_number_empty (c ∷ text) h = absurd (omega arith)
-
-pub no_number_long : (text : List ℕ) → 10 < length text → None ≡ decimal_number text
-no_number_long text h = grind (arith, nat_tests)
-
-pub no_number_other : (text : List ℕ) → all_ascii_digits text ≡ false → None ≡ decimal_number text
-no_number_other text h = rw h refl
-
-pub is_number : (text : List ℕ) → all_ascii_digits text ≡ true → 1 ≤ length text → length text ≤ 10 → Some (going_on 0 text) ≡ decimal_number text
-is_number text digits some short = grind (arith, nat_tests)
 
 -- parts of tests
 
@@ -56,6 +34,21 @@ both_left false b h = h
 pub both_right : (a b : Bool) → (a && b) ≡ true → b ≡ true
 both_right true b h = h
 both_right false b h = absurd cc
+
+-- the number that `parse` reads is the one that the digits spell
+
+own : IsNumeralModel (λ ds. list_all is_ascii_digit ds ≡ true) (going_on 0)
+own = numerals_by_fold _ (search rules) going_on (search rules)
+
+pub number_parsed : {E : Type 0} (text : List ℕ) (r : Result ℕ E) → ParsesUnsigned 64 10 text r → is_number text ≡ true → r ≡ Ok (going_on 0 text)
+number_parsed text r h is =
+    let digits : list_all is_ascii_digit text ≡ true = both_right (nat_le 1 (length text) && nat_le (length text) 10) _ is in
+    let within : (nat_le 1 (length text) && nat_le (length text) 10) ≡ true = both_left _ _ is in
+    let low : nat_le 1 (length text) ≡ true = both_left _ _ within in
+    let high : nat_le (length text) 10 ≡ true = both_right (nat_le 1 (length text)) _ within in
+    let some : 1 ≤ length text = grind (arith, nat_tests) in
+    let short : length text ≤ 10 = grind (arith, nat_tests) in
+    parse_gives own 64 text r h digits (omega arith) (omega (arith, digits_value_short own text 10 digits short))
 
 -- a day of a window is between the first and the last
 pub beginning_range : (word : List ℕ) (first : ℤ) → beginning word ≡ Some first → (int_le FIRST_DAY first && int_le first LAST_DAY) ≡ true

@@ -4,11 +4,11 @@ use Rattle.std.specs.Prelude.{IsTrue, IsSomeAnd, codes, int_le, is_some, nat_eq,
 use Rattle.std.specs.Cmp.Lexicographic.{pointwise, same_text}
 use Rattle.std.proofs.lemmas.Option.{none-some, same_Some, slice_get_read, slice_get_within}
 use Rattle.gateway.specs.Forms.{is_day, is_day_count, is_moment, beginning, day_count, ends_in_time}
-use Rattle.gateway.specs.Tables.{Choice, Form, choices_at, with_name, ArePairs, IsAccepted, AreSatisfiable}
-use Rattle.gateway.specs.Words.{flagged, to_gtfsrt, commands, ToGtfsrt, IsToGtfsrt, IsRefusedAt}
+use Rattle.gateway.specs.Tables.{with_name, ArePairs, IsAccepted, AreSatisfiable}
+use Rattle.gateway.specs.Words.{to_gtfsrt, commands, ToGtfsrt, IsToGtfsrt, IsRefusedAt}
 use Rattle.gateway.specs.declared.words.forms.TheConstants.{FIRST_DAY, LAST_DAY}
 use Rattle.gateway.proofs.FormLemmas.{filled_met, day_met, day_count_met, moment_met, beginning_range, both_left}
-use Rattle.gateway.proofs.TableLemmas.{PairOf, pair_of, double, all_pairs}
+use Rattle.gateway.proofs.TableLemmas.{HasPair, pair_of, double, all_pairs}
 use Rattle.service_day.specs.Utc.{utc_of}
 
 -- each pair of the table has a flag, and its form can be met
@@ -17,8 +17,10 @@ unfolding commands to_gtfsrt
 satisfiable = record {
   some = omega arith;
   each = (record {
-    pairs = ((filled_met, tt), ((filled_met, tt), ((day_met, tt), ((day_count_met, tt), ((moment_met, tt), ((filled_met, tt), tt))))));
-    repeated = tt;
+    pairs =
+        ((omega arith, filled_met), ((omega arith, filled_met), ((omega arith, day_met), ((omega arith, day_count_met), ((omega arith, moment_met),
+        ((omega arith, filled_met), tt))))));
+    repeated = filled_met;
   }, tt);
 }
 
@@ -37,15 +39,6 @@ pairs_of : (name : List ℕ) (words : List (List ℕ)) → IsAccepted commands (
 unfolding commands to_gtfsrt
 pairs_of name words is e = subst (λ n. IsSomeAnd (with_name commands n) (λ command. ArePairs command 0 name words)) (same_Some _ _ e) is
 
--- the value behind a flag has its form
-form_met : (flag : List ℕ) (form : Form) (words : List (List ℕ)) (n : ℕ) (pair : PairOf (flagged flag form) words n) → IsTrue (form pair.before pair.value)
-form_met flag form words n pair = by (pointwise nat_eq flag pair.flag) pair.is
-  where
-    by : (b : Bool) → IsSomeAnd {T = Choice} (cond b (Some (record { flag = flag; form = form })) None) (λ choice. IsTrue (choice.form pair.before pair.value))
-        → IsTrue (form pair.before pair.value)
-    by true h = h
-    by false h = absurd h
-
 some_of : {A : Type 0} (o : Option A) → is_some o ≡ true → (x : A) × (o ≡ Some x)
 some_of None h = absurd cc
 some_of (Some x) h = (x, refl)
@@ -61,23 +54,25 @@ read [] is = absurd is
 read (name ∷ words) is =
     let named = named_by (name ∷ words) is in
     let pairs = pairs_of name words is named in
-    let gtfs = pair_of to_gtfsrt 0 0 0 name words refl (omega arith) pairs in
-    let rule = pair_of to_gtfsrt 1 1 0 name words refl (omega arith) pairs in
-    let from = pair_of to_gtfsrt 2 2 0 name words refl (omega arith) pairs in
-    let days = pair_of to_gtfsrt 3 3 0 name words refl (omega arith) pairs in
-    let at = pair_of to_gtfsrt 4 4 0 name words refl (omega arith) pairs in
-    let first = some_of (beginning from.value) (form_met _ is_day _ _ from) in
-    let count = counted (beginning days.before) (day_count days.value) (form_met _ is_day_count _ _ days) in
-    let second = some_of (utc_of at.value) (form_met _ is_moment _ _ at) in
-    (record { gtfs = gtfs.value; rule = rule.value; from = first.0; days = count.0; at = second.0; more = drop 11 (name ∷ words) },
+    let pair : (k : ℕ) → k < 6 → HasPair to_gtfsrt k (name ∷ words) (double k) =
+        λ k below. pair_of to_gtfsrt k k 0 name words (omega arith) below pairs in
+    let gtfs = pair 0 (omega arith) in
+    let rule = pair 1 (omega arith) in
+    let from = pair 2 (omega arith) in
+    let days = pair 3 (omega arith) in
+    let at = pair 4 (omega arith) in
+    let first = some_of (beginning from.1) from.4 in
+    let count = counted (beginning days.0) (day_count days.1) days.4 in
+    let second = some_of (utc_of at.1) at.4 in
+    (record { gtfs = gtfs.1; rule = rule.1; from = first.0; days = count.0; at = second.0; more = drop 11 (name ∷ words) },
     record {
       accepted = is;
       name = named;
-      gtfs = gtfs.value_is;
-      rule = rule.value_is;
-      from = ap (option_and_then beginning) from.value_is ∙ first.1;
-      days = ap (option_and_then day_count) days.value_is ∙ count.1;
-      at = ap (option_and_then utc_of) at.value_is ∙ second.1;
+      gtfs = gtfs.3;
+      rule = rule.3;
+      from = ap (option_and_then beginning) from.3 ∙ first.1;
+      days = ap (option_and_then day_count) days.3 ∙ count.1;
+      at = ap (option_and_then utc_of) at.3 ∙ second.1;
       more = refl;
     })
 
@@ -98,10 +93,9 @@ unfolding to_gtfsrt
 windowed [] command is = absurd is.accepted
 windowed (name ∷ words) command is =
     let days = pair_of to_gtfsrt 3 3 0 name words refl (omega arith) (pairs_of name words is.accepted is.name) in
-    let first : beginning days.before ≡ Some command.from = sym (ap (option_and_then beginning) days.before_is) ∙ is.from in
-    let count : day_count days.value ≡ Some command.days = sym (ap (option_and_then day_count) days.value_is) ∙ is.days in
-    let window : ends_in_time (beginning days.before) (day_count days.value) ≡ true = form_met _ is_day_count _ _ days in
-    (both_left _ _ (beginning_range days.before command.from first), rw (first, count) at window)
+    let first : beginning days.0 ≡ Some command.from = sym (ap (option_and_then beginning) days.2) ∙ is.from in
+    let count : day_count days.1 ≡ Some command.days = sym (ap (option_and_then day_count) days.3) ∙ is.days in
+    (both_left _ _ (beginning_range days.0 command.from first), rw (first, count) at days.4)
 
 -- its deliveries are one pair
 pub one_delivery : (words : List (List ℕ)) (command : ToGtfsrt) → IsToGtfsrt words command → length (drop 11 words) ≡ 2

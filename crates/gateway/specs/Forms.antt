@@ -1,8 +1,9 @@
 -- The forms of values, and what a value of a form is read as.
 use Rattle.std.specs.Prelude.{◌&&◌, ◌+◌, ◌-◌, ◌*◌, ℕ, ℤ, Bool, true, false, pos, ◌+ℤ◌, ◌-ℤ◌, int_le, nat_le, List, [], ◌∷◌, length, Option, Some, None, is_some, option_and_then, if◌then◌else◌}
-use Rattle.std.specs.Str.{all_ascii_digits}
+use Rattle.std.specs.Char.{is_ascii_digit}
+use Rattle.std.specs.List.{list_all}
 use Rattle.gateway.specs.Tables.{Form}
-use Rattle.gateway.specs.declared.words.forms.TheConstants.{FIRST_DAY, LAST_DAY, MOST_DAYS}
+use Rattle.gateway.specs.declared.words.forms.TheConstants.{FIRST_DAY, LAST_DAY, MOST_DAYS, MOST_DIGITS}
 use Rattle.service_day.specs.DayTexts.{day_of}
 use Rattle.service_day.specs.Utc.{utc_of}
 use Rattle.service_day.specs.declared.days.DayForm.TheVariants.{Dashed}
@@ -12,9 +13,11 @@ abbrev pub going_on : ℕ → List ℕ → ℕ
 going_on number [] = number
 going_on number (digit ∷ digits) = going_on (10 * number + (digit - 48)) digits
 
+abbrev pub is_number : List ℕ → Bool
+is_number text = nat_le 1 (length text) && nat_le (length text) MOST_DIGITS && list_all is_ascii_digit text
+
 abbrev pub decimal_number : List ℕ → Option ℕ
-decimal_number text =
-    if all_ascii_digits text && nat_le 1 (length text) && nat_le (length text) 10 then Some (going_on 0 text) else None
+decimal_number text = if is_number text then Some (going_on 0 text) else None
 
 -- a day that a window may begin with, which like its last one lies between 1971-01-01 and 9997-12-31
 abbrev pub beginning : List ℕ → Option ℤ

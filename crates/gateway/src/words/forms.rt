@@ -1,6 +1,7 @@
 //! The forms of values, and what a value of a form is read as.
 ghost use Rattle.std.specs.Prelude.{◌≡◌, Some};
-ghost use Rattle.std.specs.Str.{all_ascii_digits};
+ghost use Rattle.std.specs.Char.{is_ascii_digit};
+ghost use Rattle.std.specs.List.{list_all};
 ghost use Rattle.gateway.specs.Forms as spec;
 ghost use Rattle.gateway.specs.Forms.{beginning, decimal_number};
 ghost use Rattle.gateway.specs.Rows.{form_of};
@@ -17,6 +18,9 @@ pub const LAST_DAY: i32 = 2_932_166;
 
 /// The most days that a window may have.
 pub const MOST_DAYS: u64 = 32;
+
+/// The most digits of a number.
+pub const MOST_DIGITS: usize = 10;
 
 /// The form of the value behind a flag.
 #[derive(Clone, Copy, Debug, PartialEq, Eq)]
@@ -45,20 +49,28 @@ pub fn first_day(word: &Text) -> Option<Day>
 
 // Each character is an ASCII digit.
 fn is_digits(text: &str) -> bool
-    ensures { result ≡ all_ascii_digits text.now }
+    ensures { result ≡ list_all is_ascii_digit text.now }
 {
     text.as_bytes().iter().all(|digit| digit.is_ascii_digit())
 }
 
-// The value of a word that is a number in 1 to 10 decimal digits.
+// A number in 1 to 10 decimal digits.
+fn is_number(text: &str) -> bool
+    ensures { result ≡ spec.is_number text.now }
+{
+    !text.is_empty() && text.len() <= MOST_DIGITS && is_digits(text)
+}
+
+// The value of a word that is a number.
 fn number(word: &Text) -> Option<u64>
     ensures { result ≡ decimal_number word.now }
 {
     let text = word.as_str();
-    if text.is_empty() || 10 < text.len() || !is_digits(text) {
-        return None;
+    if is_number(text) {
+        text.parse::<u64>().ok()
+    } else {
+        None
     }
-    text.parse::<u64>().ok()
 }
 
 /// The value of a word that is a number of days from 1 to 32.
