@@ -1,6 +1,6 @@
 -- Words that are right so far start an accepted list, and a wrong word ends that: proved once, of any table.
 use Rattle.std.proofs.Common.{◌≡◌, ◌≢◌, ◌⊎◌, inl, inr, refl, ap, sym, subst, ◌∙◌, ℕ, zero, suc, ◌+◌, ◌<◌, ◌≤◌, List, [], ◌∷◌, ◌++◌, Option, Some, None, length, take, drop, get_or, slice_get, map, arith, Bool, true, false, cond, add-one}
-use Rattle.std.specs.Prelude.{IsTrue, IsSomeAnd, nat_eq, find}
+use Rattle.std.specs.Prelude.{IsTrue, IsSomeAnd, IfSome, MatchBool, nat_eq, find}
 use Rattle.std.specs.Cmp.Lexicographic.{pointwise}
 use Rattle.std.specs.List.{AllByRecursion, list_any}
 use Rattle.std.specs.Option.{option_map}
@@ -8,7 +8,7 @@ use Rattle.std.proofs.Math.ListN.{get_or-eq_default}
 use Rattle.std.proofs.lemmas.Bool.{cases_lt, false≢true}
 use Rattle.std.proofs.lemmas.Cmp.{nat_list_eq_equiv}
 use Rattle.std.proofs.lemmas.Option.{none-some, same_Some}
-use Rattle.gateway.specs.Pairs.{value_fault, pair_fault}
+use Rattle.gateway.specs.Pairs.{HasNoValue, IsWrongAt}
 use Rattle.gateway.specs.Tables.{Form, Pair, Command, is_flag, with_name, pair_at, ArePairs, IsAccepted, IsStart, StopsAt, CanBeMet, CanStand, IsSatisfiable, AreSatisfiable}
 
 abbrev Words : Type 0
@@ -110,29 +110,20 @@ leads_all command name words = record {
   refuses = λ n stops. subst (λ k. StopsAt (ArePairs command 0 name) words k) (omega arith) stops;
 }
 
-right_pair : (pair : Pair) (before flag value : List ℕ) (rest : Words) → pair_fault pair before (flag ∷ value ∷ rest) ≡ None
-    → IsTrue (is_flag pair flag) × IsTrue (pair.form before value)
-right_pair pair before flag value rest h = by (is_flag pair flag) (pair.form before value) h
-  where
-    by : (known met : Bool) → cond {A = Option ℕ} known (cond met None (Some 1)) (Some 0) ≡ None → (known ≡ true) × (met ≡ true)
-    by true true e = (refl, refl)
-    by true false e = absurd cc
-    by false met e = absurd cc
-
 pub leads_on : (command : Command) (name : List ℕ) (words : Words) (number : ℕ) (before : List ℕ) (left : Words) (value : List ℕ) (rest : Words)
-    → Leads command name words number before left → pair_fault (pair_at command number) before left ≡ None → drop 1 left ≡ value ∷ rest
+    → Leads command name words number before left → IfSome (slice_get left 0) (λ flag. IsTrue (is_flag (pair_at command number) flag)) → IsTrue ((pair_at command number).form before value)
+    → drop 1 left ≡ value ∷ rest
     → Leads command name words (number + 1) value rest
-leads_on command name words number before [] value rest leads h e = absurd cc
-leads_on command name words number before (flag ∷ left) value rest leads h e =
-    let is = right_pair (pair_at command number) before flag value rest (rw e at h) in
+leads_on command name words number before [] value rest leads known met e = absurd cc
+leads_on command name words number before (flag ∷ left) value rest leads known met e =
     record {
       at = leads.at + 2;
       counted = omega (arith, leads.counted, ap length e);
       passed = omega (arith, leads.passed);
-      accepts = λ pairs. leads.accepts (rw e (is.0, is.1, pairs));
+      accepts = λ pairs. leads.accepts (rw e (known, met, pairs));
       refuses = λ n stops.
           let Flagged : Words → Type 0 = λ ws. ArePairs command number before (flag ∷ ws) in
-          let behind : StopsAt Flagged (value ∷ rest) (suc n) = stops_behind Flagged _ value rest n (λ ws pairs. (is.0, is.1, pairs)) (λ ws pairs. pairs.2) stops in
+          let behind : StopsAt Flagged (value ∷ rest) (suc n) = stops_behind Flagged _ value rest n (λ ws pairs. (known, met, pairs)) (λ ws pairs. pairs.2) stops in
           let all : StopsAt (ArePairs command number before) (flag ∷ left) (suc (suc n)) =
               rw e (stops_behind (ArePairs command number before) Flagged flag (value ∷ rest) (suc n) (λ ws h. h) (λ ws h. h) behind) in
           subst (λ k. StopsAt (ArePairs command 0 name) words k) (omega arith) (leads.refuses (suc (suc n)) all);
@@ -148,41 +139,33 @@ no_flag command number before flag none (word ∷ value ∷ words) pairs e =
     let same : is_flag (pair_at command number) flag ≡ true = ap (is_flag (pair_at command number)) (sym (same_Some _ _ e)) ∙ pairs.0 in
     absurd cc
 
-no_value : (command : Command) (number : ℕ) (before flag : List ℕ) (bad : ℕ) (left : Words) → value_fault (pair_at command number).form before left ≡ Some bad
+no_value : (command : Command) (number : ℕ) (before flag : List ℕ) (left : Words) → HasNoValue (pair_at command number).form before left
     → (other : Words) → ArePairs command number before (flag ∷ other) → slice_get other 0 ≢ slice_get left 0
-no_value command number before flag bad left h [] pairs e = pairs
-no_value command number before flag bad [] h (value ∷ words) pairs e = cc
-no_value command number before flag bad (word ∷ left) h (value ∷ words) pairs e =
+no_value command number before flag left h [] pairs e = pairs
+no_value command number before flag [] h (value ∷ words) pairs e = cc
+no_value command number before flag (word ∷ left) h (value ∷ words) pairs e =
     let same : (pair_at command number).form before word ≡ true = ap ((pair_at command number).form before) (sym (same_Some _ _ e)) ∙ pairs.1 in
-    none-some bad (rw same at h)
-
-behind_flag : (form : Form) (before : List ℕ) (left : Words) (bad : ℕ) → value_fault form before left ≡ Some bad → bad ≡ 1
-behind_flag form before [] bad h = sym (same_Some 1 bad h)
-behind_flag form before (value ∷ left) bad h = by (form before value) h
-  where
-    by : (b : Bool) → cond {A = Option ℕ} b None (Some 1) ≡ Some bad → bad ≡ 1
-    by true e = absurd cc
-    by false e = sym (same_Some 1 bad e)
+    absurd cc
 
 pub wrong_at : (command : Command) (number : ℕ) (before : List ℕ) (left : Words) (bad : ℕ) → IsSatisfiable command
-    → (number < length command.pairs) ⊎ (0 < length left) → pair_fault (pair_at command number) before left ≡ Some bad
+    → (number < length command.pairs) ⊎ (0 < length left) → IsWrongAt (pair_at command number) before left bad
     → StopsAt (ArePairs command number before) left bad
-wrong_at command number before [] bad met more h = rw (sym (same_Some 0 bad h)) (stops_here _ [] (can_end command met number before) other)
+wrong_at command number before [] bad met more h = rw h (stops_here _ [] (can_end command met number before) other)
   where
     other : (other : Words) → ArePairs command number before other → slice_get other 0 ≢ None
     other [] pairs e = elim more [ inl below ↦ omega arith | inr some ↦ omega arith ]
     other (word ∷ words) pairs e = cc
 wrong_at command number before (flag ∷ left) bad met more h = by (is_flag (pair_at command number) flag) refl h
   where
-    by : (b : Bool) → is_flag (pair_at command number) flag ≡ b → cond b (value_fault (pair_at command number).form before left) (Some 0) ≡ Some bad
+    by : (b : Bool) → is_flag (pair_at command number) flag ≡ b → MatchBool b (HasNoValue (pair_at command number).form before left × (bad ≡ 1)) (bad ≡ 0)
         → StopsAt (ArePairs command number before) (flag ∷ left) bad
-    by false e h = rw (sym (same_Some 0 bad h)) (stops_here _ (flag ∷ left) (can_end command met number before) (no_flag command number before flag e))
+    by false e h = rw h (stops_here _ (flag ∷ left) (can_end command met number before) (no_flag command number before flag e))
     by true e h =
         let Flagged : Words → Type 0 = λ ws. ArePairs command number before (flag ∷ ws) in
         let value = value_at command met number before in
         let rest = can_end command met (number + 1) value.0 in
-        rw (behind_flag (pair_at command number).form before left bad h) (stops_behind (ArePairs command number before) Flagged flag left 0 (λ ws h. h) (λ ws h. h)
-        (stops_here Flagged left (value.0 ∷ rest.0, (e, value.1, rest.1)) (no_value command number before flag bad left h)))
+        rw h.1 (stops_behind (ArePairs command number before) Flagged flag left 0 (λ ws h. h) (λ ws h. h)
+        (stops_here Flagged left (value.0 ∷ rest.0, (e, value.1, rest.1)) (no_value command number before flag left h.0)))
 
 -- a list of words is refused at its name, or behind it
 

@@ -1,11 +1,11 @@
--- Where a list of words that is to begin with a pair goes wrong: at the value of its form, or before it at its flag.
-use Rattle.std.specs.Prelude.{ℕ, List, [], ◌∷◌, Option, Some, None, if◌then◌else◌}
+-- Where a list of words that is to begin with a pair goes wrong: at its flag, or at the value behind it.
+use Rattle.std.specs.Prelude.{◌≡◌, ℕ, false, MatchBool, List, [], ◌∷◌}
 use Rattle.gateway.specs.Tables.{Form, Pair, is_flag}
 
-abbrev pub value_fault : Form → List ℕ → List (List ℕ) → Option ℕ
-value_fault form before [] = Some 1
-value_fault form before (value ∷ words) = if form before value then None else Some 1
+abbrev pub HasNoValue : Form → List ℕ → List (List ℕ) → Type 0
+HasNoValue form before [] = Unit {0}
+HasNoValue form before (value ∷ words) = form before value ≡ false
 
-abbrev pub pair_fault : Pair → List ℕ → List (List ℕ) → Option ℕ
-pair_fault pair before [] = Some 0
-pair_fault pair before (flag ∷ words) = if is_flag pair flag then value_fault pair.form before words else Some 0
+abbrev pub IsWrongAt : Pair → List ℕ → List (List ℕ) → ℕ → Type 0
+IsWrongAt pair before [] at = at ≡ 0
+IsWrongAt pair before (flag ∷ words) at = MatchBool (is_flag pair flag) (HasNoValue pair.form before words × (at ≡ 1)) (at ≡ 0)

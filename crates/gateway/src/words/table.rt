@@ -1,8 +1,8 @@
 //! Commands as tables of pairs of words, and the place at which words stop being the start of a command.
-ghost use Rattle.std.specs.Prelude.{◌≡◌, ◌≤◌, ◌∷◌, map, drop, length, IfOk, IfErr, MatchOption, None, Some};
+ghost use Rattle.std.specs.Prelude.{◌≡◌, ◌≤◌, ◌∷◌, map, drop, length, IfOk, IfErr, IfSome, IsTrue, MatchOption, slice_get};
 ghost use Rattle.std.specs.Option.{option_map, option_copied};
-ghost use Rattle.gateway.specs.Pairs.{pair_fault};
-ghost use Rattle.gateway.specs.Rows.{pair_of, row_of};
+ghost use Rattle.gateway.specs.Pairs.{IsWrongAt};
+ghost use Rattle.gateway.specs.Rows.{form_of, pair_of, row_of};
 ghost use Rattle.gateway.specs.Tables as spec;
 ghost use Rattle.gateway.specs.Tables.{ArePairs, IsAccepted, AreSatisfiable, IsSatisfiable, StopsAt, with_name};
 
@@ -60,9 +60,10 @@ fn split_pair<'a>(
     before: &Text,
     words: &'a [Text],
 ) -> Result<(&'a Text, &'a [Text]), usize>
-    ensures right { IfOk result (λ _. pair_fault (pair_of pair.now) before.now words.now ≡ None) }
+    ensures flag { IfOk result (λ _. IfSome (slice_get words.now 0) (λ flag. IsTrue (spec.is_flag (pair_of pair.now) flag))) }
+    ensures value { IfOk result (λ parts. IsTrue (form_of pair.now.form before.now parts.0.now)) }
     ensures rest { IfOk result (λ parts. drop 1 words.now ≡ parts.0.now ∷ parts.1.now) }
-    ensures wrong { IfErr result (λ at. pair_fault (pair_of pair.now) before.now words.now ≡ Some at) }
+    ensures wrong { IfErr result (λ at. IsWrongAt (pair_of pair.now) before.now words.now at) }
     ensures within { IfErr result (λ at. at ≤ length words.now) }
 {
     let Some((flag, behind)) = words.split_first() else {

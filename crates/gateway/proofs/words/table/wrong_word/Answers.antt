@@ -1,9 +1,10 @@
-use Rattle.std.proofs.Common.{◌≡◌, ◌⊎◌, ◌<◌, ◌+◌, ◌-◌, inl, inr, subst, length, map, None, Some, arith}
+use Rattle.std.proofs.Common.{◌≡◌, ◌⊎◌, ◌<◌, ◌+◌, ◌-◌, inl, inr, subst, length, slice_get, arith}
+use Rattle.std.specs.Prelude.{IfSome, IsTrue}
 use Rattle.std.proofs.lemmas.Grind.{common_steps}
 use Rattle.std.proofs.lemmas.List.{length-map}
-use Rattle.gateway.specs.Pairs.{pair_fault}
+use Rattle.gateway.specs.Pairs.{IsWrongAt}
 use Rattle.gateway.specs.Rows.{row_of}
-use Rattle.gateway.specs.Tables.{ArePairs, StopsAt}
+use Rattle.gateway.specs.Tables.{ArePairs, StopsAt, is_flag}
 use Rattle.gateway.proofs.TableLemmas.{leads_on, wrong_at}
 use Rattle.gateway.proofs.words.table.wrong_word.Goals as goal
 use Rattle.gateway.proofs.words.table.wrong_word.Goals.{then-number-command, else-number-command+then-not-is_empty}
@@ -19,11 +20,12 @@ returns-in-Err c =
     subst (λ k. StopsAt (ArePairs (row_of c.args.command.now) 0 c.args.name.now) c.args.words.now (k + c.in-Err.wrong)) at
     (c.loop-number.invariant.refuses c.in-Err.wrong
     (wrong_at (row_of c.args.command.now) c.loop-number.number c.loop-number.before.now c.loop-number.rest.now c.in-Err.wrong c.requires more
-    (subst (λ pair. pair_fault pair c.loop-number.before.now c.loop-number.rest.now ≡ Some c.in-Err.wrong) c.pair_at.ensures c.in-Err.ensures.wrong)))
+    (subst (λ pair. IsWrongAt pair c.loop-number.before.now c.loop-number.rest.now c.in-Err.wrong) c.pair_at.ensures c.in-Err.ensures.wrong)))
 
 pub loop-number-preserved : goal.loop-number-preserved
 loop-number-preserved c =
     leads_on (row_of c.args.command.now) c.args.name.now c.args.words.now c.loop-number.number _ _ c.in-Ok.value.now c.in-Ok.behind.now
     c.loop-number.invariant
-    (subst (λ pair. pair_fault pair c.loop-number.before.now c.loop-number.rest.now ≡ None) c.pair_at.ensures c.in-Ok.ensures.right)
+    (subst (λ pair. IfSome (slice_get c.loop-number.rest.now 0) (λ flag. IsTrue (is_flag pair flag))) c.pair_at.ensures c.in-Ok.ensures.flag)
+    (subst (λ pair. IsTrue (pair.form c.loop-number.before.now c.in-Ok.value.now)) c.pair_at.ensures c.in-Ok.ensures.value)
     c.in-Ok.ensures.rest
