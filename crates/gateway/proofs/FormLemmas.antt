@@ -1,23 +1,19 @@
 -- What values of a form are read as, and a value of each form.
-use Rattle.std.proofs.Common.{◌≡◌, refl, ap, sym, ◌∙◌, ℕ, ◌+◌, ◌<◌, ◌≤◌, ℤ, List, [], ◌∷◌, Option, Some, None, Result, Ok, length, subst, arith, rules, Bool, true, false, cond, ◌&&◌}
-use Rattle.std.specs.Prelude.{IsTrue, pos, codes, int_le, nat_le, is_some}
+use Rattle.std.proofs.Common.{◌≡◌, refl, ℕ, ◌≤◌, ℤ, List, Option, Some, None, Result, Ok, length, subst, arith, rules, Bool, true, false, cond, ◌&&◌}
+use Rattle.std.specs.Prelude.{IsTrue, pos, codes, int_le, nat_le}
 use Rattle.std.proofs.Math.IntN.{+ℤ-neg_ℤ_cancel}
 use Rattle.std.proofs.lemmas.Bool.Decides.{nat_tests}
-use Rattle.std.proofs.lemmas.Int.{ints}
 use Rattle.std.specs.Char.{is_ascii_digit}
 use Rattle.std.specs.List.{list_all}
 use Rattle.std.specs.Str.Parse.{ParsesUnsigned}
-use Rattle.std.proofs.lemmas.Grind.{common_steps}
 use Rattle.std.proofs.lemmas.Option.{none-some, same_Some, option_and_then_some}
 use Rattle.std.proofs.lemmas.Str.Parse.{IsNumeralModel, numerals_by_fold, parse_gives, digits_value_short}
 use Rattle.gateway.specs.Forms.{is_filled, is_day, is_day_count, is_moment, beginning, is_number, going_on, ends_in_time}
 use Rattle.gateway.specs.Tables.{CanBeMet}
 use Rattle.gateway.specs.declared.words.forms.TheConstants.{FIRST_DAY, LAST_DAY}
-use Rattle.service_day.specs.Digits.{has_form, two_at, four_at}
-use Rattle.service_day.specs.Days.{date_number}
-use Rattle.service_day.specs.DayTexts.{day_of, dashed_day, dashed_text}
+use Rattle.service_day.specs.DayTexts.{day_of, dashed_text}
 use Rattle.service_day.specs.declared.days.DayForm.TheVariants.{Dashed}
-use Rattle.service_day.specs.Utc.{utc_of, moment_if, moment_at, is_clock, seconds_at, utc_form, moment_text, IsMoment}
+use Rattle.service_day.specs.Utc.{moment_text}
 use Rattle.service_day.proofs.DayTextLemmas.{dashed_day-dashed_text}
 use Rattle.service_day.proofs.UtcLemmas.{utc_of-moment_text}
 

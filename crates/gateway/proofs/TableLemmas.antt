@@ -1,6 +1,6 @@
 -- Words that are right so far start an accepted list, and a wrong word ends that: proved once, of any table.
-use Rattle.std.proofs.Common.{◌≡◌, ◌≢◌, ◌⊎◌, inl, inr, refl, ap, sym, subst, ◌∙◌, ℕ, zero, suc, ◌+◌, ◌<◌, ◌≤◌, List, [], ◌∷◌, ◌++◌, Option, Some, None, length, take, drop, get_or, slice_get, map, arith, Bool, true, false, cond, add-one}
-use Rattle.std.specs.Prelude.{IsTrue, IsSomeAnd, IfSome, MatchBool, nat_eq, find}
+use Rattle.std.proofs.Common.{◌≡◌, ◌≢◌, ◌⊎◌, inl, inr, refl, ap, sym, subst, ◌∙◌, ℕ, zero, suc, ◌+◌, ◌<◌, ◌≤◌, List, [], ◌∷◌, Some, None, length, take, drop, get_or, slice_get, map, arith, Bool, true, false, cond, add-one}
+use Rattle.std.specs.Prelude.{IsTrue, IfSome, MatchBool, nat_eq, find}
 use Rattle.std.specs.Cmp.Lexicographic.{pointwise}
 use Rattle.std.specs.List.{AllByRecursion, list_any}
 use Rattle.std.specs.Option.{option_map}
@@ -9,7 +9,7 @@ use Rattle.std.proofs.lemmas.Bool.{cases_lt, false≢true}
 use Rattle.std.proofs.lemmas.Cmp.{nat_list_eq_equiv}
 use Rattle.std.proofs.lemmas.Option.{none-some, same_Some}
 use Rattle.gateway.specs.Pairs.{HasNoValue, IsWrongAt}
-use Rattle.gateway.specs.Tables.{Form, Pair, Command, is_flag, with_name, pair_at, ArePairs, IsAccepted, IsStart, StopsAt, CanBeMet, CanStand, IsSatisfiable, AreSatisfiable}
+use Rattle.gateway.specs.Tables.{Pair, Command, is_flag, with_name, pair_at, ArePairs, IsAccepted, IsStart, StopsAt, CanBeMet, CanStand, IsSatisfiable, AreSatisfiable}
 
 abbrev Words : Type 0
 Words = List (List ℕ)
@@ -59,10 +59,10 @@ completed command met (suc n) k before h =
     elim (cases_lt k (length command.pairs)) [
       | inr all ↦ ([], all)
       | inl below ↦
-        let flag = flag_at command.pairs command.repeated k met.pairs below in
-        let value = value_at command met k before in
-        let rest = completed command met n (k + 1) value.0 (omega arith) in
-        (flag.0 ∷ value.0 ∷ rest.0, (flag.1, value.1, rest.1))
+          let flag = flag_at command.pairs command.repeated k met.pairs below in
+          let value = value_at command met k before in
+          let rest = completed command met n (k + 1) value.0 (omega arith) in
+          (flag.0 ∷ value.0 ∷ rest.0, (flag.1, value.1, rest.1))
     ]
 
 can_end : (command : Command) → IsSatisfiable command → (k : ℕ) (before : List ℕ) → IsStart (ArePairs command k before) []
@@ -125,7 +125,7 @@ leads_on command name words number before (flag ∷ left) value rest leads known
           let Flagged : Words → Type 0 = λ ws. ArePairs command number before (flag ∷ ws) in
           let behind : StopsAt Flagged (value ∷ rest) (suc n) = stops_behind Flagged _ value rest n (λ ws pairs. (known, met, pairs)) (λ ws pairs. pairs.2) stops in
           let all : StopsAt (ArePairs command number before) (flag ∷ left) (suc (suc n)) =
-              rw e (stops_behind (ArePairs command number before) Flagged flag (value ∷ rest) (suc n) (λ ws h. h) (λ ws h. h) behind) in
+          rw e (stops_behind (ArePairs command number before) Flagged flag (value ∷ rest) (suc n) (λ ws h. h) (λ ws h. h) behind) in
           subst (λ k. StopsAt (ArePairs command 0 name) words k) (omega arith) (leads.refuses (suc (suc n)) all);
     }
 

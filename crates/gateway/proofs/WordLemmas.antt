@@ -1,11 +1,11 @@
 -- What the words of an accepted list say.
 use Rattle.std.proofs.Common.{◌≡◌, refl, ap, sym, ◌∙◌, ℕ, ◌<◌, ℤ, List, [], ◌∷◌, Option, Some, None, length, drop, get_or, slice_get, subst, arith, Bool, true, false, cond, length-drop}
-use Rattle.std.specs.Prelude.{IsTrue, IsSomeAnd, codes, int_le, is_some, nat_eq, option_and_then, pos, ◌+ℤ◌, ◌-ℤ◌}
+use Rattle.std.specs.Prelude.{IsSomeAnd, codes, int_le, is_some, nat_eq, option_and_then, pos, ◌+ℤ◌, ◌-ℤ◌}
 use Rattle.std.specs.Cmp.Lexicographic.{pointwise, same_text}
 use Rattle.std.proofs.lemmas.Option.{none-some, same_Some, slice_get_read, slice_get_within}
-use Rattle.gateway.specs.Forms.{is_day, is_day_count, is_moment, beginning, day_count, ends_in_time}
+use Rattle.gateway.specs.Forms.{beginning, day_count, ends_in_time}
 use Rattle.gateway.specs.Tables.{with_name, ArePairs, IsAccepted, AreSatisfiable}
-use Rattle.gateway.specs.Words.{to_gtfsrt, commands, ToGtfsrt, IsToGtfsrt, IsRefusedAt}
+use Rattle.gateway.specs.Words.{to_gtfsrt, commands, ToGtfsrt, IsToGtfsrt}
 use Rattle.gateway.specs.declared.words.forms.TheConstants.{FIRST_DAY, LAST_DAY}
 use Rattle.gateway.proofs.FormLemmas.{filled_met, day_met, day_count_met, moment_met, beginning_range, both_left}
 use Rattle.gateway.proofs.TableLemmas.{HasPair, pair_of, double, all_pairs}
@@ -16,12 +16,28 @@ pub satisfiable : AreSatisfiable commands
 unfolding commands to_gtfsrt
 satisfiable = record {
   some = omega arith;
-  each = (record {
-    pairs =
-        ((omega arith, filled_met), ((omega arith, filled_met), ((omega arith, day_met), ((omega arith, day_count_met), ((omega arith, moment_met),
-        ((omega arith, filled_met), tt))))));
-    repeated = filled_met;
-  }, tt);
+  each = (
+    record {
+      pairs = (
+        (omega arith, filled_met),
+        (
+          (omega arith, filled_met),
+          (
+            (omega arith, day_met),
+            (
+              (omega arith, day_count_met),
+              (
+                (omega arith, moment_met),
+                ((omega arith, filled_met), tt),
+              ),
+            ),
+          ),
+        ),
+      );
+      repeated = filled_met;
+    },
+    tt,
+  );
 }
 
 -- which command an accepted list is
@@ -55,7 +71,7 @@ read (name ∷ words) is =
     let named = named_by (name ∷ words) is in
     let pairs = pairs_of name words is named in
     let pair : (k : ℕ) → k < 6 → HasPair to_gtfsrt k (name ∷ words) (double k) =
-        λ k below. pair_of to_gtfsrt k k 0 name words (omega arith) below pairs in
+    λ k below. pair_of to_gtfsrt k k 0 name words (omega arith) below pairs in
     let gtfs = pair 0 (omega arith) in
     let rule = pair 1 (omega arith) in
     let from = pair 2 (omega arith) in
@@ -63,18 +79,19 @@ read (name ∷ words) is =
     let at = pair 4 (omega arith) in
     let first = some_of (beginning from.1) from.4 in
     let count = counted (beginning days.0) (day_count days.1) days.4 in
-    let second = some_of (utc_of at.1) at.4 in
-    (record { gtfs = gtfs.1; rule = rule.1; from = first.0; days = count.0; at = second.0; more = drop 11 (name ∷ words) },
-    record {
-      accepted = is;
-      name = named;
-      gtfs = gtfs.3;
-      rule = rule.3;
-      from = ap (option_and_then beginning) from.3 ∙ first.1;
-      days = ap (option_and_then day_count) days.3 ∙ count.1;
-      at = ap (option_and_then utc_of) at.3 ∙ second.1;
-      more = refl;
-    })
+    let second = some_of (utc_of at.1) at.4 in (
+      record { gtfs = gtfs.1; rule = rule.1; from = first.0; days = count.0; at = second.0; more = drop 11 (name ∷ words) },
+      record {
+        accepted = is;
+        name = named;
+        gtfs = gtfs.3;
+        rule = rule.3;
+        from = ap (option_and_then beginning) from.3 ∙ first.1;
+        days = ap (option_and_then day_count) days.3 ∙ count.1;
+        at = ap (option_and_then utc_of) at.3 ∙ second.1;
+        more = refl;
+      },
+    )
 
 -- what is read at a place where a value is known to be is the value
 pub read_at : {A : Type 0} (f : List ℕ → Option A) (words : List (List ℕ)) (k : ℕ) (known value : A) (word : List ℕ)

@@ -8,13 +8,13 @@ unfoldable pub to_gtfsrt : Command
 to_gtfsrt = record {
   name = codes "to-gtfsrt";
   pairs =
-    record { flags = codes "--gtfs" ∷ []; form = is_filled }
-    ∷ record { flags = codes "--zone-rule" ∷ []; form = is_filled }
-    ∷ record { flags = codes "--from" ∷ []; form = is_day }
-    ∷ record { flags = codes "--days" ∷ []; form = is_day_count }
-    ∷ record { flags = codes "--at" ∷ []; form = is_moment }
-    ∷ record { flags = codes "--et" ∷ []; form = is_filled }
-    ∷ [];
+      record { flags = codes "--gtfs" ∷ []; form = is_filled }
+      ∷ record { flags = codes "--zone-rule" ∷ []; form = is_filled }
+      ∷ record { flags = codes "--from" ∷ []; form = is_day }
+      ∷ record { flags = codes "--days" ∷ []; form = is_day_count }
+      ∷ record { flags = codes "--at" ∷ []; form = is_moment }
+      ∷ record { flags = codes "--et" ∷ []; form = is_filled }
+      ∷ [];
   repeated = record { flags = []; form = is_filled };
 }
 

@@ -41,7 +41,9 @@ fn is_flag(pair: &Pair, word: &Text) -> bool
 fn named<'a>(commands: &'a [Command], name: &Text) -> Option<&'a Command>
     ensures { option_map row_of (option_copied result) ≡ with_name (map row_of commands.now) name.now }
 {
-    commands.iter().find(|command| command.name == name.as_str())
+    commands
+        .iter()
+        .find(|command| command.name == name.as_str())
 }
 
 // The pair of that number: behind the last one, the repeated one.

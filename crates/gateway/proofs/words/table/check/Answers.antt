@@ -1,4 +1,4 @@
-use Rattle.std.proofs.Common.{◌≡◌, ◌∙◌, sym, ap, subst, map, arith, List, ℕ, None}
+use Rattle.std.proofs.Common.{◌≡◌, sym, subst, map, arith, None}
 use Rattle.std.proofs.lemmas.Grind.{common_steps}
 use Rattle.std.proofs.lemmas.Option.{gets, same_Some}
 use Rattle.gateway.specs.Rows.{row_of}

@@ -12,10 +12,10 @@ use Rattle.gateway.proofs.words.table.wrong_word.Goals.{then-number-command, els
 pub returns-in-Err : goal.returns-in-Err
 returns-in-Err c =
     let more : (c.loop-number.number < length (row_of c.args.command.now).pairs) ⊎ (0 < length c.loop-number.rest.now) =
-        elim c.if-number-command.branch [
-          | then-number-command w ↦ inl (simp length-map w.if-number-command.true)
-          | else-number-command+then-not-is_empty w ↦ inr (grind (arith, common_steps, w.is_empty.ensures, w.if-not-is_empty.true))
-        ] in
+    elim c.if-number-command.branch [
+      | then-number-command w ↦ inl (simp length-map w.if-number-command.true)
+      | else-number-command+then-not-is_empty w ↦ inr (grind (arith, common_steps, w.is_empty.ensures, w.if-not-is_empty.true))
+    ] in
     let at : c.loop-number.invariant.at ≡ length c.args.words.now - length c.loop-number.rest.now = omega (arith, c.loop-number.invariant.counted) in
     subst (λ k. StopsAt (ArePairs (row_of c.args.command.now) 0 c.args.name.now) c.args.words.now (k + c.in-Err.wrong)) at
     (c.loop-number.invariant.refuses c.in-Err.wrong
