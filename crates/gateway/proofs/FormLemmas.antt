@@ -1,15 +1,21 @@
 -- What values of a form are read as, and a value of each form.
-use Rattle.std.proofs.Common.{◌≡◌, refl, ℕ, ◌≤◌, ℤ, List, Option, Some, None, Result, Ok, length, subst, arith, rules, Bool, true, false, cond, ◌&&◌}
-use Rattle.std.specs.Prelude.{IsTrue, pos, codes, int_le, nat_le}
+use Rattle.std.proofs.Common.{◌≡◌, refl, ℕ, ◌≤◌, ℤ, List, [], ◌∷◌, map, Option, Some, None, Result, Ok, length, subst, arith, rules, Bool, true, false, cond, ◌&&◌}
+use Rattle.std.specs.Prelude.{IsTrue, pos, codes, int_le, nat_le, nat_lt}
 use Rattle.std.proofs.Math.IntN.{+ℤ-neg_ℤ_cancel}
 use Rattle.std.proofs.lemmas.Bool.Decides.{nat_tests}
 use Rattle.std.specs.Char.{is_ascii_digit}
-use Rattle.std.specs.List.{list_all}
+use Rattle.std.specs.List.{list_all, AllByRecursion}
 use Rattle.std.specs.Str.Parse.{ParsesUnsigned}
 use Rattle.std.proofs.lemmas.Option.{none-some, same_Some, option_and_then_some}
 use Rattle.std.proofs.lemmas.Str.Parse.{IsNumeralModel, numerals_by_fold, parse_gives, digits_value_short}
 use Rattle.gateway.specs.Forms.{is_filled, is_day, is_day_count, is_moment, beginning, is_number, going_on, ends_in_time}
-use Rattle.gateway.specs.Tables.{CanBeMet}
+use Rattle.gateway.specs.Rows.{form_of, pair_of, row_of, have_flags}
+use Rattle.gateway.specs.Tables.{CanBeMet, CanStand, IsSatisfiable, AreSatisfiable}
+use Rattle.gateway.specs.declared.words.forms.Form as declared
+use Rattle.gateway.specs.declared.words.forms.Form.TheVariants as form
+use Rattle.gateway.specs.declared.words.table.Command.{Command}
+use Rattle.gateway.specs.declared.words.table.Pair.{Pair}
+use Rattle.std.proofs.lemmas.List.{length-map}
 use Rattle.gateway.specs.declared.words.forms.TheConstants.{FIRST_DAY, LAST_DAY}
 use Rattle.service_day.specs.DayTexts.{day_of, dashed_text}
 use Rattle.service_day.specs.declared.days.DayForm.TheVariants.{Dashed}
@@ -55,20 +61,43 @@ beginning_range word first h =
 
 -- a value of each form: a text, 1971-01-01, one day, and 1970-01-01T00:00:00Z
 
-pub filled_met : CanBeMet is_filled
+filled_met : CanBeMet is_filled
 filled_met before = (codes "x", refl)
 
-pub day_met : CanBeMet is_day
+day_met : CanBeMet is_day
 day_met before =
     let is : beginning (dashed_text (pos 365)) ≡ Some (pos 365) = rw (dashed_day-dashed_text (pos 365) (omega arith, omega arith)) refl in
     (dashed_text (pos 365), rw is refl)
 
-pub day_count_met : CanBeMet is_day_count
+day_count_met : CanBeMet is_day_count
 day_count_met before = (codes "1", by (beginning before) refl)
   where
     by : (first : Option ℤ) → beginning before ≡ first → IsTrue (ends_in_time first (Some 1))
     by None e = refl
     by (Some first) e = rw +ℤ-neg_ℤ_cancel (both_right (int_le FIRST_DAY first) _ (beginning_range before first e))
 
-pub moment_met : CanBeMet is_moment
+moment_met : CanBeMet is_moment
 moment_met before = (moment_text (pos 0), rw (utc_of-moment_text (pos 0) (omega arith, omega arith)) refl)
+
+form_met : (form : declared.Form) → CanBeMet (form_of form)
+form_met form.Filled = filled_met
+form_met form.Day = day_met
+form_met form.DayCount = day_count_met
+form_met form.Moment = moment_met
+
+pairs_met : (pairs : List Pair) → list_all (λ pair. nat_lt 0 (length pair.flags.now)) pairs ≡ true → AllByRecursion CanStand (map pair_of pairs)
+pairs_met [] h = tt
+pairs_met (pair ∷ pairs) h =
+    let some : nat_lt 0 (length pair.flags.now) ≡ true = both_left _ _ h in
+    ((simp length-map (grind (arith, nat_tests)), form_met pair.form), pairs_met pairs (both_right (nat_lt 0 (length pair.flags.now)) _ h))
+
+rows_met : (rows : List Command) → list_all (λ row. list_all (λ pair. nat_lt 0 (length pair.flags.now)) row.pairs.now) rows ≡ true
+    → AllByRecursion IsSatisfiable (map row_of rows)
+rows_met [] h = tt
+rows_met (row ∷ rows) h = (record { pairs = pairs_met row.pairs.now (both_left _ _ h); repeated = form_met row.repeated.form }, rows_met rows (both_right _ _ h))
+
+-- so any table of pairs with flags can be met
+pub satisfiable : (rows : List Command) → have_flags rows ≡ true → AreSatisfiable (map row_of rows)
+satisfiable rows h =
+    let some : nat_lt 0 (length rows) ≡ true = both_left _ _ h in
+    record { some = simp length-map (grind (arith, nat_tests)); each = rows_met rows (both_right (nat_lt 0 (length rows)) _ h) }

@@ -185,7 +185,7 @@ pub behind_name : (commands : List Command) (command : Command) (name : List ℕ
 behind_name commands command name words n known stops =
     rw (add-one) (stops_behind (IsAccepted commands) (ArePairs command 0 name) name words n (λ ws h. rw known h) (λ ws h. rw known at h) stops)
 
--- the pair of a number in an accepted list: the value before it, and its value
+-- the pair of a number in an accepted list: the value before it, its flag and its value
 
 abbrev pub double : ℕ → ℕ
 double zero = 0
@@ -193,7 +193,8 @@ double (suc n) = suc (suc (double n))
 
 abbrev pub HasPair : Command → ℕ → Words → ℕ → Type 0
 HasPair command m words place =
-    (before value : List ℕ) × (slice_get words place ≡ Some before) × (slice_get words (suc (suc place)) ≡ Some value)
+    (before flag value : List ℕ) × (slice_get words place ≡ Some before) × (slice_get words (suc place) ≡ Some flag)
+    × (slice_get words (suc (suc place)) ≡ Some value) × IsTrue (is_flag (pair_at command m) flag)
     × IsTrue ((pair_at command m).form before value)
 
 pub pair_of : (command : Command) (k m number : ℕ) (before : List ℕ) (words : Words) → m ≡ number + k → m < length command.pairs
@@ -201,7 +202,7 @@ pub pair_of : (command : Command) (k m number : ℕ) (before : List ℕ) (words 
 pair_of command k m number before [] e below h = absurd (omega arith)
 pair_of command k m number before (flag ∷ []) e below h = absurd h
 pair_of command zero m number before (flag ∷ value ∷ words) e below h =
-    let same : m ≡ number = omega arith in (before, value, refl, refl, rw same h.1)
+    let same : m ≡ number = omega arith in (before, flag, value, refl, refl, refl, rw same h.0, rw same h.1)
 pair_of command (suc k) m number before (flag ∷ value ∷ words) e below h = pair_of command k m (number + 1) value words (omega arith) below h.2
 
 -- a command without repeated pairs has exactly its words

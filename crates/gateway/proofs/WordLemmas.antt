@@ -4,41 +4,12 @@ use Rattle.std.specs.Prelude.{IsSomeAnd, codes, int_le, is_some, nat_eq, option_
 use Rattle.std.specs.Cmp.Lexicographic.{pointwise, same_text}
 use Rattle.std.proofs.lemmas.Option.{none-some, same_Some, slice_get_read, slice_get_within}
 use Rattle.gateway.specs.Forms.{beginning, day_count, ends_in_time}
-use Rattle.gateway.specs.Tables.{with_name, ArePairs, IsAccepted, AreSatisfiable}
+use Rattle.gateway.specs.Tables.{with_name, ArePairs, IsAccepted}
 use Rattle.gateway.specs.Words.{to_gtfsrt, commands, ToGtfsrt, IsToGtfsrt}
 use Rattle.gateway.specs.declared.words.forms.TheConstants.{FIRST_DAY, LAST_DAY}
-use Rattle.gateway.proofs.FormLemmas.{filled_met, day_met, day_count_met, moment_met, beginning_range, both_left}
+use Rattle.gateway.proofs.FormLemmas.{beginning_range, both_left}
 use Rattle.gateway.proofs.TableLemmas.{HasPair, pair_of, double, all_pairs}
 use Rattle.service_day.specs.Utc.{utc_of}
-
--- each pair of the table has a flag, and its form can be met
-pub satisfiable : AreSatisfiable commands
-unfolding commands to_gtfsrt
-satisfiable = record {
-  some = omega arith;
-  each = (
-    record {
-      pairs = (
-        (omega arith, filled_met),
-        (
-          (omega arith, filled_met),
-          (
-            (omega arith, day_met),
-            (
-              (omega arith, day_count_met),
-              (
-                (omega arith, moment_met),
-                ((omega arith, filled_met), tt),
-              ),
-            ),
-          ),
-        ),
-      );
-      repeated = filled_met;
-    },
-    tt,
-  );
-}
 
 -- which command an accepted list is
 pub named_by : (words : List (List ℕ)) → IsAccepted commands words → slice_get words 0 ≡ Some (codes "to-gtfsrt")
@@ -77,18 +48,18 @@ read (name ∷ words) is =
     let from = pair 2 (omega arith) in
     let days = pair 3 (omega arith) in
     let at = pair 4 (omega arith) in
-    let first = some_of (beginning from.1) from.4 in
-    let count = counted (beginning days.0) (day_count days.1) days.4 in
-    let second = some_of (utc_of at.1) at.4 in (
-      record { gtfs = gtfs.1; rule = rule.1; from = first.0; days = count.0; at = second.0; more = drop 11 (name ∷ words) },
+    let first = some_of (beginning from.2) from.7 in
+    let count = counted (beginning days.0) (day_count days.2) days.7 in
+    let second = some_of (utc_of at.2) at.7 in (
+      record { gtfs = gtfs.2; rule = rule.2; from = first.0; days = count.0; at = second.0; more = drop 11 (name ∷ words) },
       record {
         accepted = is;
         name = named;
-        gtfs = gtfs.3;
-        rule = rule.3;
-        from = ap (option_and_then beginning) from.3 ∙ first.1;
-        days = ap (option_and_then day_count) days.3 ∙ count.1;
-        at = ap (option_and_then utc_of) at.3 ∙ second.1;
+        gtfs = gtfs.5;
+        rule = rule.5;
+        from = ap (option_and_then beginning) from.5 ∙ first.1;
+        days = ap (option_and_then day_count) days.5 ∙ count.1;
+        at = ap (option_and_then utc_of) at.5 ∙ second.1;
         more = refl;
       },
     )
@@ -110,9 +81,9 @@ unfolding to_gtfsrt
 windowed [] command is = absurd is.accepted
 windowed (name ∷ words) command is =
     let days = pair_of to_gtfsrt 3 3 0 name words refl (omega arith) (pairs_of name words is.accepted is.name) in
-    let first : beginning days.0 ≡ Some command.from = sym (ap (option_and_then beginning) days.2) ∙ is.from in
-    let count : day_count days.1 ≡ Some command.days = sym (ap (option_and_then day_count) days.3) ∙ is.days in
-    (both_left _ _ (beginning_range days.0 command.from first), rw (first, count) at days.4)
+    let first : beginning days.0 ≡ Some command.from = sym (ap (option_and_then beginning) days.3) ∙ is.from in
+    let count : day_count days.2 ≡ Some command.days = sym (ap (option_and_then day_count) days.5) ∙ is.days in
+    (both_left _ _ (beginning_range days.0 command.from first), rw (first, count) at days.7)
 
 -- its deliveries are one pair
 pub one_delivery : (words : List (List ℕ)) (command : ToGtfsrt) → IsToGtfsrt words command → length (drop 11 words) ≡ 2

@@ -1,5 +1,6 @@
 -- What the tables of the code say.
-use Rattle.std.specs.Prelude.{map}
+use Rattle.std.specs.Prelude.{◌&&◌, Bool, List, length, map, nat_lt}
+use Rattle.std.specs.List.{list_all}
 use Rattle.gateway.specs.Forms.{is_filled, is_day, is_day_count, is_moment}
 use Rattle.gateway.specs.Tables as table
 use Rattle.gateway.specs.Tables.{Form}
@@ -19,3 +20,8 @@ pair_of pair = record { flags = map (λ flag. flag.now) pair.flags.now; form = f
 
 abbrev pub row_of : Command → table.Command
 row_of command = record { name = command.name.now; pairs = map pair_of command.pairs.now; repeated = pair_of command.repeated }
+
+-- there is a command, and each pair has a flag: what a table owes, since each form can be met
+abbrev pub have_flags : List Command → Bool
+have_flags commands =
+    nat_lt 0 (length commands) && list_all (λ command. list_all (λ pair. nat_lt 0 (length pair.flags.now)) command.pairs.now) commands

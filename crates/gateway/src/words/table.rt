@@ -2,9 +2,9 @@
 ghost use Rattle.std.specs.Prelude.{◌≡◌, ◌≤◌, ◌∷◌, map, drop, length, IfOk, IfErr, IfSome, IsTrue, MatchOption, slice_get};
 ghost use Rattle.std.specs.Option.{option_map, option_copied};
 ghost use Rattle.gateway.specs.Pairs.{IsWrongAt};
-ghost use Rattle.gateway.specs.Rows.{form_of, pair_of, row_of};
+ghost use Rattle.gateway.specs.Rows.{form_of, have_flags, pair_of, row_of};
 ghost use Rattle.gateway.specs.Tables as spec;
-ghost use Rattle.gateway.specs.Tables.{ArePairs, IsAccepted, AreSatisfiable, IsSatisfiable, StopsAt, with_name};
+ghost use Rattle.gateway.specs.Tables.{ArePairs, IsAccepted, IsSatisfiable, StopsAt, with_name};
 
 use super::BadWord;
 use super::forms::{Form, has_form};
@@ -104,7 +104,7 @@ fn wrong_word(command: &Command, name: &Text, words: &[Text]) -> Option<usize>
 
 /// The words are one of the commands, or the word at fault. Takes no memory.
 pub fn check(commands: &[Command], words: &[Text]) -> Result<(), BadWord>
-    requires { AreSatisfiable (map row_of commands.now) }
+    requires { IsTrue (have_flags commands.now) }
     ensures accepted { IfOk result (λ _. IsAccepted (map row_of commands.now) words.now) }
     ensures refused { IfErr result (λ bad. StopsAt (IsAccepted (map row_of commands.now)) words.now bad.at) }
 {

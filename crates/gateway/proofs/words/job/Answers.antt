@@ -1,11 +1,7 @@
 use Rattle.std.proofs.lemmas.Result.{err_from_is_err_and}
 use Rattle.gateway.specs.Words.{commands, to_gtfsrt}
-use Rattle.gateway.proofs.WordLemmas.{satisfiable, read}
+use Rattle.gateway.proofs.WordLemmas.{read}
 use Rattle.gateway.proofs.words.job.Goals as goal
-
-pub check-requires : goal.check-requires
-unfolding commands to_gtfsrt
-check-requires c = satisfiable
 
 pub returns-in_err-check-clause-refused : goal.returns-in_err-check-clause-refused
 unfolding commands to_gtfsrt
