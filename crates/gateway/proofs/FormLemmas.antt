@@ -10,7 +10,8 @@ use Rattle.std.proofs.lemmas.Option.{none-some, same_Some, option_and_then_some}
 use Rattle.std.proofs.lemmas.Str.Parse.{IsNumeralModel, numerals_by_fold, parse_gives, digits_value_short}
 use Rattle.gateway.specs.Forms.{is_filled, is_day, is_day_count, is_moment, beginning, is_number, going_on, ends_in_time}
 use Rattle.gateway.specs.Rows.{form_of, pair_of, row_of, have_flags}
-use Rattle.gateway.specs.Tables.{CanBeMet, CanStand, IsSatisfiable, AreSatisfiable}
+use Rattle.gateway.specs.Tables.{CanBeMet, CanStand, IsSatisfiable}
+use Rattle.gateway.proofs.TableLemmas.{AreSatisfiable}
 use Rattle.gateway.specs.declared.words.forms.Form as declared
 use Rattle.gateway.specs.declared.words.forms.Form.TheVariants as form
 use Rattle.gateway.specs.declared.words.table.Command.{Command}

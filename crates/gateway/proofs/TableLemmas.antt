@@ -9,10 +9,15 @@ use Rattle.std.proofs.lemmas.Bool.{cases_lt, false≢true}
 use Rattle.std.proofs.lemmas.Cmp.{nat_list_eq_equiv}
 use Rattle.std.proofs.lemmas.Option.{none-some, same_Some}
 use Rattle.gateway.specs.Pairs.{HasNoValue, IsWrongAt}
-use Rattle.gateway.specs.Tables.{Pair, Command, is_flag, with_name, pair_at, ArePairs, IsAccepted, IsStart, StopsAt, CanBeMet, CanStand, IsSatisfiable, AreSatisfiable}
+use Rattle.gateway.specs.Tables.{Pair, Command, is_flag, with_name, pair_at, ArePairs, IsAccepted, IsStart, StopsAt, CanBeMet, CanStand, IsSatisfiable}
 
 abbrev Words : Type 0
 Words = List (List ℕ)
+
+-- there is a command, and each can be met
+pub record AreSatisfiable (commands : List Command) : Type 0 where
+  pub some : 0 < length commands
+  pub each : AllByRecursion IsSatisfiable commands
 
 -- what is found
 

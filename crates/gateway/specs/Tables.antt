@@ -68,7 +68,3 @@ CanStand pair = (0 < length pair.flags) × CanBeMet pair.form
 pub record IsSatisfiable (command : Command) : Type 0 where
   pub pairs : AllByRecursion CanStand command.pairs
   pub repeated : CanBeMet command.repeated.form
-
-pub record AreSatisfiable (commands : List Command) : Type 0 where
-  pub some : 0 < length commands
-  pub each : AllByRecursion IsSatisfiable commands

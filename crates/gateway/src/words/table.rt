@@ -62,7 +62,8 @@ fn split_pair<'a>(
     before: &Text,
     words: &'a [Text],
 ) -> Result<(&'a Text, &'a [Text]), usize>
-    ensures flag { IfOk result (λ _. IfSome (slice_get words.now 0) (λ flag. IsTrue (spec.is_flag (pair_of pair.now) flag))) }
+    ensures flag { IfOk result (λ _. IfSome (slice_get words.now 0) (λ flag.
+        IsTrue (spec.is_flag (pair_of pair.now) flag))) }
     ensures value { IfOk result (λ parts. IsTrue (form_of pair.now.form before.now parts.0.now)) }
     ensures rest { IfOk result (λ parts. drop 1 words.now ≡ parts.0.now ∷ parts.1.now) }
     ensures wrong { IfErr result (λ at. IsWrongAt (pair_of pair.now) before.now words.now at) }
@@ -83,7 +84,9 @@ fn split_pair<'a>(
 // The number of the first wrong word behind a command's name, if there is one.
 fn wrong_word(command: &Command, name: &Text, words: &[Text]) -> Option<usize>
     requires { IsSatisfiable (row_of command.now) }
-    ensures { MatchOption result (ArePairs (row_of command.now) 0 name.now words.now) (λ at. StopsAt (ArePairs (row_of command.now) 0 name.now) words.now at) }
+    ensures { MatchOption result
+        (ArePairs (row_of command.now) 0 name.now words.now)
+        (λ at. StopsAt (ArePairs (row_of command.now) 0 name.now) words.now at) }
 {
     let count = words.len();
     let mut before = name;
