@@ -30,13 +30,9 @@ pub cond_then : {A : Type 0} (b : Bool) (o : Option A) (x : A) → cond b o None
 cond_then true o x h = (refl, h)
 cond_then false o x h = absurd (none-some x h)
 
-pub both_left : (a b : Bool) → (a && b) ≡ true → a ≡ true
-both_left true b h = refl
-both_left false b h = h
-
-pub both_right : (a b : Bool) → (a && b) ≡ true → b ≡ true
-both_right true b h = h
-both_right false b h = absurd cc
+both : (a b : Bool) → (a && b) ≡ true → (a ≡ true) × (b ≡ true)
+both true b h = (refl, h)
+both false b h = absurd cc
 
 -- the number that `parse` reads is the one that the digits spell
 
@@ -45,20 +41,18 @@ own = numerals_by_fold _ (search rules) going_on (search rules)
 
 pub number_parsed : {E : Type 0} (text : List ℕ) (r : Result ℕ E) → ParsesUnsigned 64 10 text r → is_number text ≡ true → r ≡ Ok (going_on 0 text)
 number_parsed text r h is =
-    let digits : list_all is_ascii_digit text ≡ true = both_right (nat_le 1 (length text) && nat_le (length text) 10) _ is in
-    let within : (nat_le 1 (length text) && nat_le (length text) 10) ≡ true = both_left _ _ is in
-    let low : nat_le 1 (length text) ≡ true = both_left _ _ within in
-    let high : nat_le (length text) 10 ≡ true = both_right (nat_le 1 (length text)) _ within in
-    let some : 1 ≤ length text = grind (arith, nat_tests) in
-    let short : length text ≤ 10 = grind (arith, nat_tests) in
-    parse_gives own 64 text r h digits (omega arith) (omega (arith, digits_value_short own text 10 digits short))
+    let parts = both (nat_le 1 (length text) && nat_le (length text) 10) _ is in
+    let within : (nat_le 1 (length text) ≡ true) × (nat_le (length text) 10 ≡ true) = both _ _ parts.0 in
+    let some : 1 ≤ length text = grind (arith, nat_tests, within.0) in
+    let short : length text ≤ 10 = grind (arith, nat_tests, within.1) in
+    parse_gives own 64 text r h parts.1 (omega arith) (omega (arith, digits_value_short own text 10 parts.1 short))
 
 -- a day of a window is between the first and the last
-pub beginning_range : (word : List ℕ) (first : ℤ) → beginning word ≡ Some first → (int_le FIRST_DAY first && int_le first LAST_DAY) ≡ true
+pub beginning_range : (word : List ℕ) (first : ℤ) → beginning word ≡ Some first → (int_le FIRST_DAY first ≡ true) × (int_le first LAST_DAY ≡ true)
 beginning_range word first h =
     option_and_then_some _ (day_of Dashed word) first h (λ day found within.
-    let both : ((int_le FIRST_DAY day && int_le day LAST_DAY) ≡ true) × (Some day ≡ Some first) = cond_then _ _ first within in
-    subst (λ d. (int_le FIRST_DAY d && int_le d LAST_DAY) ≡ true) (same_Some day first both.1) both.0)
+    let kept = cond_then (int_le FIRST_DAY day && int_le day LAST_DAY) _ first within in
+    both _ _ (subst (λ d. (int_le FIRST_DAY d && int_le d LAST_DAY) ≡ true) (same_Some day first kept.1) kept.0))
 
 -- a value of each form: a text, 1971-01-01, one day, and 1970-01-01T00:00:00Z
 
@@ -75,7 +69,7 @@ day_count_met before = (codes "1", by (beginning before) refl)
   where
     by : (first : Option ℤ) → beginning before ≡ first → IsTrue (ends_in_time first (Some 1))
     by None e = refl
-    by (Some first) e = rw +ℤ-neg_ℤ_cancel (both_right (int_le FIRST_DAY first) _ (beginning_range before first e))
+    by (Some first) e = rw +ℤ-neg_ℤ_cancel (beginning_range before first e).1
 
 moment_met : CanBeMet is_moment
 moment_met before = (moment_text (pos 0), rw (utc_of-moment_text (pos 0) (omega arith, omega arith)) refl)
@@ -89,16 +83,17 @@ form_met form.Moment = moment_met
 pairs_met : (pairs : List Pair) → list_all (λ pair. nat_lt 0 (length pair.flags.now)) pairs ≡ true → AllByRecursion CanStand (map pair_of pairs)
 pairs_met [] h = tt
 pairs_met (pair ∷ pairs) h =
-    let some : nat_lt 0 (length pair.flags.now) ≡ true = both_left _ _ h in
-    ((simp length-map (grind (arith, nat_tests)), form_met pair.form), pairs_met pairs (both_right (nat_lt 0 (length pair.flags.now)) _ h))
+    let parts : (nat_lt 0 (length pair.flags.now) ≡ true) × _ = both _ _ h in
+    ((simp length-map (grind (arith, nat_tests, parts.0)), form_met pair.form), pairs_met pairs parts.1)
 
 rows_met : (rows : List Command) → list_all (λ row. list_all (λ pair. nat_lt 0 (length pair.flags.now)) row.pairs.now) rows ≡ true
     → AllByRecursion IsSatisfiable (map row_of rows)
 rows_met [] h = tt
-rows_met (row ∷ rows) h = (record { pairs = pairs_met row.pairs.now (both_left _ _ h); repeated = form_met row.repeated.form }, rows_met rows (both_right _ _ h))
+rows_met (row ∷ rows) h =
+    let parts = both _ _ h in (record { pairs = pairs_met row.pairs.now parts.0; repeated = form_met row.repeated.form }, rows_met rows parts.1)
 
 -- so any table of pairs with flags can be met
 pub satisfiable : (rows : List Command) → have_flags rows ≡ true → AreSatisfiable (map row_of rows)
 satisfiable rows h =
-    let some : nat_lt 0 (length rows) ≡ true = both_left _ _ h in
-    record { some = simp length-map (grind (arith, nat_tests)); each = rows_met rows (both_right (nat_lt 0 (length rows)) _ h) }
+    let parts : (nat_lt 0 (length rows) ≡ true) × _ = both _ _ h in
+    record { some = simp length-map (grind (arith, nat_tests, parts.0)); each = rows_met rows parts.1 }

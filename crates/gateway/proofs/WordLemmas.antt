@@ -7,7 +7,7 @@ use Rattle.gateway.specs.Forms.{beginning, day_count, ends_in_time}
 use Rattle.gateway.specs.Tables.{with_name, ArePairs, IsAccepted}
 use Rattle.gateway.specs.Words.{to_gtfsrt, commands, ToGtfsrt, IsToGtfsrt}
 use Rattle.gateway.specs.declared.words.forms.TheConstants.{FIRST_DAY, LAST_DAY}
-use Rattle.gateway.proofs.FormLemmas.{beginning_range, both_left}
+use Rattle.gateway.proofs.FormLemmas.{beginning_range}
 use Rattle.gateway.proofs.TableLemmas.{HasPair, pair_of, double, all_pairs}
 use Rattle.service_day.specs.Utc.{utc_of}
 
@@ -83,7 +83,7 @@ windowed (name ∷ words) command is =
     let days = pair_of to_gtfsrt 3 3 0 name words refl (omega arith) (pairs_of name words is.accepted is.name) in
     let first : beginning days.0 ≡ Some command.from = sym (ap (option_and_then beginning) days.3) ∙ is.from in
     let count : day_count days.2 ≡ Some command.days = sym (ap (option_and_then day_count) days.5) ∙ is.days in
-    (both_left _ _ (beginning_range days.0 command.from first), rw (first, count) at days.7)
+    ((beginning_range days.0 command.from first).0, rw (first, count) at days.7)
 
 -- its deliveries are one pair
 pub one_delivery : (words : List (List ℕ)) (command : ToGtfsrt) → IsToGtfsrt words command → length (drop 11 words) ≡ 2
