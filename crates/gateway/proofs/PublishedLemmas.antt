@@ -1,5 +1,5 @@
 -- What is published where the work was done.
-use Rattle.std.proofs.Common.{◌≡◌, ◌≤◌, ◌∙◌, ℕ, Bool, true, false, List, length, Result, Ok, Err, Option, Some, None, IfSome, codes, ◌++◌, sym, ap, refl, subst, if◌then◌else◌}
+use Rattle.std.proofs.Common.{◌≡◌, ℕ, Bool, true, false, List, length, Result, Ok, Err, Option, Some, None, IfSome, codes, ◌++◌, sym, ap, refl, subst, if◌then◌else◌}
 use Rattle.std.specs.Prelude.{nat_le}
 use Rattle.gw_base.specs.Directory.{bytes_of}
 use Rattle.gw_base.specs.Told.{with_bytes}
@@ -9,18 +9,16 @@ use Rattle.stop_schedule.specs.Table.{Table}
 use Rattle.stop_schedule.specs.Timetable.{timetable}
 use Rattle.stop_schedule.specs.declared.table_fault.TableFault.{TableFault}
 use Rattle.stop_schedule.specs.declared.table_fault.TableFault.TheVariants as fault
-use Rattle.gateway.specs.Exits.{missing}
 use Rattle.gateway.specs.Feeds.{IsFeed}
 use Rattle.gateway.specs.Frame.{journeys_of}
 use Rattle.gateway.specs.Items.{sorted}
 use Rattle.gateway.specs.Journeys.{taken, verdicts}
-use Rattle.gateway.specs.Published.{IsRead, Publishes}
+use Rattle.gateway.specs.Published.{Publishes}
 use Rattle.gateway.specs.Windowed.{HasWindow}
 use Rattle.gateway.specs.Words.{ToGtfsrt, IsToGtfsrt}
 use Rattle.gateway.specs.Work.{Directory, ToGtfsrtWork, folder, further, delivery, delivery_file, body_limit}
 use Rattle.gateway.specs.declared.delivery.Delivery.{Delivery}
 use Rattle.gateway.specs.declared.exit.Exit.{Exit}
-use Rattle.gateway.specs.declared.item.Cancelled.{Cancelled}
 use Rattle.gateway.specs.declared.exit.Exit.TheVariants.{Refused}
 use Rattle.gateway.specs.declared.setting.Setting.{Setting}
 use Rattle.gateway.specs.declared.work.Done.{Done}

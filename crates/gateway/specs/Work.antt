@@ -2,7 +2,7 @@
 -- something or ends the work, and the first end counts.
 use Rattle.std.specs.Prelude.{◌≡◌, ℕ, ℤ, List, [], ◌++◌, codes, length, nat_le, if◌then◌else◌, Option, Some, None, Result, Ok, Err, slice_index_or}
 use Rattle.gw_base.specs.Directory.{bytes_of}
-use Rattle.gw_base.specs.Steps.{Then, ◌>>=◌}
+use Rattle.gw_base.specs.Steps.{◌>>=◌}
 use Rattle.serde_json.specs.Data.{Data}
 use Rattle.service_day.specs.Windows.{DayStarts, IsWindow}
 use Rattle.service_day.specs.Zones.{IsRuleZone, IsBadRule}

@@ -6,10 +6,10 @@ ghost use Rattle.gateway.specs.Works.{command_of};
 mod forms;
 mod table;
 
-use forms::{Form, first_day, moment, number};
+use forms::{Form, day_count, first_day, moment};
 use gw_base::{Moment, Text};
 use service_day::Day;
-use table::{Choice, Command, Kind, which};
+use table::{Command, Pair, check};
 
 /// The word at which a list of words stops being the start of an accepted one, counted from 0.
 #[derive(Clone, Copy, Debug, PartialEq, Eq)]
@@ -47,35 +47,37 @@ pub enum Work<'a> {
 
 // The commands. In a list of words the value of the pair of number n, from 0 on, is the word of number 2n + 2.
 static COMMANDS: [Command; 1] = [Command {
-    kind: Kind::ToGtfsrt,
     name: "to-gtfsrt",
     pairs: &[
-        &[Choice {
-            flag: "--gtfs",
+        Pair {
+            flags: &["--gtfs"],
             form: Form::Filled,
-        }],
-        &[Choice {
-            flag: "--zone-rule",
+        },
+        Pair {
+            flags: &["--zone-rule"],
             form: Form::Filled,
-        }],
-        &[Choice {
-            flag: "--from",
+        },
+        Pair {
+            flags: &["--from"],
             form: Form::Day,
-        }],
-        &[Choice {
-            flag: "--days",
+        },
+        Pair {
+            flags: &["--days"],
             form: Form::DayCount,
-        }],
-        &[Choice {
-            flag: "--at",
+        },
+        Pair {
+            flags: &["--at"],
             form: Form::Moment,
-        }],
-        &[Choice {
-            flag: "--et",
+        },
+        Pair {
+            flags: &["--et"],
             form: Form::Filled,
-        }],
+        },
     ],
-    repeated: &[],
+    repeated: Pair {
+        flags: &[],
+        form: Form::Filled,
+    },
 }];
 
 // What the words of `to-gtfsrt` say.
@@ -88,7 +90,7 @@ fn to_gtfsrt(words: &[Text]) -> Work<'_>
         gtfs: &words[2],
         zone: ZoneWord::Rule(&words[4]),
         from: first_day(&words[6]).unwrap(),
-        days: number(&words[8]).unwrap() as u8,
+        days: day_count(&words[8]).unwrap(),
         at: moment(&words[10]).unwrap(),
         more: &words[11..],
     }
@@ -100,7 +102,6 @@ pub fn job(words: &[Text]) -> Result<Work<'_>, BadWord>
     ensures refused { IfErr result (λ bad. IsRefusedAt words.now bad.at) }
     ensures delivery { IfOk result (λ work. length (command_of work).more ≡ 2) }
 {
-    match which(&COMMANDS, words)? {
-        Kind::ToGtfsrt => Ok(to_gtfsrt(words)),
-    }
+    check(&COMMANDS, words)?;
+    Ok(to_gtfsrt(words))
 }
