@@ -8,7 +8,7 @@ use Rattle.std.proofs.lemmas.Option.{none-some, option_and_then_some, same_Some,
 use Rattle.gateway.specs.Forms.{beginning, day_count, decimal_number, ends_in_time}
 use Rattle.gateway.specs.Tables.{with_name, ArePairs, IsAccepted}
 use Rattle.gateway.specs.Windowed.{HasWindow}
-use Rattle.gateway.specs.Words.{to_gtfsrt, commands, ToGtfsrt, IsToGtfsrt}
+use Rattle.gateway.specs.Words.{to_gtfsrt, commands, ToGtfsrt, IsToGtfsrt, zone_by}
 use Rattle.gateway.specs.declared.words.forms.TheConstants.{FIRST_DAY, LAST_DAY, MOST_DAYS}
 use Rattle.gateway.proofs.FormLemmas.{beginning_range, cond_then}
 use Rattle.gateway.proofs.TableLemmas.{HasPair, pair_of, double, all_pairs}
@@ -47,19 +47,19 @@ read (name ∷ words) is =
     let pair : (k : ℕ) → k < 6 → HasPair to_gtfsrt k (name ∷ words) (double k) =
     λ k below. pair_of to_gtfsrt k k 0 name words (omega arith) below pairs in
     let gtfs = pair 0 (omega arith) in
-    let rule = pair 1 (omega arith) in
+    let zone = pair 1 (omega arith) in
     let from = pair 2 (omega arith) in
     let days = pair 3 (omega arith) in
     let at = pair 4 (omega arith) in
     let first = some_of (beginning from.2) from.7 in
     let count = counted (beginning days.0) (day_count days.2) days.7 in
     let second = some_of (utc_of at.2) at.7 in (
-      record { gtfs = gtfs.2; rule = rule.2; from = first.0; days = count.0; at = second.0; more = drop 11 (name ∷ words) },
+      record { gtfs = gtfs.2; zone = zone_by zone.1 zone.2; from = first.0; days = count.0; at = second.0; more = drop 11 (name ∷ words) },
       record {
         accepted = is;
         name = named;
         gtfs = gtfs.5;
-        rule = rule.5;
+        zone = (zone.1, zone.2, zone.4, zone.5, refl);
         from = ap (option_and_then beginning) from.5 ∙ first.1;
         days = ap (option_and_then day_count) days.5 ∙ count.1;
         at = ap (option_and_then utc_of) at.5 ∙ second.1;

@@ -1,7 +1,7 @@
 //! The words of a command line. Only exactly the lists of words of a command are accepted.
 ghost use Rattle.std.specs.Prelude.{◌≡◌, length, IfOk, IfErr};
-ghost use Rattle.gateway.specs.Words.{ToGtfsrt, IsToGtfsrt, IsRefusedAt};
-ghost use Rattle.gateway.specs.Works.{command_of};
+ghost use Rattle.gateway.specs.Words.{ToGtfsrt, IsToGtfsrt, IsRefusedAt, zone_by};
+ghost use Rattle.gateway.specs.Works.{command_of, zone_of};
 
 mod forms;
 mod table;
@@ -23,6 +23,8 @@ pub struct BadWord {
 pub enum ZoneWord<'a> {
     /// A POSIX rule.
     Rule(&'a Text),
+    /// A file.
+    File(&'a Text),
 }
 
 /// A command with its words read.
@@ -54,7 +56,7 @@ static COMMANDS: [Command; 1] = [Command {
             form: Form::Filled,
         },
         Pair {
-            flags: &["--zone-rule"],
+            flags: &["--zone-rule", "--zone-file"],
             form: Form::Filled,
         },
         Pair {
@@ -80,6 +82,17 @@ static COMMANDS: [Command; 1] = [Command {
     },
 }];
 
+// The zone that a flag and its value name.
+fn zone_word<'a>(flag: &Text, value: &'a Text) -> ZoneWord<'a>
+    ensures { zone_of result ≡ zone_by flag.now value.now }
+{
+    if flag.as_str() == "--zone-file" {
+        ZoneWord::File(value)
+    } else {
+        ZoneWord::Rule(value)
+    }
+}
+
 // What the words of `to-gtfsrt` say.
 fn to_gtfsrt(words: &[Text]) -> Work<'_>
     requires { (command : ToGtfsrt) × IsToGtfsrt words.now command }
@@ -88,7 +101,7 @@ fn to_gtfsrt(words: &[Text]) -> Work<'_>
 {
     Work::ToGtfsrt {
         gtfs: &words[2],
-        zone: ZoneWord::Rule(&words[4]),
+        zone: zone_word(&words[3], &words[4]),
         from: first_day(&words[6]).unwrap(),
         days: day_count(&words[8]).unwrap(),
         at: moment(&words[10]).unwrap(),
