@@ -13,6 +13,7 @@ pub mod Meant
 pub mod Parts
 pub mod PieceSets
 pub mod PieceWalks
+pub mod ShortEntities
 mod SizeLemmas
 pub mod Told
 pub mod Walking

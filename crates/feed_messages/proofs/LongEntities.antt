@@ -15,7 +15,7 @@ use Rattle.feed_messages.specs.Pieces.{IsFollowed}
 use Rattle.feed_messages.proofs.Walking.{long_here, long_later, long_on, long_only_here}
 
 -- bytes begin with one number at most
-number_once : (bytes : List ℕ) (value other : ℕ) (rest behind : List ℕ) → BeginsNumber bytes value rest → BeginsNumber bytes other behind → (value ≡ other) × (rest ≡ behind)
+pub number_once : (bytes : List ℕ) (value other : ℕ) (rest behind : List ℕ) → BeginsNumber bytes value rest → BeginsNumber bytes other behind → (value ≡ other) × (rest ≡ behind)
 number_once bytes value other rest behind h k =
     let first = ap varint_at h.1 ∙ varint_again h.0 rest value h.2 in
     let second = ap varint_at k.1 ∙ varint_again k.0 behind other k.2 in

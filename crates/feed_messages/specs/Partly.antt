@@ -2,12 +2,13 @@
 use Rattle.std.specs.Prelude.{◌≡◌, ◌≢◌, ℕ, ℤ, pos, ◌≤◌, List, [], ◌∷◌, ◌++◌, length, Option, Some, None, option_map}
 use denote.Bor.{Bor}
 use Rattle.std.specs.List.{AllByRecursion, concat}
+use Rattle.gw_base.specs.declared.messages.Entity.{Entity}
 use Rattle.gw_base.specs.declared.messages.Feed.{Feed}
 use Rattle.wire_fields.specs.Grammar.{WireField}
 use Rattle.feed_messages.specs.declared.quick.found.Found.{Found}
 use Rattle.feed_messages.specs.declared.quick.found.Found.TheVariants.{Nothing, One, Joined}
-use Rattle.feed_messages.specs.Meaning.{bodies, Means, AreBodies}
-use Rattle.feed_messages.specs.Tables.{OfFeedMessage}
+use Rattle.feed_messages.specs.Meaning.{bodies, Means, AreBodies, AreMessages}
+use Rattle.feed_messages.specs.Tables.{OfFeedEntity, OfFeedMessage}
 
 -- what is known of fields, is known of one field more
 abbrev pub Goes : {X : Type 0} → (List WireField → X → Type 0) → WireField → X → X → Type 0
@@ -30,7 +31,12 @@ IsFound number fields found = IsFoundIn (bodies number fields) found
 abbrev pub AreJoined : List ℕ → List ℕ → List ℕ → Type 0
 AreJoined first second bytes = AreBodies (first ∷ second ∷ []) × (bytes ≡ first ++ second)
 
--- no entity is too long
+-- entities of which none is too long
+abbrev pub AreShortEntities : List WireField → List Entity → Type 0
+AreShortEntities fields entities =
+    AreMessages OfFeedEntity 2 fields entities × AllByRecursion (λ body. length body ≤ 1048576) (bodies 2 fields)
+
+-- a feed of such entities
 abbrev pub OfShortFeed : List WireField → Feed → Type 0
 OfShortFeed fields feed = OfFeedMessage fields feed × AllByRecursion (λ body. length body ≤ 1048576) (bodies 2 fields)
 

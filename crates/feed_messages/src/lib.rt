@@ -11,10 +11,10 @@ mod plain;
 mod plain_fault;
 mod quick;
 mod reading;
-mod whole;
-mod writing;
 #[cfg(test)]
 mod tests;
+mod whole;
+mod writing;
 
 pub use cancelled::cancelled_bytes;
 pub use fault::FeedFault;

@@ -32,11 +32,7 @@ fn joined(alloc: Global, first: &[u8], second: &[u8]) -> Result<Bytes, PlainFaul
 }
 
 // These bodies and one more.
-fn with_body<'a>(
-    alloc: Global,
-    found: Found<'a>,
-    body: &'a [u8],
-) -> Result<Found<'a>, PlainFault>
+fn with_body<'a>(alloc: Global, found: Found<'a>, body: &'a [u8]) -> Result<Found<'a>, PlainFault>
     ensures { IfOk result (λ more. (bodies : List (List ℕ)) → IsFoundIn bodies found.entry → IsFoundIn (bodies ++ body.now ∷ []) more) }
 {
     match found {

@@ -89,10 +89,7 @@ pub fn read_found<M: QuickMessage>(
 }
 
 // The message that the bodies mean together, which has to be there.
-pub fn read_required<M: QuickMessage>(
-    alloc: Global,
-    found: &Found<'_>,
-) -> Result<M, PlainFault>
+pub fn read_required<M: QuickMessage>(alloc: Global, found: &Found<'_>) -> Result<M, PlainFault>
     ensures { IfOk result (λ message. (number : ℕ) (fields : List WireField) → IsFound number fields found.now → IsMessage M.table number fields (Some message)) }
 {
     match read_found(alloc, found)? {
