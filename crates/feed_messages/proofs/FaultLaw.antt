@@ -1,31 +1,20 @@
 -- Bytes have no fault exactly where they mean a feed and no entity is too long: table by table.
-use Rattle.std.proofs.Common.{◌≡◌, ◌≢◌, ℕ, ℤ, pos, ◌%◌, ◌^◌, List, [], ◌∷◌, ◌++◌, length, refl, sym, ap, subst, ◌∙◌, inl, inr, arith}
-use Rattle.std.specs.Prelude.{Option, Some, None, option_map, unwrap_or, not, ◌==◌, false, ◌⊎◌}
+use Rattle.std.proofs.Common.{ℕ, ℤ, pos, ◌%◌, ◌^◌, List, [], ◌∷◌, length, refl, inl, inr, arith}
+use Rattle.std.specs.Prelude.{Option, Some, None, option_map, unwrap_or, not, ◌==◌, false}
 use Rattle.std.specs.List.{last_or}
 use Rattle.std.specs.Int.{w32, w64, cast_signed}
-use Rattle.gw_base.specs.declared.messages.Alert.{Alert}
-use Rattle.gw_base.specs.declared.messages.Entity.{Entity}
-use Rattle.gw_base.specs.declared.messages.Event.{Event}
 use Rattle.gw_base.specs.declared.messages.Feed.{Feed}
-use Rattle.gw_base.specs.declared.messages.Period.{Period}
-use Rattle.gw_base.specs.declared.messages.Selector.{Selector}
-use Rattle.gw_base.specs.declared.messages.StopUpdate.{StopUpdate}
-use Rattle.gw_base.specs.declared.messages.Translation.{Translation}
-use Rattle.gw_base.specs.declared.messages.TripDescriptor.{TripDescriptor}
-use Rattle.gw_base.specs.declared.messages.TripUpdate.{TripUpdate}
 use Rattle.gw_base.specs.declared.required.Required.TheVariants as names
-use Rattle.wire_fields.specs.Grammar.{WireField, AreFields}
+use Rattle.wire_fields.specs.Grammar.{WireField}
 use Rattle.wire_fields.proofs.Existence.{decided}
 use Rattle.feed_messages.specs.declared.fault.FeedFault.{FeedFault}
 use Rattle.feed_messages.specs.declared.fault.FeedFault.TheVariants.{EntityTooLong, Wire, NotText, MissingField, Memory}
-use Rattle.feed_messages.specs.Meaning.{numbers, bodies, Means}
-use Rattle.feed_messages.specs.Tables.{OfTripDescriptor, OfStopTimeEvent, OfStopTimeUpdate, OfTripUpdate, OfTimeRange, OfEntitySelector, OfTranslation, OfTranslatedString, AreTranslations, OfAlert, OfFeedEntity, Header, header_of, OfFeedHeader, OfFeedMessage, MeansFeed}
+use Rattle.feed_messages.specs.Meaning.{numbers, bodies}
+use Rattle.feed_messages.specs.Tables.{OfTripDescriptor, OfStopTimeEvent, OfStopTimeUpdate, OfTripUpdate, OfTimeRange, OfEntitySelector, OfTranslation, OfTranslatedString, OfAlert, OfFeedEntity, header_of, OfFeedHeader, OfFeedMessage, MeansFeed}
 use Rattle.feed_messages.specs.Known.{trip_known, event_known, stop_known, update_known, period_known, selector_known, translation_known, string_known, alert_known, entity_known, header_known, feed_known}
-use Rattle.feed_messages.specs.Faults.{Piece, whole, Only, InSome, IsTorn, IsNotText, Inside, IsMissing, HasFaultIn, IsLongAt, IsTooLong, HasFault}
-use Rattle.feed_messages.specs.Found.{Among}
-use Rattle.feed_messages.specs.Pieces.{InMessage, InEach}
+use Rattle.feed_messages.specs.Faults.{whole, IsLongAt, IsTooLong, HasFault}
 use Rattle.feed_messages.proofs.PieceSets.{same_turned, one_listed, faults_same}
-use Rattle.feed_messages.proofs.WholeMessages.{AreWhole, one_whole, whole_not_torn, not_missing, held_not_missing, texts_read, texts_clean, last_there, text_there, Reads, Clean, message_read, required_read, messages_read, message_clean, message_not_missing, messages_clean}
+use Rattle.feed_messages.proofs.WholeMessages.{one_whole, whole_not_torn, not_missing, held_not_missing, texts_read, texts_clean, last_there, text_there, Reads, Clean, message_read, required_read, messages_read, message_clean, message_not_missing, messages_clean}
 
 -- the numbers of fields that have no faults
 abbrev number_of : ℕ → List WireField → Option ℕ

@@ -1,5 +1,5 @@
 -- The least of faults, from those of its parts.
-use Rattle.std.proofs.Common.{◌≡◌, ℕ, ◌≤◌, Bool, true, false, List, [], ◌∷◌, ◌++◌, inl, inr, refl, sym, subst, arith}
+use Rattle.std.proofs.Common.{◌≡◌, ◌≤◌, Bool, true, false, List, [], ◌∷◌, ◌++◌, inl, inr, refl, subst, arith}
 use Rattle.std.proofs.lemmas.Bool.{leb-true, leb-false}
 use Rattle.std.specs.Prelude.{Option, Some, None, nat_le, if◌then◌else◌, ◌⊎◌}
 use Rattle.feed_messages.specs.declared.fault.FeedFault.{FeedFault}

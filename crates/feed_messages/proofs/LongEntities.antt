@@ -1,6 +1,6 @@
 -- Where an entity is too long.
-use Rattle.std.proofs.Common.{◌≡◌, ℕ, ◌+◌, ◌*◌, ◌<◌, ◌≤◌, Bool, true, false, List, [], ◌∷◌, ◌++◌, length, Ok, refl, sym, ap, subst, ◌∙◌, inl, inr, arith}
-use Rattle.std.specs.Prelude.{◌⊎◌, Option, Some, None, nat_lt, MatchBool}
+use Rattle.std.proofs.Common.{◌≡◌, ℕ, ◌+◌, ◌*◌, ◌<◌, ◌≤◌, Bool, true, false, List, ◌++◌, length, refl, sym, ap, subst, ◌∙◌, inl, inr, arith}
+use Rattle.std.specs.Prelude.{Some, None, nat_lt, MatchBool}
 use Rattle.wire_fields.specs.Grammar.{WireField, IsVarint, BeginsNumber}
 use Rattle.wire_fields.specs.Breaks.{BeginsNone}
 use Rattle.std.proofs.lemmas.Bool.{ltb-true, ltb-false}

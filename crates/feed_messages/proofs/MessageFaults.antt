@@ -1,6 +1,6 @@
 -- The faults of a message by its pieces.
-use Rattle.std.proofs.Common.{◌≡◌, ℕ, List, [], ◌∷◌, length, inl, inr, refl, sym, subst, arith}
-use Rattle.std.specs.Prelude.{Option, Some, None}
+use Rattle.std.proofs.Common.{◌≡◌, ℕ, List, [], ◌∷◌, length, inl, inr, refl, subst, arith}
+use Rattle.std.specs.Prelude.{Option, None}
 use Rattle.feed_messages.specs.declared.fault.FeedFault.{FeedFault}
 use Rattle.feed_messages.specs.declared.finder.piece.Piece.{Piece}
 use Rattle.feed_messages.specs.Known.{Known}

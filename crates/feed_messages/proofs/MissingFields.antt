@@ -1,8 +1,7 @@
 -- A message that has no field which has to be there.
-use Rattle.std.proofs.Common.{◌≡◌, ◌≢◌, ℕ, ◌+◌, ◌*◌, ◌<◌, ◌≤◌, List, [], ◌∷◌, length, map, refl, sym, ap, subst, ◌∙◌, inl, inr, arith}
-use Rattle.std.specs.Prelude.{Option, Some, None}
+use Rattle.std.proofs.Common.{◌≡◌, ℕ, ◌+◌, ◌*◌, ◌≤◌, List, [], ◌∷◌, length, refl, ap, inl, inr, arith}
+use Rattle.std.specs.Prelude.{Some, None}
 use Rattle.std.specs.List.{AllByRecursion}
-use Rattle.wire_fields.specs.Breaks.{IsBroken}
 use Rattle.wire_fields.proofs.Broken.{fields_or_broken}
 use Rattle.wire_fields.proofs.Existence.{decided}
 use Rattle.gw_base.specs.declared.required.Required.{Required}
@@ -11,7 +10,7 @@ use Rattle.feed_messages.specs.declared.fault.FeedFault.TheVariants.{EntityTooLo
 use Rattle.feed_messages.specs.declared.finder.piece.Piece.{Piece}
 use Rattle.feed_messages.specs.Faults as faults
 use Rattle.feed_messages.specs.Faults.{Inside, InSome, IsTorn, Lacks, IsLacking, missing_place, IsMissing, order, IsLeast}
-use Rattle.feed_messages.specs.Pieces.{piece_of, Listed, NoneStands, SomeInside, IsFirstTag, AllLack}
+use Rattle.feed_messages.specs.Pieces.{Listed, NoneStands, SomeInside, IsFirstTag, AllLack}
 use Rattle.feed_messages.proofs.PieceWalks.{none_inside}
 use Rattle.feed_messages.proofs.WholePieces.{stands_lacks, lacks_from}
 

@@ -4,10 +4,10 @@ use Rattle.std.proofs.lemmas.List.{append-nil}
 use Rattle.std.proofs.lemmas.List.Elements.{filter_map-append}
 use Rattle.std.specs.Prelude.{Option, Some, None, IsUtf8, if◌then◌else◌}
 use Rattle.std.specs.List.{cons_option, last_or, AllByRecursion, AllZip, concat}
-use Rattle.wire_fields.specs.Grammar.{Payload, WireField, IsSpelling, AreFields}
+use Rattle.wire_fields.specs.Grammar.{Payload, WireField, AreFields}
 use Rattle.feed_messages.specs.declared.quick.found.Found.{Found}
-use Rattle.feed_messages.specs.declared.quick.found.Found.TheVariants.{Nothing, One, Joined}
-use Rattle.feed_messages.specs.Meaning.{number_in, body_in, held, numbers, bodies, Means, IsJoined, AreBodies, IsMessage, AreMessages, IsUint64, IsText}
+use Rattle.feed_messages.specs.declared.quick.found.Found.TheVariants.{Joined}
+use Rattle.feed_messages.specs.Meaning.{number_in, body_in, held, numbers, bodies, Means, IsJoined, AreBodies, AreMessages, IsUint64, IsText}
 use Rattle.feed_messages.specs.Partly.{IsFoundIn, IsFound, AreJoined, AreShortEntities}
 use Rattle.feed_messages.specs.Tables.{OfFeedEntity}
 use Rattle.gw_base.specs.declared.messages.Entity.{Entity}
@@ -110,12 +110,14 @@ means_joined Table bodies bytes message means h = (h.1, joined_some Table bodies
 
 pub short_new : (fields : List WireField) (field : WireField) (entities : List Entity) (body : List ℕ) (entity : Entity) → holds body_in 2 field ≡ Some body → Means OfFeedEntity body entity → length body ≤ 1048576
     → AreShortEntities fields entities → AreShortEntities (fields ++ field ∷ []) (entities ++ entity ∷ [])
-short_new fields field entities body entity e means short known =
-    (messages_new OfFeedEntity 2 fields field entities body entity e means known.0,
-    subst (λ (bs : List (List ℕ)). AllByRecursion (λ body. length body ≤ 1048576) bs) (sym (held_new body_in 2 fields field body e))
-    (all_append (λ body. length body ≤ 1048576) (bodies 2 fields) (body ∷ []) known.1 (short, tt)))
+short_new fields field entities body entity e means short known = (
+  messages_new OfFeedEntity 2 fields field entities body entity e means known.0,
+  subst (λ (bs : List (List ℕ)). AllByRecursion (λ body. length body ≤ 1048576) bs) (sym (held_new body_in 2 fields field body e))
+      (all_append (λ body. length body ≤ 1048576) (bodies 2 fields) (body ∷ []) known.1 (short, tt)),
+)
 
 pub short_same : (fields : List WireField) (field : WireField) (entities : List Entity) → holds body_in 2 field ≡ None → AreShortEntities fields entities → AreShortEntities (fields ++ field ∷ []) entities
-short_same fields field entities e known =
-    (messages_same OfFeedEntity 2 fields field entities e known.0,
-    subst (λ (bs : List (List ℕ)). AllByRecursion (λ body. length body ≤ 1048576) bs) (sym (held_same body_in 2 fields field e)) known.1)
+short_same fields field entities e known = (
+  messages_same OfFeedEntity 2 fields field entities e known.0,
+  subst (λ (bs : List (List ℕ)). AllByRecursion (λ body. length body ≤ 1048576) bs) (sym (held_same body_in 2 fields field e)) known.1,
+)

@@ -1,9 +1,9 @@
 -- Fields that are written number by number, and what those of a number hold.
-use Rattle.std.proofs.Common.{◌≡◌, ◌==◌, ℕ, ℤ, pos, negsuc, suc, ◌+◌, ◌*◌, ◌-◌, ◌%◌, ◌^◌, ◌<◌, ◌≤◌, Bool, true, false, List, [], ◌∷◌, ◌++◌, length, map, refl, sym, ap, subst, ◌∙◌, arith, append_assoc, length-append}
+use Rattle.std.proofs.Common.{◌≡◌, ◌==◌, ℕ, ℤ, pos, negsuc, ◌+◌, ◌*◌, ◌-◌, ◌^◌, ◌<◌, ◌≤◌, Bool, true, false, List, [], ◌∷◌, ◌++◌, length, map, refl, sym, ap, subst, ◌∙◌, arith, append_assoc, length-append}
 use Rattle.std.proofs.lemmas.List.Elements.{filter_map-append}
 use Rattle.std.specs.Prelude.{Option, Some, None, option_map, IfSome, if◌then◌else◌, FitsSigned, unsigned_abs}
 use Rattle.std.specs.List.{filter_map, flat_map, cons_option, AllByRecursion}
-use Rattle.std.specs.Int.{w32, w64, cast_unsigned}
+use Rattle.std.specs.Int.{w64, cast_unsigned}
 use Rattle.wire_fields.specs.Grammar.{Payload, Varint, Fixed64, Bytes, Group, Fixed32, WireField, IsSpelling, AreFields}
 use Rattle.wire_fields.specs.Spelling.{varint, varint_field, bytes_field}
 use Rattle.wire_fields.proofs.Lists.{Concatenates-append, Concatenates-one}

@@ -1,11 +1,11 @@
 -- The faults of a message depend only on which pieces it has.
-use Rattle.std.proofs.Common.{◌≡◌, ℕ, ◌≤◌, List, [], ◌∷◌, inl, inr, refl, sym, subst, ◌∙◌}
-use Rattle.std.specs.Prelude.{Option, Some, None, ◌⊎◌}
+use Rattle.std.proofs.Common.{ℕ, [], ◌∷◌, inl, inr}
+use Rattle.std.specs.Prelude.{Option, Some, None}
 use Rattle.gw_base.specs.declared.required.Required.{Required}
 use Rattle.feed_messages.specs.declared.fault.FeedFault.{FeedFault}
 use Rattle.feed_messages.specs.declared.fault.FeedFault.TheVariants.{EntityTooLong, Wire, NotText, MissingField, Memory}
 use Rattle.feed_messages.specs.Known.{Known, Nothing, WithText, WithMessage, WithMessages}
-use Rattle.feed_messages.specs.Faults.{Piece, Inside, Only, InSome, IsTorn, IsLacking, IsMissing, HasFaultIn}
+use Rattle.feed_messages.specs.Faults.{Piece, Inside, Only, InSome, IsLacking, IsMissing, HasFaultIn}
 use Rattle.feed_messages.specs.Found.{Among, SameSet}
 
 pub same_turned : {M N : Piece → Type 0} → SameSet M N → SameSet N M

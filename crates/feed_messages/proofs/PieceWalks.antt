@@ -1,27 +1,24 @@
 -- Steps of the walks over pieces.
-use Rattle.std.proofs.Common.{◌≡◌, ◌≢◌, ℕ, ◌+◌, ◌*◌, ◌<◌, ◌≤◌, List, [], ◌∷◌, ◌++◌, length, length-append, map, min, take, get_or, refl, sym, ap, subst, ◌∙◌, inl, inr, arith, zero, suc}
-use Rattle.std.proofs.lemmas.List.{append-nil, map-append, take_more, take_all}
+use Rattle.std.proofs.Common.{◌≡◌, ℕ, ◌+◌, ◌*◌, ◌<◌, ◌≤◌, List, [], ◌∷◌, ◌++◌, length, length-append, map, min, take, get_or, refl, sym, ap, subst, ◌∙◌, inl, inr, arith, zero, suc}
+use Rattle.std.proofs.lemmas.List.{map-append, take_more, take_all}
 use Rattle.std.proofs.lemmas.Bool.{cases_lt}
 use Rattle.std.specs.Prelude.{◌⊎◌, Option, Some, None, IsUtf8}
 use Rattle.std.specs.List.{AllByRecursion}
-use Rattle.wire_fields.specs.declared.field.WireFault.{WireFault}
-use Rattle.wire_fields.specs.Grammar.{Bytes, WireField, IsSpelling, AreFields}
-use Rattle.wire_fields.specs.Breaks.{BeginsNone, IsBreak, IsBroken}
+use Rattle.wire_fields.specs.Grammar.{WireField, AreFields}
+use Rattle.wire_fields.specs.Breaks.{BeginsNone, IsBroken}
 use Rattle.wire_fields.proofs.Broken.{fields_or_broken, broken_once}
 use Rattle.wire_fields.proofs.Spellings.{fields_apart}
 use Rattle.wire_fields.proofs.Skips.{positive}
 use Rattle.gw_base.specs.declared.wire_kind.WireKind.{WireKind}
-use Rattle.gw_base.specs.declared.required.Required.{Required}
 use Rattle.feed_messages.specs.declared.fault.FeedFault.{FeedFault}
 use Rattle.feed_messages.specs.declared.fault.FeedFault.TheVariants.{EntityTooLong, Wire, NotText, MissingField, Memory}
 use Rattle.feed_messages.specs.declared.finder.piece.Piece.{Piece}
-use Rattle.feed_messages.specs.Meaning.{bodies}
 use Rattle.feed_messages.specs.Faults as faults
 use Rattle.feed_messages.specs.Faults.{Stands, Inside, InSome, IsTorn, IsNotText, Lacks, IsLacking, missing_place, IsMissing, order, IsLeast}
 use Rattle.feed_messages.specs.Found.{Among, SameSet, earlier_of}
-use Rattle.feed_messages.specs.Pieces.{piece_of, IsFollowed, BreaksHere, IsHere, IsPieceAt, Listed, GoesOn, Gains, SomeStands, NoneStands, SomeInside, IsFirstTag}
+use Rattle.feed_messages.specs.Pieces.{piece_of, IsFollowed, IsHere, IsPieceAt, Listed, GoesOn, Gains, SomeStands, NoneStands, SomeInside, IsFirstTag}
 use Rattle.feed_messages.proofs.FaultOrder.{among_append, among_front, among_back, least_more}
-use Rattle.feed_messages.proofs.Walking.{from, stands_on, stands_later, stands_here, stands_nowhere, none_at_end, broken_on, broken_later, broken_here}
+use Rattle.feed_messages.proofs.Walking.{from, stands_on, stands_later, stands_here, stands_nowhere, none_at_end}
 
 -- ---- breaks
 

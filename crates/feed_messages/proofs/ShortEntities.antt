@@ -1,9 +1,9 @@
 -- Where a feed's entities are short, none is too long.
 use Rattle.std.proofs.Common.{◌≡◌, ◌==◌, ℕ, ◌+◌, ◌*◌, ◌<◌, ◌≤◌, List, [], ◌∷◌, ◌++◌, length, length-append, refl, sym, ap, subst, ◌∙◌, inl, inr, arith, append_assoc}
-use Rattle.std.specs.Prelude.{Option, Some, None, ◌⊎◌, if◌then◌else◌}
+use Rattle.std.specs.Prelude.{Option, Some, None, if◌then◌else◌}
 use Rattle.std.specs.List.{AllByRecursion, cons_option}
 use Rattle.gw_base.specs.declared.messages.Feed.{Feed}
-use Rattle.wire_fields.specs.Grammar.{Payload, Varint, Fixed64, Bytes, Group, Fixed32, WireField, Holds, IsItem, IsPayload, IsChain, IsVarint, IsSpelling, AreFields, BeginsNumber, type_of}
+use Rattle.wire_fields.specs.Grammar.{Payload, Varint, Fixed64, Bytes, Group, Fixed32, WireField, IsPayload, IsChain, IsVarint, IsSpelling, AreFields, BeginsNumber, type_of}
 use Rattle.wire_fields.proofs.Spellings.{field_begins}
 use Rattle.feed_messages.specs.Meaning.{body_in, bodies}
 use Rattle.feed_messages.specs.Tables.{MeansFeed}
@@ -41,8 +41,8 @@ not_here a b field fields spelled short h =
     let p = field_begins 64 field a spelled in
     let item = p.3 in
     let parts : a ++ b ≡ item.tag ++ (item.payload ++ (p.1 ++ b)) =
-        ap (λ (l : List ℕ). l ++ b) (p.2 ∙ ap (λ (l : List ℕ). l ++ p.1) item.joined) ∙ ap (λ (l : List ℕ). l ++ b) (append_assoc item.tag item.payload p.1)
-        ∙ append_assoc item.tag (item.payload ++ p.1) b ∙ ap (λ (l : List ℕ). item.tag ++ l) (append_assoc item.payload p.1 b) in
+    ap (λ (l : List ℕ). l ++ b) (p.2 ∙ ap (λ (l : List ℕ). l ++ p.1) item.joined) ∙ ap (λ (l : List ℕ). l ++ b) (append_assoc item.tag item.payload p.1)
+    ∙ append_assoc item.tag (item.payload ++ p.1) b ∙ ap (λ (l : List ℕ). item.tag ++ l) (append_assoc item.payload p.1 b) in
     let first : BeginsNumber (a ++ b) (field.number * 8 + type_of field.payload) (item.payload ++ (p.1 ++ b)) = (item.tag, parts, item.tagged) in
     let second : BeginsNumber (a ++ b) 18 (h.size ++ h.rest) = (h.tag, h.joined, h.tagged) in
     let same = number_once (a ++ b) (field.number * 8 + type_of field.payload) 18 (item.payload ++ (p.1 ++ b)) (h.size ++ h.rest) first second in

@@ -1,13 +1,11 @@
 -- What stands in a piece, and where it breaks, one field after the other.
-use Rattle.std.proofs.Common.{◌≡◌, ◌≢◌, ℕ, ◌+◌, ◌<◌, List, [], ◌∷◌, ◌++◌, length, length-append, append_assoc, refl, sym, ap, subst, ◌∙◌, inl, inr, arith}
-use Rattle.std.proofs.lemmas.List.{append-nil}
+use Rattle.std.proofs.Common.{◌≡◌, ◌≢◌, ℕ, ◌+◌, List, [], ◌∷◌, ◌++◌, length, length-append, append_assoc, refl, sym, ap, subst, ◌∙◌, inl, inr, arith}
 use Rattle.std.specs.Prelude.{◌⊎◌}
 use Rattle.gw_base.specs.declared.wire_kind.WireKind.{WireKind}
-use Rattle.wire_fields.specs.Grammar.{Bytes, WireField, IsVarint, IsSpelling, AreFields, BeginsNumber}
+use Rattle.wire_fields.specs.Grammar.{Bytes, WireField, IsSpelling, AreFields}
 use Rattle.wire_fields.specs.Breaks.{BeginsNone, IsBreak, IsBroken}
 use Rattle.wire_fields.proofs.Lists.{stops_at_end}
 use Rattle.wire_fields.proofs.Spellings.{fields_apart}
-use Rattle.wire_fields.proofs.Broken.{broken_once}
 use Rattle.feed_messages.specs.Faults.{Piece, Stands, IsLongAt}
 use Rattle.feed_messages.specs.Found.{IsLongHere}
 use Rattle.feed_messages.specs.Pieces.{IsHere}

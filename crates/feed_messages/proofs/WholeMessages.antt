@@ -1,5 +1,5 @@
 -- Messages of which all pieces are lists of fields: what stands in them, and where nothing is wrong with it.
-use Rattle.std.proofs.Common.{◌≡◌, ◌≢◌, ◌==◌, ℕ, ◌+◌, ◌≤◌, ◌<◌, Bool, true, false, List, [], ◌∷◌, ◌++◌, length, map, refl, sym, ap, subst, ◌∙◌, inl, inr, arith}
+use Rattle.std.proofs.Common.{◌≡◌, ◌≢◌, ℕ, ◌+◌, ◌≤◌, Bool, true, false, List, [], ◌∷◌, ◌++◌, refl, sym, ap, subst, ◌∙◌, inl, inr, arith}
 use Rattle.std.proofs.lemmas.List.{append-nil, map-append}
 use Rattle.std.proofs.lemmas.List.Elements.{filter_map-append}
 use Rattle.std.proofs.lemmas.Bool.{cases_lt}
@@ -14,7 +14,7 @@ use Rattle.wire_fields.proofs.Existence.{decided}
 use Rattle.gw_base.specs.declared.required.Required.{Required}
 use Rattle.feed_messages.specs.declared.fault.FeedFault.{FeedFault}
 use Rattle.feed_messages.specs.declared.fault.FeedFault.TheVariants.{EntityTooLong, Wire, NotText, MissingField, Memory}
-use Rattle.feed_messages.specs.Meaning.{bodies, Means, IsJoined, AreBodies, IsMessage, AreMessages, IsText}
+use Rattle.feed_messages.specs.Meaning.{bodies, Means, IsJoined, AreBodies, IsMessage, AreMessages}
 use Rattle.feed_messages.specs.Known.{Known}
 use Rattle.feed_messages.specs.Faults.{Piece, Stands, Inside, Only, InSome, IsTorn, IsNotText, Lacks, IsLacking, missing_place, IsMissing, HasFaultIn}
 use Rattle.feed_messages.specs.Found.{Among, SameSet}

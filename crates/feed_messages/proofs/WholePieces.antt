@@ -1,20 +1,13 @@
 -- Pieces that are lists of fields: what stands in them are the bodies of their fields.
-use Rattle.std.proofs.Common.{◌≡◌, ◌≢◌, ◌==◌, ℕ, ◌+◌, ◌-◌, ◌≤◌, Bool, true, false, List, [], ◌∷◌, ◌++◌, length, length-append, map, refl, sym, ap, subst, ◌∙◌, inl, inr, arith, eqb-true, eq-eqb}
-use Rattle.std.proofs.lemmas.List.{append-nil, map-append}
-use Rattle.std.proofs.lemmas.List.Elements.{filter_map-append}
-use Rattle.std.specs.Prelude.{◌⊎◌, Option, Some, None, IfSome, if◌then◌else◌}
-use Rattle.std.specs.List.{cons_option, AllByRecursion, concat}
+use Rattle.std.proofs.Common.{◌≡◌, ◌==◌, ℕ, ◌+◌, ◌-◌, ◌≤◌, Bool, true, false, List, [], ◌∷◌, ◌++◌, length, map, refl, sym, ap, subst, ◌∙◌, inl, inr, arith, eqb-true, eq-eqb}
+use Rattle.std.specs.Prelude.{Option, Some, None, if◌then◌else◌}
+use Rattle.std.specs.List.{cons_option}
 use Rattle.wire_fields.specs.Grammar.{Payload, Varint, Fixed64, Bytes, Group, Fixed32, WireField, IsSpelling, AreFields}
-use Rattle.wire_fields.proofs.Lists.{Concatenates-append}
-use Rattle.wire_fields.proofs.Broken.{fields_or_broken}
-use Rattle.wire_fields.proofs.Existence.{decided}
-use Rattle.feed_messages.specs.declared.fault.FeedFault.{FeedFault}
-use Rattle.feed_messages.specs.Meaning.{body_in, bodies, AreBodies}
-use Rattle.feed_messages.specs.Faults.{Piece, Stands, Inside, InSome, IsTorn, Lacks}
+use Rattle.feed_messages.specs.Meaning.{body_in, bodies}
+use Rattle.feed_messages.specs.Faults.{Piece, Stands, Lacks}
 use Rattle.feed_messages.specs.Found.{Among, SameSet}
 use Rattle.feed_messages.specs.Pieces.{IsHere}
 use Rattle.feed_messages.proofs.Parts.{short_body}
-use Rattle.feed_messages.proofs.FaultOrder.{among_append, among_front, among_back}
 use Rattle.feed_messages.proofs.Walking.{from, stands_on, stands_later, stands_here, stands_nowhere, none_at_end}
 
 abbrev pub bytes_of : List Piece → List (List ℕ)

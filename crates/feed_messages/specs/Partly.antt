@@ -1,5 +1,5 @@
 -- What of a message is known after some of its fields, as the quick reader keeps it.
-use Rattle.std.specs.Prelude.{◌≡◌, ◌≢◌, ℕ, ℤ, pos, ◌≤◌, List, [], ◌∷◌, ◌++◌, length, Option, Some, None, option_map}
+use Rattle.std.specs.Prelude.{◌≡◌, ◌≢◌, ℕ, ◌≤◌, List, [], ◌∷◌, ◌++◌, length, Option, option_map}
 use denote.Bor.{Bor}
 use Rattle.std.specs.List.{AllByRecursion, concat}
 use Rattle.gw_base.specs.declared.messages.Entity.{Entity}

@@ -1,6 +1,6 @@
 -- What is known of each message after some of its fields, as the quick reader keeps it: of a number the last one, before
 -- it is read by its type.
-use Rattle.std.specs.Prelude.{◌≡◌, ℕ, List}
+use Rattle.std.specs.Prelude.{List}
 use Rattle.wire_fields.specs.Grammar.{WireField}
 use Rattle.feed_messages.specs.declared.quick.tables.AlertParts.{AlertParts}
 use Rattle.feed_messages.specs.declared.quick.tables.EntityParts.{EntityParts}

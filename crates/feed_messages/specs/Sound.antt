@@ -1,5 +1,5 @@
 -- What holds of each value of a message in memory: its numbers fit their types, and its texts are UTF-8.
-use Rattle.std.specs.Prelude.{ℕ, ◌<◌, ◌^◌, List, Option, IfSome, FitsSigned, IsUtf8}
+use Rattle.std.specs.Prelude.{◌<◌, ◌^◌, IfSome, FitsSigned, IsUtf8}
 use Rattle.std.specs.Int.{w32, w64}
 use Rattle.std.specs.List.{AllByRecursion}
 use Rattle.gw_base.specs.declared.messages.Alert.{Alert}

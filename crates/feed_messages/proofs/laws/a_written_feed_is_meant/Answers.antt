@@ -1,4 +1,4 @@
-use Rattle.std.proofs.Common.{pos, negsuc, ◌<◌, ◌^◌, arith}
+use Rattle.std.proofs.Common.{◌<◌, ◌^◌, arith}
 use Rattle.std.proofs.lemmas.Int.{ints}
 use Rattle.std.specs.Prelude.{unsigned_abs}
 use Rattle.feed_messages.proofs.Meant.{means_feed}

@@ -1,5 +1,5 @@
 -- One message more.
-use Rattle.std.proofs.Common.{length, arith}
+use Rattle.std.proofs.Common.{arith}
 use Rattle.std.proofs.lemmas.List.{take_all}
 use Rattle.feed_messages.specs.Pieces.{InEach}
 use Rattle.feed_messages.proofs.PieceWalks.{least_step, least_of_none}

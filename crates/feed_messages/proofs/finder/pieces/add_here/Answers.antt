@@ -1,8 +1,6 @@
 -- The field is this piece, or no piece.
-use Rattle.std.proofs.Common.{ap}
 use Rattle.std.proofs.lemmas.Result.{on_ok_weaker}
 use Rattle.wire_fields.specs.Seen.{field_of}
-use Rattle.feed_messages.specs.Pieces.{GoesOn}
 use Rattle.feed_messages.proofs.PieceWalks.{goes_on_none, goes_on_some}
 use Rattle.feed_messages.proofs.finder.pieces.add_here.Goals as goal
 

@@ -1,5 +1,5 @@
 -- One piece more.
-use Rattle.std.proofs.Common.{length, arith}
+use Rattle.std.proofs.Common.{arith}
 use Rattle.std.proofs.lemmas.List.{take_all}
 use Rattle.feed_messages.specs.Faults.{IsTorn}
 use Rattle.feed_messages.proofs.PieceWalks.{least_step, least_of_none}

@@ -1,6 +1,5 @@
 -- One piece more.
-use Rattle.std.proofs.Common.{length, arith, ap, sym}
-use Rattle.std.proofs.lemmas.List.{take_all}
+use Rattle.std.proofs.Common.{arith, ap, sym}
 use Rattle.feed_messages.specs.declared.finder.piece.Piece.{Piece}
 use Rattle.feed_messages.specs.Pieces.{piece_of}
 use Rattle.feed_messages.proofs.PieceWalks.{listed_item, first_tag_here, first_tag_least, first_tag_all}

@@ -1,5 +1,5 @@
 -- The field is missing where all pieces lack it.
-use Rattle.std.proofs.Common.{◌≡◌, ℕ, length, sym, eqb-true, subst, arith}
+use Rattle.std.proofs.Common.{sym, eqb-true, subst}
 use Rattle.std.specs.Prelude.{Option, Some, None}
 use Rattle.gw_base.specs.declared.required.Required.{Required}
 use Rattle.feed_messages.specs.declared.fault.FeedFault.TheVariants.{MissingField}

@@ -1,6 +1,4 @@
 -- A body behind those that are put together.
-use Rattle.feed_messages.specs.Partly.{IsFoundIn}
-use Rattle.feed_messages.specs.declared.quick.found.Found.{Found}
 use Rattle.feed_messages.proofs.OneMore.{found_more}
 use Rattle.feed_messages.proofs.quick.found.with_body.Goals as goal
 

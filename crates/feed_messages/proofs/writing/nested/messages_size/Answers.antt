@@ -1,7 +1,6 @@
 -- One message more.
-use Rattle.std.proofs.Common.{◌<◌, length, arith, sym, ap, subst, ◌∙◌}
+use Rattle.std.proofs.Common.{◌<◌, length, arith}
 use Rattle.wire_fields.specs.Spelling.{bytes_field}
-use Rattle.feed_messages.specs.Sizes.{Counts}
 use Rattle.feed_messages.proofs.SizeLemmas.{one_part_more}
 use Rattle.feed_messages.proofs.writing.nested.messages_size.Goals as goal
 

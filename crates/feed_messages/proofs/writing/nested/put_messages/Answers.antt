@@ -1,6 +1,4 @@
 -- One message more.
-use Rattle.std.proofs.Common.{◌<◌, length, arith}
-use Rattle.std.proofs.lemmas.List.{take_more}
 use Rattle.wire_fields.specs.Spelling.{bytes_field}
 use Rattle.feed_messages.proofs.SizeLemmas.{appends_both, one_part_more, part_fits, all_more}
 use Rattle.feed_messages.proofs.writing.nested.put_messages.Goals as goal

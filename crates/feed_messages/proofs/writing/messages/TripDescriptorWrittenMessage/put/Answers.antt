@@ -1,5 +1,4 @@
 -- The parts are written one behind the other.
-use Rattle.std.proofs.Common.{ℕ, length, arith, length-append}
 use Rattle.feed_messages.proofs.SizeLemmas.{appends_both}
 use Rattle.feed_messages.proofs.writing.messages.TripDescriptorWrittenMessage.put.Goals as goal
 
