@@ -272,7 +272,7 @@ meant_without_fault bytes none =
       | inr broken ↦ absurd (none (Wire (record { at = broken.0; kind = broken.1 })) (inr (inl (broken.0, broken.2, omega arith))))
     ]
 
-not_long : (bytes : List ℕ) → ((at : ℕ) → ¬ IsLongAt bytes at) → (f : FeedFault) → IsTooLong bytes f → ⊥
+pub not_long : (bytes : List ℕ) → ((at : ℕ) → ¬ IsLongAt bytes at) → (f : FeedFault) → IsTooLong bytes f → ⊥
 not_long bytes none (EntityTooLong at) h = none at h
 not_long bytes none (Wire fault) h = h
 not_long bytes none (NotText at) h = h

@@ -1,4 +1,5 @@
 pub mod Building
+pub mod Deciding
 pub mod FaultLaw
 pub mod FaultOrder
 mod FieldLengths

@@ -86,7 +86,7 @@ long_back bytes rest after field h s q l =
 pub long_in_more : (bytes : List ℕ) (rest after : Piece) (field : WireField) → LongIn bytes rest → IsFollowed rest field after → ¬ IsLongHere after.bytes.now → LongIn bytes after
 long_in_more bytes rest after field h s none = record { to = long_after bytes rest after field h s; back = long_back bytes rest after field h s; here = none }
 
-long_order : (bytes : List ℕ) (least : ℕ) → ((at : ℕ) → IsLongAt bytes at → least ≤ at) → (f : FeedFault) → IsTooLong bytes f → least * 4 ≤ order f
+pub long_order : (bytes : List ℕ) (least : ℕ) → ((at : ℕ) → IsLongAt bytes at → least ≤ at) → (f : FeedFault) → IsTooLong bytes f → least * 4 ≤ order f
 long_order bytes least h (EntityTooLong at) l = omega (arith, h at l)
 long_order bytes least h (Wire fault) l = absurd l
 long_order bytes least h (NotText at) l = absurd l

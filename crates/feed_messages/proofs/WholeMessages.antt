@@ -89,7 +89,7 @@ whole_unbroken (piece ∷ pieces) none =
     let rest = whole_unbroken pieces (λ f x. none f (x.0, inr x.1, x.2)) in
     (first.0 ++ rest.0, (first.0, rest.0, first.1, rest.1, refl))
 
-fields_not_torn : (piece : Piece) (fields : List WireField) → AreFields piece.bytes fields → (f : FeedFault) → IsTorn piece f → ⊥
+pub fields_not_torn : (piece : Piece) (fields : List WireField) → AreFields piece.bytes fields → (f : FeedFault) → IsTorn piece f → ⊥
 fields_not_torn piece fields read (Wire fault) h = fields_or_broken piece.bytes fields h.0 fault.kind read h.1
 fields_not_torn piece fields read (EntityTooLong at) h = h
 fields_not_torn piece fields read (NotText at) h = h
