@@ -1,9 +1,8 @@
 -- Bytes have a first fault, or none: found from their parts.
-use Rattle.std.proofs.Common.{◌≡◌, ◌≢◌, ◌==◌, ℕ, ◌+◌, ◌*◌, ◌<◌, ◌≤◌, Bool, true, false, List, [], ◌∷◌, ◌++◌, length, map, Ok, Err, Result, refl, sym, ap, subst, ◌∙◌, inl, inr, arith, append_assoc, eqb-true, eq-eqb}
+use Rattle.std.proofs.Common.{◌≡◌, ◌==◌, ℕ, ◌+◌, ◌*◌, ◌≤◌, Bool, true, false, List, [], ◌∷◌, ◌++◌, length, Ok, Err, Result, refl, sym, ap, subst, ◌∙◌, inl, inr, arith, append_assoc, eqb-true, eq-eqb}
 use Rattle.std.proofs.lemmas.Bool.{cases_lt}
 use Rattle.std.proofs.lemmas.List.{append-nil}
-use Rattle.std.specs.Prelude.{◌⊎◌, Option, Some, None, if◌then◌else◌}
-use Rattle.std.specs.List.{cons_option}
+use Rattle.std.specs.Prelude.{◌⊎◌, Option, Some, None}
 use Rattle.gw_base.specs.declared.required.Required.{Required}
 use Rattle.gw_base.specs.declared.wire_kind.WireKind.{WireKind}
 use Rattle.wire_fields.specs.Grammar.{WireField, IsSpelling, AreFields, BeginsNumber}
@@ -100,17 +99,19 @@ all_inner : (number : ℕ) (pieces : List Piece) → Inner (Inside number (Among
 all_inner number [] = ([], record { to = λ q x. x.1; back = λ q a. absurd a })
 all_inner number (piece ∷ pieces) =
     let l = piece_inner number piece in
-    let k = all_inner number pieces in
-    (l.0 ++ k.0, record {
-      to = λ q x. elim x.1 [
-        | inl e ↦ among_front l.0 k.0 q (l.1.to q (subst (λ (p : Piece). Stands p number q) e x.2))
-        | inr a ↦ among_back l.0 k.0 q (k.1.to q (x.0, a, x.2))
-      ];
-      back = λ q a. elim (among_append l.0 k.0 q a) [
-        | inl b ↦ (piece, inl refl, l.1.back q b)
-        | inr b ↦ (let x = k.1.back q b in (x.0, inr x.1, x.2))
-      ];
-    })
+    let k = all_inner number pieces in (
+      l.0 ++ k.0,
+      record {
+        to = λ q x. elim x.1 [
+          | inl e ↦ among_front l.0 k.0 q (l.1.to q (subst (λ (p : Piece). Stands p number q) e x.2))
+          | inr a ↦ among_back l.0 k.0 q (k.1.to q (x.0, a, x.2))
+        ];
+        back = λ q a. elim (among_append l.0 k.0 q a) [
+          | inl b ↦ (piece, inl refl, l.1.back q b)
+          | inr b ↦ (let x = k.1.back q b in (x.0, inr x.1, x.2))
+        ];
+      },
+    )
 
 -- ---- a missing field
 
@@ -182,28 +183,28 @@ in_decided Nothing end pieces = no_faults
 in_decided (WithText number name others) end pieces =
     let inner = all_inner number pieces in
     let texts =
-        otherwise_said (InSome (Among inner.0) IsNotText) (InSome (Inside number (Among pieces)) IsNotText) (in_same IsNotText (same_turned inner.1)) (in_same IsNotText inner.1)
-        (some_decided IsNotText text_decided inner.0) in
+    otherwise_said (InSome (Among inner.0) IsNotText) (InSome (Inside number (Among pieces)) IsNotText) (in_same IsNotText (same_turned inner.1)) (in_same IsNotText inner.1)
+    (some_decided IsNotText text_decided inner.0) in
     either (λ f. InSome (Inside number (Among pieces)) IsNotText f ⊎ IsMissing number name (Among pieces) end f) (HasFaultIn others (Among pieces) end)
     (either (InSome (Inside number (Among pieces)) IsNotText) (IsMissing number name (Among pieces) end) texts (missing_decided number end name pieces)) (in_decided others end pieces)
 in_decided (WithMessage number name known others) end pieces =
     let inner = all_inner number pieces in
     let torn =
-        otherwise_said (InSome (Among inner.0) IsTorn) (InSome (Inside number (Among pieces)) IsTorn) (in_same IsTorn (same_turned inner.1)) (in_same IsTorn inner.1) (some_decided IsTorn torn_decided inner.0) in
+    otherwise_said (InSome (Among inner.0) IsTorn) (InSome (Inside number (Among pieces)) IsTorn) (in_same IsTorn (same_turned inner.1)) (in_same IsTorn inner.1) (some_decided IsTorn torn_decided inner.0) in
     let inside =
-        otherwise_said (HasFaultIn known (Among inner.0) end) (HasFaultIn known (Inside number (Among pieces)) end) (faults_same known end (same_turned inner.1)) (faults_same known end inner.1)
-        (in_decided known end inner.0) in
+    otherwise_said (HasFaultIn known (Among inner.0) end) (HasFaultIn known (Inside number (Among pieces)) end) (faults_same known end (same_turned inner.1)) (faults_same known end inner.1)
+    (in_decided known end inner.0) in
     either (λ f. InMessage known (Inside number (Among pieces)) end f ⊎ IsMissing number name (Among pieces) end f) (HasFaultIn others (Among pieces) end)
     (either (InMessage known (Inside number (Among pieces)) end) (IsMissing number name (Among pieces) end)
     (either (InSome (Inside number (Among pieces)) IsTorn) (HasFaultIn known (Inside number (Among pieces)) end) torn inside) (missing_decided number end name pieces)) (in_decided others end pieces)
 in_decided (WithMessages number known others) end pieces =
     let inner = all_inner number pieces in
     let each = λ (piece : Piece).
-        either (IsTorn piece) (HasFaultIn known (Only piece) end) (torn_decided piece)
-        (otherwise_said (HasFaultIn known (Among (piece ∷ [])) end) (HasFaultIn known (Only piece) end) (faults_same known end (same_turned (one_listed piece))) (faults_same known end (one_listed piece)) (in_decided known end (piece ∷ []))) in
+    either (IsTorn piece) (HasFaultIn known (Only piece) end) (torn_decided piece)
+    (otherwise_said (HasFaultIn known (Among (piece ∷ [])) end) (HasFaultIn known (Only piece) end) (faults_same known end (same_turned (one_listed piece))) (faults_same known end (one_listed piece)) (in_decided known end (piece ∷ []))) in
     let found =
-        otherwise_said (InSome (Among inner.0) (InEach known end)) (InSome (Inside number (Among pieces)) (InEach known end)) (in_same (InEach known end) (same_turned inner.1)) (in_same (InEach known end) inner.1)
-        (some_decided (InEach known end) each inner.0) in
+    otherwise_said (InSome (Among inner.0) (InEach known end)) (InSome (Inside number (Among pieces)) (InEach known end)) (in_same (InEach known end) (same_turned inner.1)) (in_same (InEach known end) inner.1)
+    (some_decided (InEach known end) each inner.0) in
     either (InSome (Inside number (Among pieces)) (InEach known end)) (HasFaultIn others (Among pieces) end) found (in_decided others end pieces)
 
 -- ---- an entity that is too long
@@ -249,10 +250,14 @@ long_further a b field spelled later =
     elim (long_here_or (a ++ b)) [
       | inl here ↦ inl (0, long_here (a ++ b) here, λ other l. omega arith)
       | inr nowhere ↦ elim later [
-        | inl l ↦ inl (length a + l.0, long_later a b field l.0 spelled l.1, λ other m. elim (long_on a b field other spelled m) [
-          | inl here ↦ absurd (nowhere here)
-          | inr behind ↦ omega (arith, behind.1, l.2 behind.0 behind.2)
-        ])
+        | inl l ↦ inl (
+          length a + l.0,
+          long_later a b field l.0 spelled l.1,
+          λ other m. elim (long_on a b field other spelled m) [
+            | inl here ↦ absurd (nowhere here)
+            | inr behind ↦ omega (arith, behind.1, l.2 behind.0 behind.2)
+          ],
+        )
         | inr none ↦ inr (λ at m. elim (long_on a b field at spelled m) [ inl here ↦ nowhere here | inr behind ↦ none behind.0 behind.2 ])
       ]
     ]
@@ -282,8 +287,8 @@ too_long_decided bytes =
 fault_decided : (bytes : List ℕ) → Decided (HasFault bytes)
 fault_decided bytes =
     let inside =
-        otherwise_said (HasFaultIn feed_known (Among (whole bytes ∷ [])) (length bytes)) (HasFaultIn feed_known (Only (whole bytes)) (length bytes))
-        (faults_same feed_known (length bytes) (same_turned (one_listed (whole bytes)))) (faults_same feed_known (length bytes) (one_listed (whole bytes))) (in_decided feed_known (length bytes) (whole bytes ∷ [])) in
+    otherwise_said (HasFaultIn feed_known (Among (whole bytes ∷ [])) (length bytes)) (HasFaultIn feed_known (Only (whole bytes)) (length bytes))
+    (faults_same feed_known (length bytes) (same_turned (one_listed (whole bytes)))) (faults_same feed_known (length bytes) (one_listed (whole bytes))) (in_decided feed_known (length bytes) (whole bytes ∷ [])) in
     either (IsTooLong bytes) (InEach feed_known (length bytes) (whole bytes)) (too_long_decided bytes)
     (either (IsTorn (whole bytes)) (HasFaultIn feed_known (Only (whole bytes)) (length bytes)) (torn_decided (whole bytes)) inside)
 
