@@ -29,43 +29,52 @@ text_of number fields = last_or None (bodies number fields)
 -- ---- what has no fault is read
 
 read_event : Reads event_known OfStopTimeEvent
-read_event end piece pieces fields w none = (record {
-  delay = option_map (λ n. cast_signed w32 (n % 2 ^ 32)) (number_of 1 fields);
-  time = option_map (cast_signed w64) (number_of 2 fields);
-}, record { delay = refl; time = refl })
+read_event end piece pieces fields w none = (
+  record {
+    delay = option_map (λ n. cast_signed w32 (n % 2 ^ 32)) (number_of 1 fields);
+    time = option_map (cast_signed w64) (number_of 2 fields);
+  },
+  record { delay = refl; time = refl },
+)
 
 read_period : Reads period_known OfTimeRange
 read_period end piece pieces fields w none = (record { start = number_of 1 fields; end = number_of 2 fields }, record { start = refl; end = refl })
 
 read_trip : Reads trip_known OfTripDescriptor
-read_trip end piece pieces fields w none = (record {
-  trip_id = text_of 1 fields;
-  start_date = text_of 3 fields;
-  relation = enum_of 4 (pos 0) fields;
-  route_id = text_of 5 fields;
-}, record {
-  trip_id = (texts_read 1 (piece ∷ pieces) fields w (λ f x. none f (inl (inl x))), refl);
-  start_date = (texts_read 3 (piece ∷ pieces) fields w (λ f x. none f (inr (inl (inl x)))), refl);
-  schedule_relationship = refl;
-  route_id = (texts_read 5 (piece ∷ pieces) fields w (λ f x. none f (inr (inr (inl (inl x))))), refl);
-})
+read_trip end piece pieces fields w none = (
+  record {
+    trip_id = text_of 1 fields;
+    start_date = text_of 3 fields;
+    relation = enum_of 4 (pos 0) fields;
+    route_id = text_of 5 fields;
+  },
+  record {
+    trip_id = (texts_read 1 (piece ∷ pieces) fields w (λ f x. none f (inl (inl x))), refl);
+    start_date = (texts_read 3 (piece ∷ pieces) fields w (λ f x. none f (inr (inl (inl x)))), refl);
+    schedule_relationship = refl;
+    route_id = (texts_read 5 (piece ∷ pieces) fields w (λ f x. none f (inr (inr (inl (inl x))))), refl);
+  },
+)
 
 read_stop : Reads stop_known OfStopTimeUpdate
 read_stop end piece pieces fields w none =
     let arrival = message_read event_known OfStopTimeEvent read_event end 2 (piece ∷ pieces) fields w (λ f x. none f (inl (inl x))) in
-    let departure = message_read event_known OfStopTimeEvent read_event end 3 (piece ∷ pieces) fields w (λ f x. none f (inr (inl (inl x)))) in (record {
-      sequence = option_map (λ n. n % 2 ^ 32) (number_of 1 fields);
-      arrival = arrival.0;
-      departure = departure.0;
-      stop_id = text_of 4 fields;
-      relation = enum_of 5 (pos 0) fields;
-    }, record {
-      stop_sequence = refl;
-      arrival = arrival.1;
-      departure = departure.1;
-      stop_id = (texts_read 4 (piece ∷ pieces) fields w (λ f x. none f (inr (inr (inl (inl x))))), refl);
-      schedule_relationship = refl;
-    })
+    let departure = message_read event_known OfStopTimeEvent read_event end 3 (piece ∷ pieces) fields w (λ f x. none f (inr (inl (inl x)))) in (
+      record {
+        sequence = option_map (λ n. n % 2 ^ 32) (number_of 1 fields);
+        arrival = arrival.0;
+        departure = departure.0;
+        stop_id = text_of 4 fields;
+        relation = enum_of 5 (pos 0) fields;
+      },
+      record {
+        stop_sequence = refl;
+        arrival = arrival.1;
+        departure = departure.1;
+        stop_id = (texts_read 4 (piece ∷ pieces) fields w (λ f x. none f (inr (inr (inl (inl x))))), refl);
+        schedule_relationship = refl;
+      },
+    )
 
 read_update : Reads update_known OfTripUpdate
 read_update end piece pieces fields w none =
@@ -75,17 +84,20 @@ read_update end piece pieces fields w none =
 
 read_selector : Reads selector_known OfEntitySelector
 read_selector end piece pieces fields w none =
-    let trip = message_read trip_known OfTripDescriptor read_trip end 4 (piece ∷ pieces) fields w (λ f x. none f (inr (inr (inl (inl x))))) in (record {
-      agency_id = text_of 1 fields;
-      route_id = text_of 2 fields;
-      trip = trip.0;
-      stop_id = text_of 5 fields;
-    }, record {
-      agency_id = (texts_read 1 (piece ∷ pieces) fields w (λ f x. none f (inl (inl x))), refl);
-      route_id = (texts_read 2 (piece ∷ pieces) fields w (λ f x. none f (inr (inl (inl x)))), refl);
-      trip = trip.1;
-      stop_id = (texts_read 5 (piece ∷ pieces) fields w (λ f x. none f (inr (inr (inr (inl (inl x)))))), refl);
-    })
+    let trip = message_read trip_known OfTripDescriptor read_trip end 4 (piece ∷ pieces) fields w (λ f x. none f (inr (inr (inl (inl x))))) in (
+      record {
+        agency_id = text_of 1 fields;
+        route_id = text_of 2 fields;
+        trip = trip.0;
+        stop_id = text_of 5 fields;
+      },
+      record {
+        agency_id = (texts_read 1 (piece ∷ pieces) fields w (λ f x. none f (inl (inl x))), refl);
+        route_id = (texts_read 2 (piece ∷ pieces) fields w (λ f x. none f (inr (inl (inl x)))), refl);
+        trip = trip.1;
+        stop_id = (texts_read 5 (piece ∷ pieces) fields w (λ f x. none f (inr (inr (inr (inl (inl x)))))), refl);
+      },
+    )
 
 read_translation : Reads translation_known OfTranslation
 read_translation end piece pieces fields w none =
@@ -100,55 +112,65 @@ read_alert end piece pieces fields w none =
     let periods = messages_read period_known OfTimeRange read_period end 1 (piece ∷ pieces) fields w (λ f x. none f (inl x)) in
     let selectors = messages_read selector_known OfEntitySelector read_selector end 5 (piece ∷ pieces) fields w (λ f x. none f (inr (inl x))) in
     let header = message_read string_known OfTranslatedString read_string end 10 (piece ∷ pieces) fields w (λ f x. none f (inr (inr (inl (inl x))))) in
-    let description = message_read string_known OfTranslatedString read_string end 11 (piece ∷ pieces) fields w (λ f x. none f (inr (inr (inr (inl (inl x)))))) in (record {
-      periods = periods.0;
-      selectors = selectors.0;
-      cause = enum_of 6 (pos 1) fields;
-      effect = enum_of 7 (pos 8) fields;
-      header = unwrap_or header.0 [];
-      description = unwrap_or description.0 [];
-    }, record {
-      active_period = periods.1;
-      informed_entity = selectors.1;
-      cause = refl;
-      effect = refl;
-      header_text = record { found = header.0; message = header.1; same = refl };
-      description_text = record { found = description.0; message = description.1; same = refl };
-    })
+    let description = message_read string_known OfTranslatedString read_string end 11 (piece ∷ pieces) fields w (λ f x. none f (inr (inr (inr (inl (inl x)))))) in (
+      record {
+        periods = periods.0;
+        selectors = selectors.0;
+        cause = enum_of 6 (pos 1) fields;
+        effect = enum_of 7 (pos 8) fields;
+        header = unwrap_or header.0 [];
+        description = unwrap_or description.0 [];
+      },
+      record {
+        active_period = periods.1;
+        informed_entity = selectors.1;
+        cause = refl;
+        effect = refl;
+        header_text = record { found = header.0; message = header.1; same = refl };
+        description_text = record { found = description.0; message = description.1; same = refl };
+      },
+    )
 
 read_entity : Reads entity_known OfFeedEntity
 read_entity end piece pieces fields w none =
     let id = last_there (bodies 1 fields) (not_missing 1 end names.Id piece pieces fields w (λ f x. none f (inl (inr x)))) in
     let update = message_read update_known OfTripUpdate read_update end 3 (piece ∷ pieces) fields w (λ f x. none f (inr (inl (inl x)))) in
-    let alert = message_read alert_known OfAlert read_alert end 5 (piece ∷ pieces) fields w (λ f x. none f (inr (inr (inl (inl x))))) in (record {
-      id = id.0;
-      deleted = unwrap_or (option_map (λ n. not (n == 0)) (number_of 2 fields)) false;
-      trip_update = update.0;
-      alert = alert.0;
-    }, record {
-      id = (texts_read 1 (piece ∷ pieces) fields w (λ f x. none f (inl (inl x))), id.1);
-      is_deleted = refl;
-      trip_update = update.1;
-      alert = alert.1;
-    })
+    let alert = message_read alert_known OfAlert read_alert end 5 (piece ∷ pieces) fields w (λ f x. none f (inr (inr (inl (inl x))))) in (
+      record {
+        id = id.0;
+        deleted = unwrap_or (option_map (λ n. not (n == 0)) (number_of 2 fields)) false;
+        trip_update = update.0;
+        alert = alert.0;
+      },
+      record {
+        id = (texts_read 1 (piece ∷ pieces) fields w (λ f x. none f (inl (inl x))), id.1);
+        is_deleted = refl;
+        trip_update = update.1;
+        alert = alert.1;
+      },
+    )
 
 read_header : Reads header_known OfFeedHeader
 read_header end piece pieces fields w none =
-    let version = last_there (bodies 1 fields) (not_missing 1 end names.GtfsRealtimeVersion piece pieces fields w (λ f x. none f (inl (inr x)))) in
-    (record { version = version.0; incrementality = enum_of 2 (pos 0) fields; timestamp = number_of 3 fields }, record {
-      gtfs_realtime_version = (texts_read 1 (piece ∷ pieces) fields w (λ f x. none f (inl (inl x))), version.1);
-      incrementality = refl;
-      timestamp = refl;
-    })
+    let version = last_there (bodies 1 fields) (not_missing 1 end names.GtfsRealtimeVersion piece pieces fields w (λ f x. none f (inl (inr x)))) in (
+      record { version = version.0; incrementality = enum_of 2 (pos 0) fields; timestamp = number_of 3 fields },
+      record {
+        gtfs_realtime_version = (texts_read 1 (piece ∷ pieces) fields w (λ f x. none f (inl (inl x))), version.1);
+        incrementality = refl;
+        timestamp = refl;
+      },
+    )
 
 read_feed : Reads feed_known OfFeedMessage
 read_feed end piece pieces fields w none =
     let header = required_read header_known OfFeedHeader read_header end 1 names.Header piece pieces fields w (λ f x. none f (inl (inl x))) (λ f x. none f (inl (inr x))) in
-    let entities = messages_read entity_known OfFeedEntity read_entity end 2 (piece ∷ pieces) fields w (λ f x. none f (inr (inl x))) in
-    (record { version = header.0.version; incrementality = header.0.incrementality; timestamp = header.0.timestamp; entities = entities.0 }, record {
-      header = header.1;
-      entity = entities.1;
-    })
+    let entities = messages_read entity_known OfFeedEntity read_entity end 2 (piece ∷ pieces) fields w (λ f x. none f (inr (inl x))) in (
+      record { version = header.0.version; incrementality = header.0.incrementality; timestamp = header.0.timestamp; entities = entities.0 },
+      record {
+        header = header.1;
+        entity = entities.1;
+      },
+    )
 
 -- ---- what is read has no fault
 
@@ -243,14 +265,14 @@ meant_without_fault bytes none =
     elim (decided bytes) [
       | inl read ↦ (
         (let m = read_feed (length bytes) (whole bytes) [] read.0 (one_whole (whole bytes) read.0 read.1)
-        (λ f x. none f (inr (inr (faults_same feed_known (length bytes) (same_turned (one_listed (whole bytes))) f x)))) in
-        (m.0, record { fields = read.0; read = read.1; table = m.1 })),
+            (λ f x. none f (inr (inr (faults_same feed_known (length bytes) (same_turned (one_listed (whole bytes))) f x)))) in
+            (m.0, record { fields = read.0; read = read.1; table = m.1 })),
         none_long bytes none,
       )
       | inr broken ↦ absurd (none (Wire (record { at = broken.0; kind = broken.1 })) (inr (inl (broken.0, broken.2, omega arith))))
     ]
 
-not_long : (bytes : List ℕ) → ((at : ℕ) → ¬ IsLongAt bytes at) → (f : FeedFault) → IsTooLong bytes f → ⊥
+pub not_long : (bytes : List ℕ) → ((at : ℕ) → ¬ IsLongAt bytes at) → (f : FeedFault) → IsTooLong bytes f → ⊥
 not_long bytes none (EntityTooLong at) h = none at h
 not_long bytes none (Wire fault) h = h
 not_long bytes none (NotText at) h = h

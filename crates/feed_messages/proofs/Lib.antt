@@ -1,4 +1,5 @@
 pub mod Building
+pub mod Deciding
 pub mod FaultLaw
 pub mod FaultOrder
 mod FieldLengths
@@ -7,11 +8,13 @@ mod HeaderLemmas
 pub mod MessageFaults
 pub mod MissingFields
 mod OneMeaning
+pub mod OneMore
 pub mod LongEntities
 pub mod Meant
 pub mod Parts
 pub mod PieceSets
 pub mod PieceWalks
+pub mod ShortEntities
 mod SizeLemmas
 pub mod Told
 pub mod Walking

@@ -15,7 +15,7 @@ use Rattle.feed_messages.specs.Pieces.{IsFollowed}
 use Rattle.feed_messages.proofs.Walking.{long_here, long_later, long_on, long_only_here}
 
 -- bytes begin with one number at most
-number_once : (bytes : List ℕ) (value other : ℕ) (rest behind : List ℕ) → BeginsNumber bytes value rest → BeginsNumber bytes other behind → (value ≡ other) × (rest ≡ behind)
+pub number_once : (bytes : List ℕ) (value other : ℕ) (rest behind : List ℕ) → BeginsNumber bytes value rest → BeginsNumber bytes other behind → (value ≡ other) × (rest ≡ behind)
 number_once bytes value other rest behind h k =
     let first = ap varint_at h.1 ∙ varint_again h.0 rest value h.2 in
     let second = ap varint_at k.1 ∙ varint_again k.0 behind other k.2 in
@@ -86,7 +86,7 @@ long_back bytes rest after field h s q l =
 pub long_in_more : (bytes : List ℕ) (rest after : Piece) (field : WireField) → LongIn bytes rest → IsFollowed rest field after → ¬ IsLongHere after.bytes.now → LongIn bytes after
 long_in_more bytes rest after field h s none = record { to = long_after bytes rest after field h s; back = long_back bytes rest after field h s; here = none }
 
-long_order : (bytes : List ℕ) (least : ℕ) → ((at : ℕ) → IsLongAt bytes at → least ≤ at) → (f : FeedFault) → IsTooLong bytes f → least * 4 ≤ order f
+pub long_order : (bytes : List ℕ) (least : ℕ) → ((at : ℕ) → IsLongAt bytes at → least ≤ at) → (f : FeedFault) → IsTooLong bytes f → least * 4 ≤ order f
 long_order bytes least h (EntityTooLong at) l = omega (arith, h at l)
 long_order bytes least h (Wire fault) l = absurd l
 long_order bytes least h (NotText at) l = absurd l

@@ -150,8 +150,8 @@ pub means_trip : Meant OfTripDescriptor trip_descriptor IsSoundTrip
 unfolding trip_parts
 means_trip trip sound short =
     let built : Builds (trip_descriptor trip) (trip_parts trip) =
-        then_built (then_built (then_built (builds_optional_text 1 trip.trip_id (omega arith) (omega arith)) (builds_optional_text 3 trip.start_date (omega arith) (omega arith)))
-        (builds_signed 4 trip.relation (omega arith) (omega arith) (wider trip.relation sound.relation))) (builds_optional_text 5 trip.route_id (omega arith) (omega arith)) in
+    then_built (then_built (then_built (builds_optional_text 1 trip.trip_id (omega arith) (omega arith)) (builds_optional_text 3 trip.start_date (omega arith) (omega arith)))
+    (builds_signed 4 trip.relation (omega arith) (omega arith) (wider trip.relation sound.relation))) (builds_optional_text 5 trip.route_id (omega arith) (omega arith)) in
     record {
       fields = fields_of (trip_parts trip);
       read = built.read short;
@@ -170,7 +170,7 @@ means_event : Meant OfStopTimeEvent stop_time_event IsSoundEvent
 unfolding event_parts
 means_event event sound short =
     let built : Builds (stop_time_event event) (event_parts event) =
-        then_built (builds_optional_signed 1 event.delay (omega arith) (omega arith) (wider_some event.delay sound.delay)) (builds_optional_signed 2 event.time (omega arith) (omega arith) sound.time) in
+    then_built (builds_optional_signed 1 event.delay (omega arith) (omega arith) (wider_some event.delay sound.delay)) (builds_optional_signed 2 event.time (omega arith) (omega arith) sound.time) in
     record {
       fields = fields_of (event_parts event);
       read = built.read short;
@@ -189,10 +189,10 @@ means_stop : Meant OfStopTimeUpdate stop_time_update IsSoundStop
 unfolding stop_parts
 means_stop update sound short =
     let events =
-        then_built (then_built (builds_optional_number 1 update.sequence (omega arith) (omega arith) (larger_some update.sequence sound.sequence)) (builds_optional_body 2 stop_time_event update.arrival (omega arith) (omega arith)))
-        (builds_optional_body 3 stop_time_event update.departure (omega arith) (omega arith)) in
+    then_built (then_built (builds_optional_number 1 update.sequence (omega arith) (omega arith) (larger_some update.sequence sound.sequence)) (builds_optional_body 2 stop_time_event update.arrival (omega arith) (omega arith)))
+    (builds_optional_body 3 stop_time_event update.departure (omega arith) (omega arith)) in
     let built : Builds (stop_time_update update) (stop_parts update) =
-        then_built (then_built events (builds_optional_text 4 update.stop_id (omega arith) (omega arith))) (builds_relation update.relation (wider update.relation sound.relation)) in
+    then_built (then_built events (builds_optional_text 4 update.stop_id (omega arith) (omega arith))) (builds_relation update.relation (wider update.relation sound.relation)) in
     let read = built.read short in
     record {
       fields = fields_of (stop_parts update);
@@ -213,8 +213,8 @@ means_update : Meant OfTripUpdate trip_update IsSoundUpdate
 unfolding update_parts
 means_update update sound short =
     let built : Builds (trip_update update) (update_parts update) =
-        then_built (then_built (builds_body 1 (trip_descriptor update.trip) (omega arith) (omega arith)) (builds_bodies 2 stop_time_update update.updates (omega arith) (omega arith)))
-        (builds_optional_number 4 update.timestamp (omega arith) (omega arith) sound.timestamp) in
+    then_built (then_built (builds_body 1 (trip_descriptor update.trip) (omega arith) (omega arith)) (builds_bodies 2 stop_time_update update.updates (omega arith) (omega arith)))
+    (builds_optional_number 4 update.timestamp (omega arith) (omega arith) sound.timestamp) in
     let read = built.read short in
     record {
       fields = fields_of (update_parts update);
@@ -233,7 +233,7 @@ means_period : Meant OfTimeRange time_range IsSoundPeriod
 unfolding period_parts
 means_period period sound short =
     let built : Builds (time_range period) (period_parts period) =
-        then_built (builds_optional_number 1 period.start (omega arith) (omega arith) sound.start) (builds_optional_number 2 period.end (omega arith) (omega arith) sound.end) in
+    then_built (builds_optional_number 1 period.start (omega arith) (omega arith) sound.start) (builds_optional_number 2 period.end (omega arith) (omega arith) sound.end) in
     record {
       fields = fields_of (period_parts period);
       read = built.read short;
@@ -248,8 +248,8 @@ means_selector : Meant OfEntitySelector entity_selector IsSoundSelector
 unfolding selector_parts
 means_selector selector sound short =
     let built : Builds (entity_selector selector) (selector_parts selector) =
-        then_built (then_built (then_built (builds_optional_text 1 selector.agency_id (omega arith) (omega arith)) (builds_optional_text 2 selector.route_id (omega arith) (omega arith)))
-        (builds_optional_body 4 trip_descriptor selector.trip (omega arith) (omega arith))) (builds_optional_text 5 selector.stop_id (omega arith) (omega arith)) in
+    then_built (then_built (then_built (builds_optional_text 1 selector.agency_id (omega arith) (omega arith)) (builds_optional_text 2 selector.route_id (omega arith) (omega arith)))
+    (builds_optional_body 4 trip_descriptor selector.trip (omega arith) (omega arith))) (builds_optional_text 5 selector.stop_id (omega arith) (omega arith)) in
     let read = built.read short in
     record {
       fields = fields_of (selector_parts selector);
@@ -269,7 +269,7 @@ means_translation : Meant OfTranslation translation IsSoundTranslation
 unfolding translation_parts
 means_translation text sound short =
     let built : Builds (translation text) (translation_parts text) =
-        then_built (builds_body 1 text.text (omega arith) (omega arith)) (builds_optional_text 2 text.language (omega arith) (omega arith)) in
+    then_built (builds_body 1 text.text (omega arith) (omega arith)) (builds_optional_text 2 text.language (omega arith) (omega arith)) in
     record {
       fields = fields_of (translation_parts text);
       read = built.read short;
@@ -317,9 +317,9 @@ unfolding alert_parts
 means_alert a sound short =
     let lists = then_built (builds_bodies 1 time_range a.periods (omega arith) (omega arith)) (builds_bodies 5 entity_selector a.selectors (omega arith) (omega arith)) in
     let numbers =
-        then_built (then_built lists (builds_signed 6 a.cause (omega arith) (omega arith) (wider a.cause sound.cause))) (builds_signed 7 a.effect (omega arith) (omega arith) (wider a.effect sound.effect)) in
+    then_built (then_built lists (builds_signed 6 a.cause (omega arith) (omega arith) (wider a.cause sound.cause))) (builds_signed 7 a.effect (omega arith) (omega arith) (wider a.effect sound.effect)) in
     let built : Builds (alert a) (alert_parts a) =
-        then_built (then_built numbers (builds_translations 10 a.header (omega arith) (omega arith))) (builds_translations 11 a.description (omega arith) (omega arith)) in
+    then_built (then_built numbers (builds_translations 10 a.header (omega arith) (omega arith))) (builds_translations 11 a.description (omega arith) (omega arith)) in
     let read = built.read short in
     record {
       fields = fields_of (alert_parts a);
@@ -342,8 +342,8 @@ means_body : Meant OfFeedEntity feed_entity IsSoundEntity
 unfolding entity_parts
 means_body entity sound short =
     let built : Builds (feed_entity entity) (entity_parts entity) =
-        then_built (then_built (then_built (builds_body 1 entity.id (omega arith) (omega arith)) (builds_deleted entity.deleted)) (builds_optional_body 3 trip_update entity.trip_update (omega arith) (omega arith)))
-        (builds_optional_body 5 alert entity.alert (omega arith) (omega arith)) in
+    then_built (then_built (then_built (builds_body 1 entity.id (omega arith) (omega arith)) (builds_deleted entity.deleted)) (builds_optional_body 3 trip_update entity.trip_update (omega arith) (omega arith)))
+    (builds_optional_body 5 alert entity.alert (omega arith) (omega arith)) in
     let read = built.read short in
     record {
       fields = fields_of (entity_parts entity);

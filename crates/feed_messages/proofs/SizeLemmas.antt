@@ -26,7 +26,7 @@ pub part_fits : {X : Type 0} (f : X → List ℕ) (xs : List X) (i : ℕ) (d : X
 part_fits f xs i d old now within h room = omega (arith, h.room, length-flat_map-take f xs i d within)
 
 -- a fact about each element goes on by one
-all_append : {X : Type 0} (P : X → Type 0) (xs ys : List X) → AllByRecursion P xs → AllByRecursion P ys → AllByRecursion P (xs ++ ys)
+pub all_append : {X : Type 0} (P : X → Type 0) (xs ys : List X) → AllByRecursion P xs → AllByRecursion P ys → AllByRecursion P (xs ++ ys)
 all_append P [] ys h k = k
 all_append P (x ∷ xs) ys h k = (h.0, all_append P xs ys h.1 k)
 

@@ -93,17 +93,20 @@ broken_by a b field at kind [] spelled h read =
     absurd (h.breaks.none field a b (sym (h.joined ∙ ap (λ (l : List ℕ). l ++ h.rest) read)) spelled)
 broken_by a b field at kind (x ∷ fields) spelled h read =
     let e : a ++ b ≡ (read.0 ++ read.1) ++ h.rest = h.joined ∙ ap (λ (l : List ℕ). l ++ h.rest) read.2 in
-    let behind = behind_first read.0 read.1 h.rest a b x field read.3 spelled e in
-    (length read.1, omega (arith, h.place, behind.1, ap length read.2, length-append read.0 read.1), record {
-      front = read.1;
-      rest = h.rest;
-      joined = behind.0;
-      place = refl;
-      fields = fields;
-      read = read.4;
-      some = h.some;
-      breaks = h.breaks;
-    })
+    let behind = behind_first read.0 read.1 h.rest a b x field read.3 spelled e in (
+      length read.1,
+      omega (arith, h.place, behind.1, ap length read.2, length-append read.0 read.1),
+      record {
+        front = read.1;
+        rest = h.rest;
+        joined = behind.0;
+        place = refl;
+        fields = fields;
+        read = read.4;
+        some = h.some;
+        breaks = h.breaks;
+      },
+    )
 
 pub broken_on : (a b : List ℕ) (field : WireField) (at : ℕ) (kind : WireKind) → IsSpelling 64 field a → IsBroken (a ++ b) at kind → (further : ℕ) × (at ≡ length a + further) × IsBroken b further kind
 broken_on a b field at kind spelled h = broken_by a b field at kind h.fields spelled h h.read
@@ -183,20 +186,24 @@ long_by a b field at [] spelled h read = inl (here_from (a ++ b) at h read)
 long_by a b field at (x ∷ fields) spelled h read =
     let e : a ++ b ≡ (read.0 ++ read.1) ++ (h.tag ++ (h.size ++ h.rest)) = h.joined ∙ ap (λ (l : List ℕ). l ++ (h.tag ++ (h.size ++ h.rest))) read.2 in
     let behind = behind_first read.0 read.1 (h.tag ++ (h.size ++ h.rest)) a b x field read.3 spelled e in
-    inr (length read.1, omega (arith, h.place, behind.1, ap length read.2, length-append read.0 read.1), record {
-      front = read.1;
-      tag = h.tag;
-      size = h.size;
-      rest = h.rest;
-      joined = behind.0;
-      fields = fields;
-      read = read.4;
-      tagged = h.tagged;
-      len = h.len;
-      sized = h.sized;
-      long = h.long;
-      place = refl;
-    })
+    inr (
+      length read.1,
+      omega (arith, h.place, behind.1, ap length read.2, length-append read.0 read.1),
+      record {
+        front = read.1;
+        tag = h.tag;
+        size = h.size;
+        rest = h.rest;
+        joined = behind.0;
+        fields = fields;
+        read = read.4;
+        tagged = h.tagged;
+        len = h.len;
+        sized = h.sized;
+        long = h.long;
+        place = refl;
+      },
+    )
 
 pub long_on : (a b : List ℕ) (field : WireField) (at : ℕ) → IsSpelling 64 field a → IsLongAt (a ++ b) at → IsLongHere (a ++ b) ⊎ ((further : ℕ) × (at ≡ length a + further) × IsLongAt b further)
 long_on a b field at spelled h = long_by a b field at h.fields spelled h h.read

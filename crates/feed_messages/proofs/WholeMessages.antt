@@ -89,7 +89,7 @@ whole_unbroken (piece ∷ pieces) none =
     let rest = whole_unbroken pieces (λ f x. none f (x.0, inr x.1, x.2)) in
     (first.0 ++ rest.0, (first.0, rest.0, first.1, rest.1, refl))
 
-fields_not_torn : (piece : Piece) (fields : List WireField) → AreFields piece.bytes fields → (f : FeedFault) → IsTorn piece f → ⊥
+pub fields_not_torn : (piece : Piece) (fields : List WireField) → AreFields piece.bytes fields → (f : FeedFault) → IsTorn piece f → ⊥
 fields_not_torn piece fields read (Wire fault) h = fields_or_broken piece.bytes fields h.0 fault.kind read h.1
 fields_not_torn piece fields read (EntityTooLong at) h = h
 fields_not_torn piece fields read (NotText at) h = h
@@ -130,14 +130,22 @@ first_tag piece [] = (piece, inl refl, λ other a. elim a [ inl e ↦ (let tag =
 first_tag piece (next ∷ pieces) =
     let rest = first_tag next pieces in
     elim (cases_lt piece.tag rest.0.tag) [
-      | inl lt ↦ (piece, inl refl, λ other a. elim a [
-        | inl e ↦ (let tag = ap (λ (q : Piece). q.tag) e in omega arith)
-        | inr b ↦ (let le = rest.2 other b in omega arith)
-      ])
-      | inr le ↦ (rest.0, inr rest.1, λ other a. elim a [
-        | inl e ↦ (let tag = ap (λ (q : Piece). q.tag) e in omega arith)
-        | inr b ↦ rest.2 other b
-      ])
+      | inl lt ↦ (
+        piece,
+        inl refl,
+        λ other a. elim a [
+          | inl e ↦ (let tag = ap (λ (q : Piece). q.tag) e in omega arith)
+          | inr b ↦ (let le = rest.2 other b in omega arith)
+        ],
+      )
+      | inr le ↦ (
+        rest.0,
+        inr rest.1,
+        λ other a. elim a [
+          | inl e ↦ (let tag = ap (λ (q : Piece). q.tag) e in omega arith)
+          | inr b ↦ rest.2 other b
+        ],
+      )
     ]
 
 -- a field that isn't missing has a body
@@ -146,7 +154,7 @@ pub not_missing : (number end : ℕ) (name : Required) (piece : Piece) (pieces :
 not_missing number end name piece pieces fields w none e =
     let t = first_tag piece pieces in
     let lacking : IsLacking number (Among (piece ∷ pieces)) t.0.tag =
-        record { piece = t.0; among = t.1; here = refl; least = t.2; lacks = all_lack number (piece ∷ pieces) fields w e } in
+    record { piece = t.0; among = t.1; here = refl; least = t.2; lacks = all_lack number (piece ∷ pieces) fields w e } in
     none (MissingField (missing_place name t.0.tag end) name) (t.0.tag, lacking, refl, refl)
 
 -- and one that has a body isn't missing
@@ -163,17 +171,19 @@ held_not_missing number end (Some name) pieces fields w some Memory h = h
 
 pub is_text_or : (piece : Piece) → (IsUtf8 piece.bytes) ⊎ (¬ IsUtf8 piece.bytes)
 is_text_or piece = by_test piece (is_utf8 piece.bytes) refl where
-    by_test : (piece : Piece) (t : Bool) → is_utf8 piece.bytes ≡ t → (IsUtf8 piece.bytes) ⊎ (¬ IsUtf8 piece.bytes)
-    by_test piece true e = inl (IsUtf8-from_is_utf8 piece.bytes e)
-    by_test piece false e = inr (λ text. let d = sym (is_utf8-from_IsUtf8 piece.bytes text) ∙ e in absurd cc)
+  by_test : (piece : Piece) (t : Bool) → is_utf8 piece.bytes ≡ t → (IsUtf8 piece.bytes) ⊎ (¬ IsUtf8 piece.bytes)
+  by_test piece true e = inl (IsUtf8-from_is_utf8 piece.bytes e)
+  by_test piece false e = inr (λ text. let d = sym (is_utf8-from_IsUtf8 piece.bytes text) ∙ e in absurd cc)
 
 all_texts : (inner : List Piece) → ((f : FeedFault) → ¬ InSome (Among inner) IsNotText f) → AllByRecursion IsUtf8 (bytes_of inner)
 all_texts [] none = tt
-all_texts (piece ∷ inner) none =
-    (elim (is_text_or piece) [
-      | inl text ↦ text
-      | inr refused ↦ absurd (none (NotText piece.tag) (piece, inl refl, (refl, refused)))
-    ], all_texts inner (λ f x. none f (x.0, inr x.1, x.2)))
+all_texts (piece ∷ inner) none = (
+  elim (is_text_or piece) [
+    | inl text ↦ text
+    | inr refused ↦ absurd (none (NotText piece.tag) (piece, inl refl, (refl, refused)))
+  ],
+  all_texts inner (λ f x. none f (x.0, inr x.1, x.2)),
+)
 
 pub texts_read : (number : ℕ) (pieces : List Piece) (fields : List WireField) → AreWhole pieces fields → ((f : FeedFault) → ¬ InSome (Inside number (Among pieces)) IsNotText f) → AllByRecursion IsUtf8 (bodies number fields)
 texts_read number pieces fields w none =

@@ -24,7 +24,7 @@ abbrev holding : ℕ → Payload → WireField
 holding number payload = record { number = number; payload = payload }
 
 -- the body that a field is, if it has the number
-abbrev body_of : ℕ → WireField → Option (List ℕ)
+abbrev pub body_of : ℕ → WireField → Option (List ℕ)
 body_of number field = if field.number == number then body_in field.payload else None
 
 own_body : (number : ℕ) (body : List ℕ) → body_of number (record { number = number; payload = Bytes body }) ≡ Some body
@@ -57,7 +57,7 @@ same_here number start end field q p h k =
     λ i. record { tag = tags i; start = starts i; bytes = bytes i }
 
 -- one field more at the front of a piece
-list_more : (number tag start : ℕ) (first rest : List ℕ) (field : WireField) (bodies : List (List ℕ)) (o : Option (List ℕ)) → IsSpelling 64 field first → body_of number field ≡ o
+pub list_more : (number tag start : ℕ) (first rest : List ℕ) (field : WireField) (bodies : List (List ℕ)) (o : Option (List ℕ)) → IsSpelling 64 field first → body_of number field ≡ o
     → IsList (Stands (from tag (start + length first) rest) number) bodies → IsList (Stands (from tag start (first ++ rest)) number) (cons_option o bodies)
 list_more number tag start first rest field bodies None spelled e l = record {
   inner = l.inner;

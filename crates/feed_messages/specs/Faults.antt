@@ -99,7 +99,7 @@ HasFaultIn (WithText number name others) Message end fault =
 -- of a message, all pieces together
 HasFaultIn (WithMessage number name inner others) Message end fault =
     ((InSome (Inside number Message) IsTorn fault ⊎ HasFaultIn inner (Inside number Message) end fault)
-        ⊎ IsMissing number name Message end fault)
+    ⊎ IsMissing number name Message end fault)
     ⊎ HasFaultIn others Message end fault
 -- of messages that repeat, each piece by itself
 HasFaultIn (WithMessages number inner others) Message end fault =

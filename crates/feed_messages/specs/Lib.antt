@@ -2,6 +2,8 @@ pub mod Faults
 pub mod Found
 pub mod Known
 pub mod Meaning
+pub mod Partly
+pub mod Parts
 pub mod Pieces
 pub mod Plain
 pub mod Sizes

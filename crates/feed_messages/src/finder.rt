@@ -3,7 +3,7 @@
 ghost use Rattle.std.specs.Prelude.{◌≡◌, IfOk};
 ghost use Rattle.feed_messages.specs.Faults.{HasFault, IsLeast};
 
-mod lengths;
+pub mod lengths;
 mod messages;
 mod order;
 mod piece;

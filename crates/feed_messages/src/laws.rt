@@ -1,6 +1,6 @@
 //! The laws of the meaning of feeds, each the contract of a function that does nothing. They are about the definitions
 //! that the writers' contracts cite.
-ghost use Rattle.std.specs.Prelude.{◌≡◌, ◌++◌, ℕ, ℤ, List};
+ghost use Rattle.std.specs.Prelude.{◌≡◌, ◌++◌, ◌⊎◌, ℕ, ℤ, List};
 ghost use Rattle.std.specs.List.{AllByRecursion};
 ghost use Rattle.gw_base.specs.Moments.{IsMoment};
 ghost use Rattle.gw_base.specs.declared.messages.Entity.{Entity};
@@ -8,7 +8,7 @@ ghost use Rattle.gw_base.specs.declared.messages.Feed.{Feed};
 ghost use Rattle.feed_messages.specs.Tables.{MeansFeed, MeansEntity, with_entity, full_dataset};
 ghost use Rattle.feed_messages.specs.Written.{written, written_feed};
 ghost use Rattle.feed_messages.specs.declared.fault.FeedFault.{FeedFault};
-ghost use Rattle.feed_messages.specs.Faults.{HasFault, IsLongAt};
+ghost use Rattle.feed_messages.specs.Faults.{HasFault, IsFeedFault, IsLongAt};
 
 /// Bytes mean at most one feed.
 pub fn the_feed_is_one()
@@ -31,4 +31,9 @@ pub fn a_written_feed_is_meant()
 pub fn no_fault_where_a_feed_is_meant()
     ensures meant { (bytes : List ℕ) → ((fault : FeedFault) → ¬ HasFault bytes fault) → ((feed : Feed) × MeansFeed bytes feed) × ((at : ℕ) → ¬ IsLongAt bytes at) }
     ensures no_fault { (bytes : List ℕ) (feed : Feed) → MeansFeed bytes feed → ((at : ℕ) → ¬ IsLongAt bytes at) → (fault : FeedFault) → ¬ HasFault bytes fault }
+{}
+
+/// Bytes have a first fault, or they mean a feed of which no entity is too long.
+pub fn a_fault_or_a_feed()
+    ensures { (bytes : List ℕ) → ((fault : FeedFault) × IsFeedFault bytes fault) ⊎ (((feed : Feed) × MeansFeed bytes feed) × ((at : ℕ) → ¬ IsLongAt bytes at)) }
 {}

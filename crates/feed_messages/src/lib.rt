@@ -8,15 +8,18 @@ mod header;
 mod laws;
 mod plain;
 mod plain_fault;
+mod quick;
 mod reading;
-mod writing;
 #[cfg(test)]
 mod tests;
+mod whole;
+mod writing;
 
 pub use fault::FeedFault;
 pub use header::{HeaderBytes, header_bytes};
 pub use laws::{
-    a_written_feed_is_meant, an_entity_is_added, no_fault_where_a_feed_is_meant, the_feed_is_one,
+    a_fault_or_a_feed, a_written_feed_is_meant, an_entity_is_added, no_fault_where_a_feed_is_meant,
+    the_feed_is_one,
 };
 pub use plain::plain_feed;
 pub use plain_fault::PlainFault;

@@ -4,7 +4,7 @@ ghost use Rattle.std.specs.Prelude.{◌≡◌, IfOk, IsErrOf};
 ghost use Rattle.gw_base.specs.declared.messages.Feed.{Feed};
 ghost use Rattle.feed_messages.specs.Tables.{MeansFeed};
 
-mod kinds;
+pub mod kinds;
 mod nested;
 pub mod tables;
 

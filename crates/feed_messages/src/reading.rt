@@ -8,6 +8,7 @@ use crate::fault::FeedFault;
 use crate::finder::first_fault;
 use crate::plain::plain_feed;
 use crate::plain_fault::PlainFault;
+use crate::quick::quick_feed;
 use gw_base::Feed;
 use std::alloc::Global;
 
@@ -35,5 +36,9 @@ pub fn read_feed(alloc: Global, bytes: &[u8]) -> Result<Feed, FeedFault>
     ensures no_fault { IfOk result (λ _. (fault : FeedFault) → ¬ HasFault bytes.now fault) }
     ensures fault { IfErr result (λ fault. IsTold bytes.now fault) }
 {
-    checked_feed(alloc, bytes)
+    match quick_feed(alloc, bytes) {
+        Ok(feed) => Ok(feed),
+        Err(PlainFault::Memory) => Err(FeedFault::Memory),
+        Err(PlainFault::Meaningless) => checked_feed(alloc, bytes),
+    }
 }

@@ -1,4 +1,7 @@
 //! The written bytes of worked examples, and what is read from bytes.
+mod reading;
+mod writing;
+
 use super::*;
 use gw_base::{Alert, Entity, Event, Moment, Period, Text, TripUpdate};
 use std::alloc::Global;

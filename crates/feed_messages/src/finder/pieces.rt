@@ -11,6 +11,7 @@ ghost use Rattle.feed_messages.specs.Pieces.{piece_of, IsFollowed, BreaksHere, I
 use crate::fault::FeedFault;
 use crate::finder::order::earlier;
 use crate::finder::piece::Piece;
+use crate::whole::check_fields;
 use gw_base::{List, Required};
 use std::alloc::{AllocError, Global};
 use wire_fields::{Field, Value, WireFault, next_field};
@@ -32,18 +33,6 @@ pub fn first_of<'a>(piece: &Piece<'a>) -> Result<Option<(Field<'a>, Piece<'a>)>,
         }
         None => Ok(None),
     }
-}
-
-// Where bytes are no list of fields, if they are none.
-fn check_fields(bytes: &[u8]) -> Result<(), WireFault>
-    ensures whole { IfOk result (λ _. (fields : List WireField) × AreFields bytes.now fields) }
-    ensures broken { IfErr result (λ fault. IsBroken bytes.now fault.at fault.kind) }
-{
-    let mut at = 0;
-    while let Some((_field, next)) = next_field(bytes, at)? {
-        at = next;
-    }
-    Ok(())
 }
 
 // Where a piece breaks, if it does.

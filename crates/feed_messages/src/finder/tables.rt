@@ -92,10 +92,7 @@ impl KnownMessage for Selector {
         let route_id = text_faults(alloc, pieces, 2, None, end)?;
         let trip = once_faults::<TripDescriptor>(alloc, pieces, 4, None, end)?;
         let stop_id = text_faults(alloc, pieces, 5, None, end)?;
-        Ok(earlier(
-            agency_id,
-            earlier(route_id, earlier(trip, stop_id)),
-        ))
+        Ok(earlier(agency_id, earlier(route_id, earlier(trip, stop_id))))
     }
 }
 
@@ -138,10 +135,7 @@ impl KnownMessage for Alert {
         let selectors = each_faults::<Selector>(alloc, pieces, 5, end)?;
         let header = once_faults::<TranslatedString>(alloc, pieces, 10, None, end)?;
         let description = once_faults::<TranslatedString>(alloc, pieces, 11, None, end)?;
-        Ok(earlier(
-            periods,
-            earlier(selectors, earlier(header, description)),
-        ))
+        Ok(earlier(periods, earlier(selectors, earlier(header, description))))
     }
 }
 

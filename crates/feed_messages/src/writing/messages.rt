@@ -5,12 +5,12 @@ ghost use Rattle.feed_messages.specs.Sound.{IsSoundTrip, IsSoundEvent, IsSoundSt
 
 use crate::writing::fields::{
     deleted_size, enum_size, optional_number_size, optional_signed_size, optional_text_size, plus,
-    put_deleted, put_enum, put_optional_number, put_optional_signed, put_optional_text, put_relation,
-    put_text, relation_size, text_size, wide, wide_unsigned,
+    put_deleted, put_enum, put_optional_number, put_optional_signed, put_optional_text,
+    put_relation, put_text, relation_size, text_size, wide, wide_unsigned,
 };
 use crate::writing::nested::{
-    WrittenMessage, message_size, messages_size, optional_message_size, put_message,
-    put_messages, put_optional_message, put_translations, translations_size,
+    WrittenMessage, message_size, messages_size, optional_message_size, put_message, put_messages,
+    put_optional_message, put_translations, translations_size,
 };
 use gw_base::{
     Alert, Buf, Entity, Event, List, Period, Selector, StopUpdate, Translation, TripDescriptor,

@@ -1,6 +1,6 @@
 use Rattle.std.proofs.Common.{◌-◌, ◌≤◌, length, take, List}
 use Rattle.wire_fields.specs.Grammar.{WireField, AreFields}
-use Rattle.feed_messages.proofs.finder.pieces.check_fields.Given as goal
+use Rattle.feed_messages.proofs.whole.check_fields.Given as goal
 
 -- the bytes up to here are some list of fields
 abbrev pub invariant-loop-field : goal.invariant-loop-field
