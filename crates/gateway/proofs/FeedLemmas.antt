@@ -1,12 +1,15 @@
 -- What the bytes of a feed mean, entity by entity.
-use Rattle.std.proofs.Common.{◌≡◌, ◌∙◌, ◌<◌, ◌+◌, ◌++◌, ◌∷◌, [], ℕ, zero, suc, ℤ, List, length, take, drop, get_or, map, Result, Ok, Err, Some, sym, ap, subst}
-use Rattle.std.proofs.lemmas.List.{map-append, take_more, drop_more, append_assoc}
+use Rattle.std.proofs.Common.{◌≡◌, ◌∙◌, ◌<◌, ◌+◌, ◌++◌, ◌∷◌, [], ℕ, zero, suc, ℤ, List, length, take, drop, get_or, map, Result, Ok, Err, Some, sym, ap, subst, inl, inr, arith}
+use Rattle.std.proofs.lemmas.Bool.{cases_lt}
+use Rattle.std.proofs.lemmas.List.{map-append, take_more, drop_more, append_assoc, get_or_past}
+use Rattle.std.proofs.lemmas.Str.{IsUtf8-from_ascii}
+use Rattle.std.specs.Char.{IsAsciiDigit}
 use Rattle.std.proofs.lemmas.Option.{none-some}
-use Rattle.std.specs.Prelude.{⊤, OnOk, slice_get}
+use Rattle.std.specs.Prelude.{⊤, All, IsUtf8, OnOk, slice_get}
 use Rattle.std.specs.List.{flat_map}
 use Rattle.gw_base.specs.declared.messages.Feed.{Feed}
 use Rattle.service_day.specs.DayTexts.{compact_text}
-use Rattle.feed_messages.specs.Cancelled.{cancelled_entity}
+use Rattle.gateway.specs.Cancelled.{cancelled_entity}
 use Rattle.feed_messages.specs.Tables.{MeansFeed, MeansEntity, with_entity, full_dataset}
 use Rattle.feed_messages.proofs.Building.{means_more}
 use Rattle.gateway.specs.Feeds.{id_of, message_of, entity_of, feed_of}
@@ -45,3 +48,10 @@ pub bytes_more : (trips : List (List ℕ)) (journeys : List Cancelled) (n : ℕ)
 bytes_more trips journeys n journey front new all within is so_far added =
     let left : drop n journeys ≡ journey ∷ drop (n + 1) journeys = drop_more journeys n journey within ∙ ap (λ (first : Cancelled). first ∷ drop (n + 1) journeys) (sym is) in
     rw added (append_assoc front (entity_of trips journey) (flat_map (entity_of trips) (drop (n + 1) journeys)) ∙ ap (λ (rest : List Cancelled). front ++ flat_map (entity_of trips) rest) (sym left) ∙ so_far)
+
+-- digits are text
+pub digits_are_text : (date : List ℕ) → All IsAsciiDigit date → IsUtf8 date
+digits_are_text date digits = IsUtf8-from_ascii date (λ i. elim (cases_lt i (length date)) [
+  | inl within ↦ let digit = digits i 0 within in omega arith
+  | inr past ↦ rw (get_or_past date i 0 past) (omega arith)
+])

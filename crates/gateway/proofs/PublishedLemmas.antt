@@ -1,25 +1,24 @@
 -- What is published where the work was done.
-use Rattle.std.proofs.Common.{◌≡◌, ◌≤◌, ◌∙◌, ℕ, Bool, true, false, List, length, Result, Ok, Err, Option, Some, None, IfSome, codes, ◌++◌, sym, ap, refl, subst, if◌then◌else◌}
+use Rattle.std.proofs.Common.{◌≡◌, ℕ, Bool, true, false, List, length, Result, Ok, Err, Option, Some, None, IfSome, codes, ◌++◌, sym, ap, refl, subst, if◌then◌else◌}
 use Rattle.std.specs.Prelude.{nat_le}
 use Rattle.gw_base.specs.Directory.{bytes_of}
 use Rattle.gw_base.specs.Told.{with_bytes}
 use Rattle.serde_json.specs.Data.{Data}
 use Rattle.service_day.specs.Windows.{IsWindow}
+use Rattle.service_day.specs.declared.zones.Rules.{Rules}
 use Rattle.stop_schedule.specs.Table.{Table}
 use Rattle.stop_schedule.specs.Timetable.{timetable}
 use Rattle.stop_schedule.specs.declared.table_fault.TableFault.{TableFault}
-use Rattle.gateway.specs.Exits.{missing}
 use Rattle.gateway.specs.Feeds.{IsFeed}
 use Rattle.gateway.specs.Frame.{journeys_of}
 use Rattle.gateway.specs.Items.{sorted}
 use Rattle.gateway.specs.Journeys.{taken, verdicts}
-use Rattle.gateway.specs.Published.{IsRead, Publishes}
+use Rattle.gateway.specs.Published.{IsRead, IsZone, Publishes}
 use Rattle.gateway.specs.Windowed.{HasWindow}
-use Rattle.gateway.specs.Words.{ToGtfsrt, IsToGtfsrt}
-use Rattle.gateway.specs.Work.{Directory, ToGtfsrtWork, folder, further, delivery, delivery_file, body_limit}
+use Rattle.gateway.specs.Words.{NamedZone, by_rule, by_file, ToGtfsrt, IsToGtfsrt}
+use Rattle.gateway.specs.Work.{Directory, ToGtfsrtWork, folder, further, delivery, delivery_file, body_limit, Zone, zone_limit}
 use Rattle.gateway.specs.declared.delivery.Delivery.{Delivery}
 use Rattle.gateway.specs.declared.exit.Exit.{Exit}
-use Rattle.gateway.specs.declared.item.Cancelled.{Cancelled}
 use Rattle.gateway.specs.declared.exit.Exit.TheVariants.{Refused}
 use Rattle.gateway.specs.declared.setting.Setting.{Setting}
 use Rattle.gateway.specs.declared.work.Done.{Done}
@@ -47,6 +46,10 @@ found_items : (setting : Setting) (name : List ℕ) (there : Option (List Data))
 found_items setting name None made e = absurd cc
 found_items setting name (Some items) made e = (items, refl, cc)
 
+found_zone : (named : NamedZone) (files : Directory) (zone : Rules) → Zone named files (Ok zone) → IsZone named files zone
+found_zone (by_rule text) files zone is = is
+found_zone (by_file path) files zone (bytes, read, is) = (bytes, found_body zone_limit path (bytes_of files path) bytes read, is)
+
 -- the journeys that are taken are those that are read again
 of_work : (words : List (List ℕ)) (files : Directory) (command : ToGtfsrt) (done : Done) (before now : Option (List ℕ)) → IsToGtfsrt words command
     → HasWindow command.from command.days → ToGtfsrtWork command files (Ok done) → now ≡ with_bytes before done.out → Publishes words files before now
@@ -63,7 +66,7 @@ of_work words files command done before now accepted has (setting, (table, folde
         accepted = accepted;
         folder = found_table command.gtfs (timetable files command.gtfs) setting.table (rw same folder_is);
         zone = zone;
-        zone_is = zone_is;
+        zone_is = found_zone command.zone files zone zone_is;
         window = window;
         body = body;
         delivery = found_body body_limit (delivery_file command) (bytes_of files (delivery_file command)) body read;

@@ -1,11 +1,11 @@
 -- Each journey that is taken is read again from its entity.
 use Rattle.std.proofs.Common.{◌≡◌, ◌≤◌, ◌&&◌, ◌++◌, ◌∷◌, [], ℕ, ℤ, pos, negsuc, ◌+ℤ◌, ◌-ℤ◌, ◌≤ℤ◌, List, Bool, true, false, length, get_or, map, Result, Ok, Err, Option, Some, None, ap, subst, refl, if◌then◌else◌, arith}
-use Rattle.std.proofs.lemmas.Bool.{ltb-true, le-leb, false≢true}
+use Rattle.std.proofs.lemmas.Bool.{ltb-true, le-leb}
 use Rattle.std.proofs.lemmas.Option.{none-some, same_Some, option_and_then_some}
 use Rattle.std.proofs.lemmas.Int.{ints}
 use Rattle.std.proofs.lemmas.List.Sums.{passes_at_first}
 use Rattle.std.proofs.lemmas.Slice.Eq.{bytes_eq-Decides}
-use Rattle.std.specs.Prelude.{int_le, int_lt, is_some, nat_le, position, nat_lt, not, codes, slice_index_or, unsigned_abs}
+use Rattle.std.specs.Prelude.{int_le, int_lt, is_some, position, nat_lt, not, codes, slice_index_or, unsigned_abs}
 use Rattle.std.specs.List.{AllByRecursion, list_any, position_or_len}
 use Rattle.std.specs.List.Sorted.{IsPermutation}
 use Rattle.std.proofs.lemmas.List.Elements.{All-from_recursion, recursion_from_All}
@@ -14,11 +14,9 @@ use Rattle.std.specs.Str.{bytes_eq}
 use Rattle.gw_base.specs.Moments.{IsMoment}
 use Rattle.serde_json.specs.Data.{Data}
 use Rattle.service_day.specs.Days.{IsDay}
-use Rattle.service_day.specs.DayTexts.{day_of}
 use Rattle.service_day.specs.Utc.{utc_of}
 use Rattle.service_day.specs.Windows.{IsWindow}
 use Rattle.service_day.specs.declared.zones.Rules.{Rules}
-use Rattle.service_day.specs.declared.days.DayForm.TheVariants.{Dashed}
 use Rattle.service_day.proofs.DayTextLemmas.{compact_day-compact_text}
 use Rattle.gateway.specs.Feeds.{id_of, message_of, feed_of}
 use Rattle.gateway.specs.Journeys.{Spelt, text_under, is_cancelled, is_extra, recorded_at, day_at, trip_at, in_window, dated, judged, verdict, spelt, behind, verdicts, verdicts_behind, taken, same_journey}

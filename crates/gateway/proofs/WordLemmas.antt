@@ -1,86 +1,73 @@
 -- What the words of an accepted list say.
-use Rattle.std.proofs.Common.{inl, length-drop, ◌≡◌, ◌≢◌, ◌⊎◌, refl, ap, sym, ◌∙◌, ℕ, zero, suc, ◌+◌, ◌<◌, ◌≤◌, ℤ, List, [], ◌∷◌, Option, Some, None, length, drop, get_or, slice_get, subst, arith, Bool, true, false, ◌&&◌, ◌||◌}
-use Rattle.std.specs.Prelude.{IsTrue, pos, int_le, nat_le, is_some, option_and_then, ◌+ℤ◌, ◌-ℤ◌, map}
+use Rattle.std.proofs.Common.{◌≡◌, refl, ap, sym, ◌∙◌, ℕ, ◌<◌, ◌≤◌, ◌&&◌, ℤ, List, [], ◌∷◌, Option, Some, None, length, drop, get_or, slice_get, subst, arith, Bool, true, false, cond, length-drop}
+use Rattle.std.specs.Prelude.{IsSomeAnd, codes, int_le, is_some, nat_eq, nat_le, option_and_then, pos, ◌+ℤ◌, ◌-ℤ◌}
+use Rattle.std.specs.Cmp.Lexicographic.{pointwise, same_text}
 use Rattle.std.proofs.lemmas.Bool.Decides.{nat_tests}
 use Rattle.std.proofs.lemmas.Int.{ints}
-use Rattle.std.specs.Option.{option_map}
-use Rattle.std.proofs.lemmas.Option.{none-some, same_Some, slice_get-map, slice_get_read, slice_get_within}
-use Rattle.gateway.specs.Forms.{is_filled, is_day, is_day_count, is_moment, beginning, decimal_number, is_window_of}
-use Rattle.gateway.specs.Rows.{row_of, IsOneOf}
-use Rattle.gateway.specs.Tables.{Form, Choice, Command, is_pair, choices_at, IsCommand, CanBeMet, HaveChoices, IsSatisfiable, AreSatisfiable}
+use Rattle.std.proofs.lemmas.Option.{none-some, option_and_then_some, same_Some, slice_get_read, slice_get_within}
+use Rattle.gateway.specs.Forms.{beginning, day_count, decimal_number, ends_in_time}
+use Rattle.gateway.specs.Tables.{with_name, ArePairs, IsAccepted}
 use Rattle.gateway.specs.Windowed.{HasWindow}
-use Rattle.gateway.specs.Words.{flagged, to_gtfsrt, commands, ToGtfsrt, IsToGtfsrt, IsRefusedAt}
-use Rattle.gateway.specs.declared.words.table.Command as declared
-use Rattle.gateway.specs.declared.words.table.Kind.{Kind}
+use Rattle.gateway.specs.Words.{to_gtfsrt, commands, ToGtfsrt, IsToGtfsrt, zone_by}
 use Rattle.gateway.specs.declared.words.forms.TheConstants.{FIRST_DAY, LAST_DAY, MOST_DAYS}
-use Rattle.gateway.proofs.FormLemmas.{filled_met, day_met, day_count_met, moment_met, beginning_range, both_left, both_right}
-use Rattle.gateway.proofs.TableLemmas.{PairOf, pair_of, double, all_pairs}
+use Rattle.gateway.proofs.FormLemmas.{beginning_range, cond_then}
+use Rattle.gateway.proofs.TableLemmas.{HasPair, pair_of, double, all_pairs}
 use Rattle.service_day.specs.Utc.{utc_of}
 
--- each pair of `to-gtfsrt` has a flag, and its form can be met
-to_gtfsrt_met : IsSatisfiable to_gtfsrt
-to_gtfsrt_met = record {
-  pairs = ((filled_met, tt), ((filled_met, tt), ((day_met, tt), ((day_count_met, tt), ((moment_met, tt), ((filled_met, tt), tt))))));
-  repeated = tt;
-}
-
-pub satisfiable : AreSatisfiable commands
-satisfiable = (to_gtfsrt_met, tt)
-
-pub only_row : (kind : Kind) (rows : List declared.Command) (words : List (List ℕ)) → map row_of rows ≡ commands → IsOneOf kind rows words
-    → IsCommand to_gtfsrt words
-only_row kind rows words same one = by one.number (slice_get-map row_of rows one.number ∙ ap (option_map row_of) one.there)
+-- which command an accepted list is
+pub named_by : (words : List (List ℕ)) → IsAccepted commands words → slice_get words 0 ≡ Some (codes "to-gtfsrt")
+unfolding commands to_gtfsrt
+named_by [] is = absurd is
+named_by (name ∷ words) is = by (pointwise nat_eq (codes "to-gtfsrt") name) refl is
   where
-    by : (number : ℕ) → slice_get (map row_of rows) number ≡ Some (row_of one.command) → IsCommand to_gtfsrt words
-    by zero there = subst (λ command. IsCommand command words) (same_Some _ _ (sym there ∙ ap (λ list. slice_get list 0) same)) one.is
-    by (suc number) there = absurd (none-some _ (sym (ap (λ list. slice_get list (suc number)) same) ∙ there))
+    by : (b : Bool) → pointwise nat_eq (codes "to-gtfsrt") name ≡ b → IsSomeAnd (cond b (Some to_gtfsrt) None) (λ command. ArePairs command 0 name words)
+        → Some name ≡ Some (codes "to-gtfsrt")
+    by true e is = ap Some (sym (same_text _ _ (sym e)))
+    by false e is = absurd is
 
--- the value behind a flag has its form
-form_met : (flag : List ℕ) (form : Form) (words : List (List ℕ)) (n : ℕ) (pair : PairOf (flagged flag form) words n) → IsTrue (form pair.before pair.value)
-form_met flag form words n pair = by _ (form pair.before pair.value) pair.is
-  where
-    by : (same met : Bool) → (same && met || false) ≡ true → met ≡ true
-    by true true h = refl
-    by true false h = absurd cc
-    by false met h = absurd cc
+pairs_of : (name : List ℕ) (words : List (List ℕ)) → IsAccepted commands (name ∷ words) → Some name ≡ Some (codes "to-gtfsrt") → ArePairs to_gtfsrt 0 name words
+unfolding commands to_gtfsrt
+pairs_of name words is e = subst (λ n. IsSomeAnd (with_name commands n) (λ command. ArePairs command 0 name words)) (same_Some _ _ e) is
 
 some_of : {A : Type 0} (o : Option A) → is_some o ≡ true → (x : A) × (o ≡ Some x)
 some_of None h = absurd cc
 some_of (Some x) h = (x, refl)
 
-counted : (first : Option ℤ) (days : Option ℕ) → is_window_of first days ≡ true → (n : ℕ) × (days ≡ Some n)
+counted : (first : Option ℤ) (days : Option ℕ) → ends_in_time first days ≡ true → (n : ℕ) × (days ≡ Some n)
 counted first None h = absurd cc
 counted first (Some n) h = (n, refl)
 
--- the pair of that number of an accepted list
-pair : (name : List ℕ) (words : List (List ℕ)) (k : ℕ) → k < 6 → IsCommand to_gtfsrt (name ∷ words) → PairOf (choices_at to_gtfsrt k) (name ∷ words) (double k)
-pair name words k below h = pair_of to_gtfsrt k k 0 name words (omega arith) below h.1
-
 -- an accepted list can be read
-pub read : (words : List (List ℕ)) → IsCommand to_gtfsrt words → (command : ToGtfsrt) × IsToGtfsrt words command
-read [] h = absurd h
-read (name ∷ words) h =
-    let gtfs = pair name words 0 (omega arith) h in
-    let rule = pair name words 1 (omega arith) h in
-    let from = pair name words 2 (omega arith) h in
-    let days = pair name words 3 (omega arith) h in
-    let at = pair name words 4 (omega arith) h in
-    let first = some_of (beginning from.value) (form_met _ is_day _ _ from) in
-    let count = counted (beginning days.before) (decimal_number days.value) (form_met _ is_day_count _ _ days) in
-    let second = some_of (utc_of at.value) (form_met _ is_moment _ _ at) in (
-      record { gtfs = gtfs.value; rule = rule.value; from = first.0; days = count.0; at = second.0; more = drop 11 (name ∷ words) },
+pub read : (words : List (List ℕ)) → IsAccepted commands words → (command : ToGtfsrt) × IsToGtfsrt words command
+unfolding to_gtfsrt
+read [] is = absurd is
+read (name ∷ words) is =
+    let named = named_by (name ∷ words) is in
+    let pairs = pairs_of name words is named in
+    let pair : (k : ℕ) → k < 6 → HasPair to_gtfsrt k (name ∷ words) (double k) =
+    λ k below. pair_of to_gtfsrt k k 0 name words (omega arith) below pairs in
+    let gtfs = pair 0 (omega arith) in
+    let zone = pair 1 (omega arith) in
+    let from = pair 2 (omega arith) in
+    let days = pair 3 (omega arith) in
+    let at = pair 4 (omega arith) in
+    let first = some_of (beginning from.2) from.7 in
+    let count = counted (beginning days.0) (day_count days.2) days.7 in
+    let second = some_of (utc_of at.2) at.7 in (
+      record { gtfs = gtfs.2; zone = zone_by zone.1 zone.2; from = first.0; days = count.0; at = second.0; more = drop 11 (name ∷ words) },
       record {
-        accepted = h;
-        gtfs = gtfs.value_is;
-        rule = rule.value_is;
-        from = ap (option_and_then beginning) from.value_is ∙ first.1;
-        days = ap (option_and_then decimal_number) days.value_is ∙ count.1;
-        at = ap (option_and_then utc_of) at.value_is ∙ second.1;
+        accepted = is;
+        name = named;
+        gtfs = gtfs.5;
+        zone = (zone.1, zone.2, zone.4, zone.5, refl);
+        from = ap (option_and_then beginning) from.5 ∙ first.1;
+        days = ap (option_and_then day_count) days.5 ∙ count.1;
+        at = ap (option_and_then utc_of) at.5 ∙ second.1;
         more = refl;
       },
     )
 
--- what else is read at a place is what is read there
+-- what is read at a place where a value is known to be is the value
 pub read_at : {A : Type 0} (f : List ℕ → Option A) (words : List (List ℕ)) (k : ℕ) (known value : A) (word : List ℕ)
     → option_and_then f (slice_get words k) ≡ Some known → word ≡ get_or words k word → f word ≡ Some value
     → option_and_then f (slice_get words k) ≡ Some value
@@ -92,46 +79,42 @@ read_at f words k known value word is there found = ap (option_and_then f) (at_p
 
 -- the window of an accepted list
 pub windowed : (words : List (List ℕ)) (command : ToGtfsrt) → IsToGtfsrt words command
-    → (int_le FIRST_DAY command.from ≡ true) × (is_window_of (Some command.from) (Some command.days) ≡ true)
+    → (int_le FIRST_DAY command.from ≡ true) × (int_le (command.from +ℤ pos command.days -ℤ pos 1) LAST_DAY ≡ true)
+unfolding to_gtfsrt
 windowed [] command is = absurd is.accepted
 windowed (name ∷ words) command is =
-    let days = pair name words 3 (omega arith) is.accepted in
-    let first : beginning days.before ≡ Some command.from = sym (ap (option_and_then beginning) days.before_is) ∙ is.from in
-    let count : decimal_number days.value ≡ Some command.days = sym (ap (option_and_then decimal_number) days.value_is) ∙ is.days in
-    let window : is_window_of (beginning days.before) (decimal_number days.value) ≡ true = form_met _ is_day_count _ _ days in
-    (both_left _ _ (beginning_range days.before command.from first), rw (first, count) at window)
-
-pub few_days : (words : List (List ℕ)) (command : ToGtfsrt) (days : ℕ) → IsToGtfsrt words command
-    → option_and_then decimal_number (slice_get words 8) ≡ Some days → days ≤ 32
-few_days words command days is same =
-    let window = (windowed words command is).1 in
-    let few : nat_le command.days 32 ≡ true = both_right (nat_le 1 command.days) _ (both_left _ _ window) in
-    let e : command.days ≡ days = same_Some _ _ (sym is.days ∙ same) in
-    subst (λ n. n ≤ 32) e (grind (arith, nat_tests, few))
-
--- accepted words aren't refused
-pub not_both : (words : List (List ℕ)) (command : ToGtfsrt) (at : ℕ) → IsToGtfsrt words command → IsRefusedAt words at → ⊥
-not_both words command at is refused = refused.none (inl is.accepted)
+    let days = pair_of to_gtfsrt 3 3 0 name words refl (omega arith) (pairs_of name words is.accepted is.name) in
+    let first : beginning days.0 ≡ Some command.from = sym (ap (option_and_then beginning) days.3) ∙ is.from in
+    let count : day_count days.2 ≡ Some command.days = sym (ap (option_and_then day_count) days.5) ∙ is.days in
+    ((beginning_range days.0 command.from first).0, rw (first, count) at days.7)
 
 -- its deliveries are one pair
 pub one_delivery : (words : List (List ℕ)) (command : ToGtfsrt) → IsToGtfsrt words command → length (drop 11 words) ≡ 2
+unfolding to_gtfsrt
 one_delivery [] command is = absurd is.accepted
 one_delivery (name ∷ words) command is =
-    let all : length words ≡ 12 = all_pairs to_gtfsrt refl 6 0 name words refl is.accepted.1 in omega (arith, length-drop 11 (name ∷ words))
+    let all : length words ≡ 12 = all_pairs to_gtfsrt refl 6 0 name words refl (pairs_of name words is.accepted is.name) in
+    omega (arith, length-drop 11 (name ∷ words))
 
 -- and it can be made
 pub has_window : (words : List (List ℕ)) (command : ToGtfsrt) → IsToGtfsrt words command → HasWindow command.from command.days
 has_window words command is =
     let both = windowed words command is in
-    let window = both.1 in
-    let some : nat_le 1 command.days ≡ true = both_left _ _ (both_left _ _ window) in
-    let few : nat_le command.days 32 ≡ true = both_right (nat_le 1 command.days) _ (both_left _ _ window) in
     let first = both.0 in
-    let last : int_le (command.from +ℤ pos command.days -ℤ pos 1) LAST_DAY ≡ true = both_right _ _ window in
-    let one : 1 ≤ command.days = grind (arith, nat_tests, some) in
+    let last = both.1 in
+    let count : (1 ≤ command.days) × (command.days ≤ 32) = day_count_range (slice_get words 8) command.days is.days in
+    let some = count.0 in
     record {
-      some_days = one;
-      few_days = grind (arith, nat_tests, few);
+      some_days = count.0;
+      few_days = count.1;
       first_in = (grind (arith, ints), grind (arith, ints));
       last_in = (grind (arith, ints), grind (arith, ints));
     }
+  where
+    day_count_range : (word : Option (List ℕ)) (days : ℕ) → option_and_then day_count word ≡ Some days → (1 ≤ days) × (days ≤ 32)
+    day_count_range word days is =
+        option_and_then_some day_count word days is (λ text found counted.
+        option_and_then_some _ (decimal_number text) days counted (λ n number few.
+        let both : ((nat_le 1 n && nat_le n MOST_DAYS) ≡ true) × (Some n ≡ Some days) = cond_then _ _ days few in
+        let range = both.0 in
+        subst (λ d. (1 ≤ d) × (d ≤ 32)) (same_Some n days both.1) (grind (arith, nat_tests, range), grind (arith, nat_tests, range))))

@@ -1,3 +1,4 @@
+pub mod Cancelled
 pub mod Exits
 pub mod Feeds
 pub mod FolderTexts

@@ -6,7 +6,7 @@ use Rattle.gw_base.specs.Directory.{bytes_of}
 use Rattle.gw_base.specs.Told.{with_bytes}
 use Rattle.serde_json.specs.Data.{Data}
 use Rattle.service_day.specs.Windows.{IsWindow}
-use Rattle.service_day.specs.Zones.{IsRuleZone}
+use Rattle.service_day.specs.Zones.{IsRuleZone, IsTableZone}
 use Rattle.service_day.specs.declared.zones.Rules.{Rules}
 use Rattle.stop_schedule.specs.Timetable.{timetable}
 use Rattle.feed_messages.specs.Tables.{MeansFeed}
@@ -14,18 +14,22 @@ use Rattle.gateway.specs.Feeds.{journey_cmp, feed_of}
 use Rattle.gateway.specs.Frame.{journeys_of}
 use Rattle.gateway.specs.Journeys.{verdicts, taken}
 use Rattle.gateway.specs.Readings.{readings, reading_of}
-use Rattle.gateway.specs.Words.{ToGtfsrt, IsToGtfsrt}
+use Rattle.gateway.specs.Words.{ToGtfsrt, IsToGtfsrt, NamedZone, by_rule, by_file}
 use Rattle.gateway.specs.Work.{Directory, delivery_file}
 use Rattle.gateway.specs.declared.item.Cancelled.{Cancelled}
 use Rattle.gateway.specs.declared.setting.Setting.{Setting}
 
--- the words are a command, the folder has a timetable, the zone's rule and the days make a window, and the delivery has
--- journeys
+-- a zone is the one that is named: of a rule, or of the bytes of a file
+abbrev pub IsZone : NamedZone → Directory → Rules → Type 0
+IsZone (by_rule text) files zone = IsRuleZone text zone
+IsZone (by_file path) files zone = (bytes : List ℕ) × (bytes_of files path ≡ Some bytes) × IsTableZone bytes zone
+
+-- the words are a command, the folder has a timetable, the zone and the days make a window, and the delivery has journeys
 pub record IsRead (words : List (List ℕ)) (files : Directory) (command : ToGtfsrt) (setting : Setting) (items : List Data) : Type 0 where
   pub accepted : IsToGtfsrt words command
   pub folder : timetable files command.gtfs ≡ Ok setting.table
   pub zone : Rules
-  pub zone_is : IsRuleZone command.rule zone
+  pub zone_is : IsZone command.zone files zone
   pub window : IsWindow zone command.from command.days setting.window
   pub body : List ℕ
   pub delivery : bytes_of files (delivery_file command) ≡ Some body

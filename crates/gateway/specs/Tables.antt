@@ -1,32 +1,31 @@
 -- Commands as tables of pairs of words: which lists of words a table accepts, and where another list stops being the
--- start of an accepted one. It holds of any table.
-use Rattle.std.specs.Prelude.{◌≡◌, ◌≢◌, ◌⊎◌, ◌≤◌, ◌+◌, ◌&&◌, ℕ, Bool, IsTrue, List, [], ◌∷◌, ◌++◌, take, length, nat_eq}
+-- start of an accepted one. All of it is said of any table.
+use Rattle.std.specs.Prelude.{◌<◌, ◌≤◌, ◌+◌, ℕ, Bool, IsTrue, IsSomeAnd, Option, List, [], ◌∷◌, ◌++◌, take, length, nat_eq, find}
 use Rattle.std.proofs.Common.{get_or}
-use Rattle.std.specs.List.{list_any}
+use Rattle.std.specs.List.{AllByRecursion, list_any}
 use Rattle.std.specs.Cmp.Lexicographic.{pointwise}
 
 -- a test of a value, given the value before it
 abbrev pub Form : Type 0
 Form = List ℕ → List ℕ → Bool
 
--- a flag, and the form of the value behind it
-pub record Choice : Type 0 where
-  pub flag : List ℕ
+-- a pair of words: one of these flags, and behind it a value of this form
+pub record Pair : Type 0 where
+  pub flags : List (List ℕ)
   pub form : Form
 
--- a command: its name, its pairs, each of which is one of some choices, and the choices of the pairs behind them
+-- a command: its name, its pairs, and the pair that may be repeated behind them (none where that has no flag)
 pub record Command : Type 0 where
   pub name : List ℕ
-  pub pairs : List (List Choice)
-  pub repeated : List Choice
+  pub pairs : List Pair
+  pub repeated : Pair
 
--- the flag and the value are a pair of one of these choices, behind the value before
-abbrev pub is_pair : List Choice → List ℕ → List ℕ → List ℕ → Bool
-is_pair choices before flag value = list_any (λ choice. pointwise nat_eq choice.flag flag && choice.form before value) choices
+abbrev pub is_flag : Pair → List ℕ → Bool
+is_flag pair word = list_any (λ flag. pointwise nat_eq flag word) pair.flags
 
--- the choices of the pair of that number: behind the last one, those of the repeated pairs
-abbrev pub choices_at : Command → ℕ → List Choice
-choices_at command number = get_or command.pairs number command.repeated
+-- the pair of that number: behind the last one, the repeated one
+abbrev pub pair_at : Command → ℕ → Pair
+pair_at command number = get_or command.pairs number command.repeated
 
 -- the words are the pairs of the command from that number on, behind the value before: each of its pairs once, in their
 -- order, and then any number of repeated ones
@@ -34,17 +33,18 @@ abbrev pub ArePairs : Command → ℕ → List ℕ → List (List ℕ) → Type 
 ArePairs command number before [] = length command.pairs ≤ number
 ArePairs command number before (flag ∷ []) = ⊥
 ArePairs command number before (flag ∷ value ∷ words) =
-    IsTrue (is_pair (choices_at command number) before flag value) × ArePairs command (number + 1) value words
+    IsTrue (is_flag (pair_at command number) flag)
+    × IsTrue ((pair_at command number).form before value)
+    × ArePairs command (number + 1) value words
 
--- the words are the command's name and its pairs
-abbrev pub IsCommand : Command → List (List ℕ) → Type 0
-IsCommand command [] = ⊥
-IsCommand command (name ∷ words) = (name ≡ command.name) × ArePairs command 0 name words
+-- the command of that name
+abbrev pub with_name : List Command → List ℕ → Option Command
+with_name commands name = find (λ command. pointwise nat_eq command.name name) commands
 
--- the words are one of these commands
+-- the words are the name of one of these commands, which is the value before the first one, and its pairs
 abbrev pub IsAccepted : List Command → List (List ℕ) → Type 0
-IsAccepted [] words = ⊥
-IsAccepted (command ∷ commands) words = IsCommand command words ⊎ IsAccepted commands words
+IsAccepted commands [] = ⊥
+IsAccepted commands (name ∷ words) = IsSomeAnd (with_name commands name) (λ command. ArePairs command 0 name words)
 
 -- the words are the start of an accepted list, which may be the whole of it
 abbrev pub IsStart : (List (List ℕ) → Type 0) → List (List ℕ) → Type 0
@@ -61,20 +61,10 @@ pub record StopsAt (Accepted : List (List ℕ) → Type 0) (words : List (List �
 abbrev pub CanBeMet : Form → Type 0
 CanBeMet form = (before : List ℕ) → (value : List ℕ) × IsTrue (form before value)
 
-abbrev pub CanAllBeMet : List Choice → Type 0
-CanAllBeMet [] = Unit {0}
-CanAllBeMet (choice ∷ choices) = CanBeMet choice.form × CanAllBeMet choices
+abbrev pub CanStand : Pair → Type 0
+CanStand pair = (0 < length pair.flags) × CanBeMet pair.form
 
-abbrev pub HaveChoices : List (List Choice) → Type 0
-HaveChoices [] = Unit {0}
-HaveChoices ([] ∷ pairs) = ⊥
-HaveChoices ((choice ∷ choices) ∷ pairs) = CanAllBeMet (choice ∷ choices) × HaveChoices pairs
-
--- each pair has a choice, and each form can be met: then what is right so far is the start of an accepted list
+-- each pair has a flag and a form that can be met: then what is right so far is the start of an accepted list
 pub record IsSatisfiable (command : Command) : Type 0 where
-  pub pairs : HaveChoices command.pairs
-  pub repeated : CanAllBeMet command.repeated
-
-abbrev pub AreSatisfiable : List Command → Type 0
-AreSatisfiable [] = Unit {0}
-AreSatisfiable (command ∷ commands) = IsSatisfiable command × AreSatisfiable commands
+  pub pairs : AllByRecursion CanStand command.pairs
+  pub repeated : CanBeMet command.repeated.form

@@ -2,10 +2,10 @@
 -- something or ends the work, and the first end counts.
 use Rattle.std.specs.Prelude.{◌≡◌, ℕ, ℤ, List, [], ◌++◌, codes, length, nat_le, if◌then◌else◌, Option, Some, None, Result, Ok, Err, slice_index_or}
 use Rattle.gw_base.specs.Directory.{bytes_of}
-use Rattle.gw_base.specs.Steps.{Then, ◌>>=◌}
+use Rattle.gw_base.specs.Steps.{◌>>=◌}
 use Rattle.serde_json.specs.Data.{Data}
 use Rattle.service_day.specs.Windows.{DayStarts, IsWindow}
-use Rattle.service_day.specs.Zones.{IsRuleZone, IsBadRule}
+use Rattle.service_day.specs.Zones.{IsRuleZone, IsBadRule, IsTableZone, IsBadTable}
 use Rattle.service_day.specs.declared.zones.Rules.{Rules}
 use Rattle.stop_schedule.specs.Table.{Table}
 use Rattle.stop_schedule.specs.Timetable.{timetable}
@@ -16,7 +16,7 @@ use Rattle.gateway.specs.Feeds.{IsFeed}
 use Rattle.gateway.specs.Frame.{journeys_of}
 use Rattle.gateway.specs.Items.{sorted}
 use Rattle.gateway.specs.Reports.{report_text}
-use Rattle.gateway.specs.Words.{ToGtfsrt}
+use Rattle.gateway.specs.Words.{ToGtfsrt, NamedZone, by_rule, by_file}
 use Rattle.gateway.specs.declared.delivery.Delivery.{Delivery}
 use Rattle.gateway.specs.declared.exit.Exit.{Exit}
 use Rattle.gateway.specs.declared.exit.Exit.TheVariants.{Refused}
@@ -35,27 +35,12 @@ folder dir (Err fault) = Err (folder_end dir fault)
 abbrev pub Folder : List ℕ → Directory → Result Table Exit → Type 0
 Folder dir files answer = answer ≡ folder dir (timetable files dir)
 
--- the zone of a POSIX rule
-abbrev pub Zone : List ℕ → Result Rules Exit → Type 0
-Zone rule (Ok zone) = IsRuleZone rule zone
-Zone rule (Err end) = IsBadRule rule × (end ≡ Refused (codes "zone refused"))
+-- the most bytes of a zone file, and of a delivery or a feed
+abbrev pub zone_limit : ℕ
+zone_limit = 1048576
 
--- the window of so many days from the first on
-abbrev pub Window : Rules → ℤ → ℕ → Result DayStarts Exit → Type 0
-Window zone first days (Ok window) = IsWindow zone first days window
-Window zone first days (Err end) = ⊥
-
--- a step that finds this
-abbrev pub Found : {A : Type 0} → A → Result A Exit → Type 0
-Found found answer = answer ≡ Ok found
-
--- what a command works over
-abbrev pub SettingOf : List ℕ → List ℕ → ℤ → ℕ → Directory → Result Setting Exit → Type 0
-SettingOf dir rule first days files = do
-  table ← Folder dir files
-  zone ← Zone rule
-  window ← Window zone first days
-  Found (record { table = table; zone = zone; window = window })
+abbrev pub body_limit : ℕ
+body_limit = 16777216
 
 -- the bytes of a further file, which may be missing or too long
 abbrev pub further : ℕ → List ℕ → Option (List ℕ) → Result (List ℕ) Exit
@@ -65,9 +50,39 @@ further limit name (Some bytes) = if nat_le (length bytes) limit then Ok bytes e
 abbrev pub FurtherFile : ℕ → List ℕ → Directory → Result (List ℕ) Exit → Type 0
 FurtherFile limit name files answer = answer ≡ further limit name (bytes_of files name)
 
--- the most bytes of a delivery or a feed
-abbrev pub body_limit : ℕ
-body_limit = 16777216
+-- the window of so many days from the first on
+abbrev pub Window : Rules → ℤ → ℕ → Result DayStarts Exit → Type 0
+Window zone first days (Ok window) = IsWindow zone first days window
+Window zone first days (Err end) = ⊥
+
+-- the zone of a POSIX rule
+abbrev pub RuleZone : List ℕ → Result Rules Exit → Type 0
+RuleZone text (Ok zone) = IsRuleZone text zone
+RuleZone text (Err end) = IsBadRule text × (end ≡ Refused (codes "zone refused"))
+
+-- the zone of the bytes of a TZif file
+abbrev pub TableZone : List ℕ → Result Rules Exit → Type 0
+TableZone bytes (Ok zone) = IsTableZone bytes zone
+TableZone bytes (Err end) = IsBadTable bytes × (end ≡ Refused (codes "zone refused"))
+
+-- the zone that is named
+abbrev pub Zone : NamedZone → Directory → Result Rules Exit → Type 0
+Zone (by_rule text) files = RuleZone text
+Zone (by_file path) files = do
+  bytes ← FurtherFile zone_limit path files
+  TableZone bytes
+
+-- a step that finds this
+abbrev pub Found : {A : Type 0} → A → Result A Exit → Type 0
+Found found answer = answer ≡ Ok found
+
+-- what a command works over
+abbrev pub SettingOf : List ℕ → NamedZone → ℤ → ℕ → Directory → Result Setting Exit → Type 0
+SettingOf dir named first days files = do
+  table ← Folder dir files
+  zone ← Zone named files
+  window ← Window zone first days
+  Found (record { table = table; zone = zone; window = window })
 
 -- the journeys of a delivery, each taken or set aside; a body without the frame is refused, with the file's name
 abbrev pub delivery : Setting → List ℕ → Option (List Data) → Result Delivery Exit
@@ -98,5 +113,5 @@ delivery_file command = slice_index_or command.more 1 []
 -- the work of `to-gtfsrt`
 abbrev pub ToGtfsrtWork : ToGtfsrt → Directory → Result Done Exit → Type 0
 ToGtfsrtWork command files = do
-  setting ← SettingOf command.gtfs command.rule command.from command.days files
+  setting ← SettingOf command.gtfs command.zone command.from command.days files
   Conversion command.at setting (delivery_file command) files

@@ -24,8 +24,9 @@ use gw_base::{NoClock, NoDoor};
 use std::process::ExitCode;
 
 const USAGE: &str = "\
-usage: gateway to-gtfsrt --gtfs DIR --zone-rule RULE --from YYYY-MM-DD --days N --at YYYY-MM-DDThh:mm:ssZ --et FILE
+usage: gateway to-gtfsrt --gtfs DIR ZONE --from YYYY-MM-DD --days N --at YYYY-MM-DDThh:mm:ssZ --et FILE
 
+ZONE is --zone-rule RULE, a POSIX rule such as CET-1CEST,M3.5.0,M10.5.0/3, or --zone-file FILE, a TZif file.
 to-gtfsrt reads the GTFS folder DIR and the SIRI estimated timetable FILE, and writes a GTFS Realtime feed
 to standard output and a report to standard error.
 ";

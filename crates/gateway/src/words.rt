@@ -1,15 +1,15 @@
 //! The words of a command line. Only exactly the lists of words of a command are accepted.
 ghost use Rattle.std.specs.Prelude.{◌≡◌, length, IfOk, IfErr};
-ghost use Rattle.gateway.specs.Words.{ToGtfsrt, IsToGtfsrt, IsRefusedAt};
-ghost use Rattle.gateway.specs.Works.{command_of};
+ghost use Rattle.gateway.specs.Words.{ToGtfsrt, IsToGtfsrt, IsRefusedAt, zone_by};
+ghost use Rattle.gateway.specs.Works.{command_of, zone_of};
 
 mod forms;
 mod table;
 
-use forms::{Form, first_day, moment, number};
+use forms::{Form, day_count, first_day, moment};
 use gw_base::{Moment, Text};
 use service_day::Day;
-use table::{Choice, Command, Kind, which};
+use table::{Command, Pair, check};
 
 /// The word at which a list of words stops being the start of an accepted one, counted from 0.
 #[derive(Clone, Copy, Debug, PartialEq, Eq)]
@@ -23,6 +23,8 @@ pub struct BadWord {
 pub enum ZoneWord<'a> {
     /// A POSIX rule.
     Rule(&'a Text),
+    /// A file.
+    File(&'a Text),
 }
 
 /// A command with its words read.
@@ -47,36 +49,49 @@ pub enum Work<'a> {
 
 // The commands. In a list of words the value of the pair of number n, from 0 on, is the word of number 2n + 2.
 static COMMANDS: [Command; 1] = [Command {
-    kind: Kind::ToGtfsrt,
     name: "to-gtfsrt",
     pairs: &[
-        &[Choice {
-            flag: "--gtfs",
+        Pair {
+            flags: &["--gtfs"],
             form: Form::Filled,
-        }],
-        &[Choice {
-            flag: "--zone-rule",
+        },
+        Pair {
+            flags: &["--zone-rule", "--zone-file"],
             form: Form::Filled,
-        }],
-        &[Choice {
-            flag: "--from",
+        },
+        Pair {
+            flags: &["--from"],
             form: Form::Day,
-        }],
-        &[Choice {
-            flag: "--days",
+        },
+        Pair {
+            flags: &["--days"],
             form: Form::DayCount,
-        }],
-        &[Choice {
-            flag: "--at",
+        },
+        Pair {
+            flags: &["--at"],
             form: Form::Moment,
-        }],
-        &[Choice {
-            flag: "--et",
+        },
+        Pair {
+            flags: &["--et"],
             form: Form::Filled,
-        }],
+        },
     ],
-    repeated: &[],
+    repeated: Pair {
+        flags: &[],
+        form: Form::Filled,
+    },
 }];
+
+// The zone that a flag and its value name.
+fn zone_word<'a>(flag: &Text, value: &'a Text) -> ZoneWord<'a>
+    ensures { zone_of result ≡ zone_by flag.now value.now }
+{
+    if flag.as_str() == "--zone-file" {
+        ZoneWord::File(value)
+    } else {
+        ZoneWord::Rule(value)
+    }
+}
 
 // What the words of `to-gtfsrt` say.
 fn to_gtfsrt(words: &[Text]) -> Work<'_>
@@ -86,9 +101,9 @@ fn to_gtfsrt(words: &[Text]) -> Work<'_>
 {
     Work::ToGtfsrt {
         gtfs: &words[2],
-        zone: ZoneWord::Rule(&words[4]),
+        zone: zone_word(&words[3], &words[4]),
         from: first_day(&words[6]).unwrap(),
-        days: number(&words[8]).unwrap() as u8,
+        days: day_count(&words[8]).unwrap(),
         at: moment(&words[10]).unwrap(),
         more: &words[11..],
     }
@@ -100,7 +115,6 @@ pub fn job(words: &[Text]) -> Result<Work<'_>, BadWord>
     ensures refused { IfErr result (λ bad. IsRefusedAt words.now bad.at) }
     ensures delivery { IfOk result (λ work. length (command_of work).more ≡ 2) }
 {
-    match which(&COMMANDS, words)? {
-        Kind::ToGtfsrt => Ok(to_gtfsrt(words)),
-    }
+    check(&COMMANDS, words)?;
+    Ok(to_gtfsrt(words))
 }

@@ -6,7 +6,8 @@ ghost use Rattle.gw_base.specs.Count.{Counts};
 ghost use Rattle.gateway.specs.Exits.{is_free};
 ghost use Rattle.gateway.specs.Work as steps;
 ghost use Rattle.gateway.specs.Windowed.{HasWindow};
-ghost use Rattle.gateway.specs.Works.{command_of, rule_of};
+ghost use Rattle.gateway.specs.Words.{ToGtfsrt, by_file};
+ghost use Rattle.gateway.specs.Works.{command_of, zone_of, Says};
 
 use crate::delivery::{Delivery, DeliveryFault, read_delivery};
 use crate::exit::Exit;
@@ -30,13 +31,16 @@ pub struct Done {
 }
 
 /// The most bytes that a delivery may have.
-pub const BODY_LIMIT: u64 = 16_777_216;
+const BODY_LIMIT: u64 = 16_777_216;
+
+/// The most bytes that a zone file may have.
+const ZONE_LIMIT: u64 = 1_048_576;
 
 // The words that say what a command works over.
 #[derive(Clone, Copy)]
 struct SettingWords<'a> {
     gtfs: &'a Text,
-    zone: ZoneWord<'a>,
+    zone: &'a ZoneWord<'a>,
     first: Day,
     days: u8,
 }
@@ -62,19 +66,6 @@ fn folder<F: Files>(alloc: Global, files: &mut F, dir: &str) -> Result<Timetable
     }
 }
 
-// The zone that the words name.
-fn zone(alloc: Global, word: &ZoneWord<'_>) -> Result<Zone, Exit>
-    ensures told { UnlessFree is_free result (steps.Zone (rule_of word.now)) }
-    ensures calm { ¬ IsErrOf result Exit.Failed }
-{
-    let ZoneWord::Rule(rule) = word;
-    match Zone::from_rule(rule.as_str()) {
-        Ok(zone) => Ok(zone),
-        Err(ZoneFault::Refused) => Err(Exit::Refused(Text::copied(alloc, "zone refused")?)),
-        Err(ZoneFault::Memory) => Err(Exit::Memory),
-    }
-}
-
 // The bytes of a further file.
 fn further_file<F: Files>(
     alloc: Global,
@@ -96,6 +87,52 @@ fn further_file<F: Files>(
     }
 }
 
+// The zone of a POSIX rule.
+fn rule_zone(alloc: Global, rule: &str) -> Result<Zone, Exit>
+    ensures told { UnlessFree is_free result (steps.RuleZone rule.now) }
+    ensures calm { ¬ IsErrOf result Exit.Failed }
+{
+    match Zone::from_rule(rule) {
+        Ok(zone) => Ok(zone),
+        Err(ZoneFault::Refused) => Err(Exit::Refused(Text::copied(alloc, "zone refused")?)),
+        Err(ZoneFault::Memory) => Err(Exit::Memory),
+    }
+}
+
+// The zone of the bytes of a TZif file.
+fn table_zone(alloc: Global, bytes: &[u8]) -> Result<Zone, Exit>
+    ensures told { UnlessFree is_free result (steps.TableZone bytes.now) }
+    ensures calm { ¬ IsErrOf result Exit.Failed }
+{
+    match Zone::from_file(alloc, bytes) {
+        Ok(zone) => Ok(zone),
+        Err(ZoneFault::Refused) => Err(Exit::Refused(Text::copied(alloc, "zone refused")?)),
+        Err(ZoneFault::Memory) => Err(Exit::Memory),
+    }
+}
+
+// The zone of a TZif file.
+fn file_zone<F: Files>(alloc: Global, files: &mut F, path: &str) -> Result<Zone, Exit>
+    ensures told { IfSome (F.told files.old) (λ told. UnlessFree is_free result (steps.Zone (by_file path.now) told)) }
+    ensures counts { Counts (IsErrOf result Exit.Failed) (F.faults files.old) (F.faults files.new) }
+    ensures same { F.told files.new ≡ F.told files.old }
+{
+    let bytes = further_file(alloc, files, path, ZONE_LIMIT)?;
+    table_zone(alloc, bytes.as_slice())
+}
+
+// The zone that the words name.
+fn zone<F: Files>(alloc: Global, files: &mut F, word: &ZoneWord<'_>) -> Result<Zone, Exit>
+    ensures told { IfSome (F.told files.old) (λ told. UnlessFree is_free result (steps.Zone (zone_of word.now) told)) }
+    ensures counts { Counts (IsErrOf result Exit.Failed) (F.faults files.old) (F.faults files.new) }
+    ensures same { F.told files.new ≡ F.told files.old }
+{
+    match word {
+        ZoneWord::Rule(rule) => rule_zone(alloc, rule.as_str()),
+        ZoneWord::File(path) => file_zone(alloc, files, path.as_str()),
+    }
+}
+
 // What a command works over.
 fn setting<F: Files>(
     alloc: Global,
@@ -104,12 +141,12 @@ fn setting<F: Files>(
 ) -> Result<Setting, Exit>
     requires { HasWindow words.now.first words.now.days }
     ensures told { IfSome (F.told files.old) (λ told. UnlessFree is_free result
-        (steps.SettingOf words.now.gtfs.now (rule_of words.now.zone) words.now.first words.now.days told)) }
+        (steps.SettingOf words.now.gtfs.now (zone_of words.now.zone.now) words.now.first words.now.days told)) }
     ensures counts { Counts (IsErrOf result Exit.Failed) (F.faults files.old) (F.faults files.new) }
     ensures same { F.told files.new ≡ F.told files.old }
 {
     let table = folder(alloc, files, words.gtfs.as_str())?;
-    let zone = zone(alloc, &words.zone)?;
+    let zone = zone(alloc, files, words.zone)?;
     let window = Window::make(&zone, words.first, words.days)?;
     Ok(Setting {
         table,
@@ -179,14 +216,8 @@ fn to_gtfsrt<F: Files>(
 ) -> Result<Done, Exit>
     requires file { length more.now ≡ 2 }
     requires window { HasWindow words.now.first words.now.days }
-    ensures told { IfSome (F.told files.old) (λ told. UnlessFree is_free result (steps.ToGtfsrtWork (record {
-      gtfs = words.now.gtfs.now;
-      rule = rule_of words.now.zone;
-      from = words.now.first;
-      days = words.now.days;
-      at = at;
-      more = more.now;
-    }) told)) }
+    ensures told { (command : ToGtfsrt) → Says command words.now at more.now
+        → IfSome (F.told files.old) (λ told. UnlessFree is_free result (steps.ToGtfsrtWork command told)) }
     ensures counts { Counts (IsErrOf result Exit.Failed) (F.faults files.old) (F.faults files.new) }
     ensures same { F.told files.new ≡ F.told files.old }
 {
@@ -214,7 +245,7 @@ pub fn carried_out<F: Files>(alloc: Global, work: &Work<'_>, files: &mut F) -> R
         } => {
             let words = SettingWords {
                 gtfs,
-                zone: *zone,
+                zone,
                 first: *from,
                 days: *days,
             };

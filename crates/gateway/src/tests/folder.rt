@@ -1,5 +1,7 @@
 //! The folder in a run: a fault of it ends the run with its text, before anything of the delivery is told.
-use super::runs::{Given, ONE_ENTITY, ONE_TAKEN, Other, WORDS, assert_other, assert_run};
+use super::runs::{Given, ONE_ENTITY, ONE_TAKEN, Other, assert_other, assert_run};
+use std::alloc::Global;
+use std::process::Abort;
 
 // A file in place of the sample's, each with the status and the text of the run.
 static REFUSED: [(&str, Other, u8, &str); 14] = [
@@ -54,36 +56,69 @@ fn spellings_of_one_table_say_the_same(rt: HostRuntime) {
     }
 }
 
-// Words that name no zone, over files of which others are wrong too.
+// A zone in the words, other files, and the status and the text of the run: the zone comes behind the folder and before
+// the delivery.
+static ZONES: [(&str, &[Other], u8, &str); 7] = [
+    (
+        "--zone-rule ???",
+        &[("f", None)],
+        65,
+        "gateway: zone refused\n",
+    ),
+    (
+        "--zone-rule ???",
+        &[("g/trips.txt", None)],
+        66,
+        "gateway: Missing g/trips.txt\n",
+    ),
+    (
+        "--zone-rule UTC0",
+        &[("f", None)],
+        66,
+        "gateway: Missing f\n",
+    ),
+    ("--zone-file z", &[("f", None)], 66, "gateway: Missing z\n"),
+    (
+        "--zone-file z",
+        &[("z", Some(b"\0")), ("f", None)],
+        65,
+        "gateway: zone refused\n",
+    ),
+    (
+        "--zone-file z",
+        &[("z", Some(b"")), ("g/trips.txt", None)],
+        66,
+        "gateway: Missing g/trips.txt\n",
+    ),
+    (
+        "--zone-file z",
+        &[("z", Some(UTC)), ("f", None)],
+        66,
+        "gateway: Missing f\n",
+    ),
+];
+
+// The TZif file of UTC (RFC 9636, version 2, without transitions).
+const UTC: &[u8] =
+    b"TZif2\0\0\0\0\0\0\0\0\0\0\0\0\0\0\0\0\0\0\0\0\0\0\0\0\0\0\0\0\0\0\0\0\0\0\x01\0\0\0\x04\0\0\0\0\0\0UTC\0TZif2\0\0\0\0\0\0\0\0\0\0\0\0\0\0\0\0\0\0\0\0\0\0\0\0\0\0\0\0\0\0\0\0\0\0\x01\0\0\0\x04\0\0\0\0\0\0UTC\0\nUTC0\n";
+
+// The run of the words with that zone.
+fn assert_zone(rt: &impl Abort, alloc: Global, zone: &str, others: &[Other], ends: (u8, &str)) {
+    let words = format!(in alloc;
+        "to-gtfsrt --gtfs g {zone} --from 2024-05-01 --days 2 --at 2024-05-01T06:00:00Z --et f"
+    );
+    let words = words.expect(rt, "memory");
+    let given = Given {
+        words: words.as_str(),
+        others,
+        fails: &[],
+    };
+    assert_run(rt, alloc, zone, &given, (ends.0, b"", ends.1));
+}
+
 #[test]
 fn the_zone_comes_behind_the_folder_and_before_the_delivery(rt: HostRuntime) {
-    let words =
-        "to-gtfsrt --gtfs g --zone-rule ??? --from 2024-05-01 --days 2 --at 2024-05-01T06:00:00Z --et f";
-    let refused = (65, b"".as_slice(), "gateway: zone refused\n");
-    let missing = (66, b"".as_slice(), "gateway: Missing g/trips.txt\n");
-    let given = Given {
-        words,
-        others: &[("f", None)],
-        fails: &[],
-    };
-    assert_run(&rt, rt.alloc(), "no zone", &given, refused);
-    let given_none = Given {
-        words,
-        others: &[("g/trips.txt", None)],
-        fails: &[],
-    };
-    assert_run(
-        &rt,
-        rt.alloc(),
-        "no zone and no trips",
-        &given_none,
-        missing,
-    );
-    let given_zone = Given {
-        words: WORDS,
-        others: &[("f", None)],
-        fails: &[],
-    };
-    let delivery = (66, b"".as_slice(), "gateway: Missing f\n");
-    assert_run(&rt, rt.alloc(), "no delivery", &given_zone, delivery);
+    for (zone, others, status, err) in ZONES.iter() {
+        assert_zone(&rt, rt.alloc(), zone, others, (*status, err));
+    }
 }

@@ -5,7 +5,7 @@ use std::alloc::{AllocError, Global};
 use std::process::Abort;
 
 // Words that are wrong where they stand in the accepted list.
-static WRONG: [(usize, &str); 42] = [
+static WRONG: [(usize, &str); 41] = [
     (0, ""),
     (0, "to-siri"),
     (0, "To-gtfsrt"),
@@ -13,7 +13,6 @@ static WRONG: [(usize, &str); 42] = [
     (1, "--feed"),
     (1, "--zone-rule"),
     (2, ""),
-    (3, "--zone-file"),
     (3, "--gtfs"),
     (4, ""),
     (5, "--days"),

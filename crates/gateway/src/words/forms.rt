@@ -1,6 +1,7 @@
 //! The forms of values, and what a value of a form is read as.
-ghost use Rattle.std.specs.Prelude.{◌≡◌, ◌≤◌};
-ghost use Rattle.std.specs.Str.{all_ascii_digits};
+ghost use Rattle.std.specs.Prelude.{◌≡◌, Some};
+ghost use Rattle.std.specs.Char.{is_ascii_digit};
+ghost use Rattle.std.specs.List.{list_all};
 ghost use Rattle.gateway.specs.Forms as spec;
 ghost use Rattle.gateway.specs.Forms.{beginning, decimal_number};
 ghost use Rattle.gateway.specs.Rows.{form_of};
@@ -17,6 +18,9 @@ pub const LAST_DAY: i32 = 2_932_166;
 
 /// The most days that a window may have.
 pub const MOST_DAYS: u64 = 32;
+
+/// The most digits of a number.
+pub const MOST_DIGITS: usize = 10;
 
 /// The form of the value behind a flag.
 #[derive(Clone, Copy, Debug, PartialEq, Eq)]
@@ -45,40 +49,49 @@ pub fn first_day(word: &Text) -> Option<Day>
 
 // Each character is an ASCII digit.
 fn is_digits(text: &str) -> bool
-    ensures { result ≡ all_ascii_digits text.now }
+    ensures { result ≡ list_all is_ascii_digit text.now }
 {
     text.as_bytes().iter().all(|digit| digit.is_ascii_digit())
 }
 
-/// The value of a word that is a number in 1 to 10 decimal digits.
-pub fn number(word: &Text) -> Option<u64>
+// A number in 1 to 10 decimal digits.
+fn is_number(text: &str) -> bool
+    ensures { result ≡ spec.is_number text.now }
+{
+    !text.is_empty() && text.len() <= MOST_DIGITS && is_digits(text)
+}
+
+// The value of a word that is a number.
+fn number(word: &Text) -> Option<u64>
     ensures { result ≡ decimal_number word.now }
 {
     let text = word.as_str();
-    if text.is_empty() || 10 < text.len() || !is_digits(text) {
-        return None;
+    if is_number(text) {
+        text.parse::<u64>().ok()
+    } else {
+        None
     }
-    text.parse::<u64>().ok()
 }
 
-// That many days from the first one on end in 9997 at the latest, if there is a first one.
-fn ends_in_time(first: Option<Day>, days: u64) -> bool
-    requires { days ≤ 32 }
-    ensures { result ≡ spec.ends_in_time first days }
+/// The value of a word that is a number of days from 1 to 32.
+pub fn day_count(word: &Text) -> Option<u8>
+    ensures { result ≡ spec.day_count word.now }
+{
+    let days = number(word)?;
+    if 1 <= days && days <= MOST_DAYS {
+        Some(days as u8)
+    } else {
+        None
+    }
+}
+
+// That many days from the first one on, if there is a first one, end in 9997 at the latest.
+fn ends_in_time(first: Option<Day>, days: u8) -> bool
+    ensures { result ≡ spec.ends_in_time first (Some days) }
 {
     match first {
         Some(day) => day.number() + (days as i32 - 1) <= LAST_DAY,
         None => true,
-    }
-}
-
-// A number of days from 1 to 32, of which the last is in time when the first is the value before.
-fn is_day_count(before: &Text, word: &Text) -> bool
-    ensures { result ≡ spec.is_day_count before.now word.now }
-{
-    match number(word) {
-        Some(days) => 1 <= days && days <= MOST_DAYS && ends_in_time(first_day(before), days),
-        None => false,
     }
 }
 
@@ -96,7 +109,10 @@ pub fn has_form(form: Form, before: &Text, word: &Text) -> bool
     match form {
         Form::Filled => !word.as_str().is_empty(),
         Form::Day => first_day(word).is_some(),
-        Form::DayCount => is_day_count(before, word),
+        Form::DayCount => match day_count(word) {
+            Some(days) => ends_in_time(first_day(before), days),
+            None => false,
+        },
         Form::Moment => moment(word).is_some(),
     }
 }

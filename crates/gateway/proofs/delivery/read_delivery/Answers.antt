@@ -1,4 +1,4 @@
-use Rattle.std.proofs.Common.{◌∙◌, Some, ap, refl, sym}
+use Rattle.std.proofs.Common.{◌∙◌, Some, ap, sym}
 use Rattle.std.proofs.lemmas.Bool.{false≢true}
 use Rattle.gateway.proofs.FrameLemmas.{body_read, body_not_read}
 use Rattle.gateway.proofs.delivery.read_delivery.Goals as goal

@@ -1,4 +1,4 @@
-use Rattle.std.proofs.Common.{◌∙◌, ap, sym, take, length}
+use Rattle.std.proofs.Common.{◌∙◌, sym, take, length}
 use Rattle.gateway.proofs.JourneyLemmas.{judged_of, sorted_taken, sorted_aside, trip_taken}
 use Rattle.gateway.proofs.delivery.sorted_out.Goals as goal
 use Rattle.gateway.proofs.delivery.sorted_out.Goals.{in-Ok+in_ok-push-in-Ok, in-Err+in_ok-push-in-Err}

@@ -1,6 +1,6 @@
 -- A piece that failed, and all pieces.
-use Rattle.std.proofs.Common.{◌++◌, ◌∷◌, [], ◌∙◌, ap, refl, codes, Option, List, ℕ}
-use Rattle.gw_base.specs.Told.{with_bytes, PutsUnless}
+use Rattle.std.proofs.Common.{◌++◌, ◌∙◌, ap, refl, codes, Option, List, ℕ}
+use Rattle.gw_base.specs.Told.{with_bytes}
 use Rattle.gw_base.proofs.CountLemmas.{rose-after}
 use Rattle.gw_base.proofs.ToldLemmas.{puts_front, puts_more, puts_wider, with_bytes-with_bytes}
 use Rattle.gateway.proofs.top.put_line.Goals as goal

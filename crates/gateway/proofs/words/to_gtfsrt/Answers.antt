@@ -1,17 +1,10 @@
-use Rattle.std.proofs.Common.{refl, ap, sym, length, ◌∙◌, ◌≤◌, arith}
+use Rattle.std.proofs.Common.{refl, ap, sym, length, ◌∙◌}
 use Rattle.std.proofs.lemmas.List.{take_rest}
 use Rattle.std.proofs.lemmas.Option.{slice_get_read, slice_get_within}
-use Rattle.gateway.specs.Forms.{beginning, decimal_number}
-use Rattle.gateway.proofs.WordLemmas.{read_at, few_days, one_delivery}
+use Rattle.gateway.specs.Forms.{beginning, day_count}
+use Rattle.gateway.proofs.WordLemmas.{read_at, one_delivery}
 use Rattle.gateway.proofs.words.to_gtfsrt.Goals as goal
 use Rattle.service_day.specs.Utc.{utc_of}
-
-pub overflow_cast-result : goal.overflow_cast-result
-overflow_cast-result c =
-    let is = c.requires.1 in
-    let few : c.unwrap-2.result ≤ 32 = few_days c.args.words.now c.requires.0 c.unwrap-2.result is
-    (read_at decimal_number c.args.words.now 8 _ c.unwrap-2.result _ is.days c.index-words-8.is (sym c.number.ensures ∙ c.unwrap-2.ensures)) in
-    omega arith
 
 pub returns-clause-read : goal.returns-clause-read
 returns-clause-read c =
@@ -19,10 +12,17 @@ returns-clause-read c =
     let words = c.args.words.now in
     record {
       accepted = is.accepted;
+      name = is.name;
       gtfs = slice_get_read words _ 2 _ refl (slice_get_within words 2 _ is.gtfs) c.index-words-2.is;
-      rule = slice_get_read words _ 4 _ refl (slice_get_within words 4 _ is.rule) c.index-words-4.is;
+      zone = (
+        _,
+        _,
+        slice_get_read words _ 3 _ refl (slice_get_within words 3 _ is.zone.2) c.index-words-3.is,
+        slice_get_read words _ 4 _ refl (slice_get_within words 4 _ is.zone.3) c.index-words-4.is,
+        c.zone_word.ensures,
+      );
       from = read_at beginning words 6 _ _ _ is.from c.index-words-6.is (sym c.first_day.ensures ∙ c.unwrap.ensures);
-      days = read_at decimal_number words 8 _ _ _ is.days c.index-words-8.is (sym c.number.ensures ∙ c.unwrap-2.ensures);
+      days = read_at day_count words 8 _ _ _ is.days c.index-words-8.is (sym c.day_count.ensures ∙ c.unwrap-2.ensures);
       at = read_at utc_of words 10 _ _ _ is.at c.index-words-10.is (sym c.moment.ensures ∙ c.unwrap-3.ensures);
       more = sym (take_rest words 11);
     }
