@@ -1,7 +1,11 @@
 pub mod FaultLemmas
 pub mod FieldLemmas
+pub mod FillLemmas
 pub mod FormLemmas
 pub mod IdLemmas
+pub mod ListLemmas
+pub mod NearestLemmas
 pub mod RowLemmas
+pub mod SequenceLemmas
 pub mod TakingLemmas
 pub mod TextLemmas

@@ -8,6 +8,7 @@ pub mod Holding
 pub mod Ids
 pub mod Layout
 pub mod Reading
+pub mod Rising
 pub mod RowReader
 pub mod Rows
 pub mod Services

@@ -1,5 +1,6 @@
 //! The files of a folder, each with what is made of its rows. The functions meet `specs/Timetable.antt`.
-ghost use Rattle.std.specs.Prelude.{◌≡◌, [], ⊤, map, IfSome};
+ghost use Rattle.std.specs.Prelude.{◌≡◌, [], ⊤, true, map, IfSome};
+ghost use Rattle.stop_schedule.specs.Layout.{lists_ids};
 ghost use Rattle.gw_base.specs.Count.{Counts};
 ghost use Rattle.stop_schedule.specs.Answers.{Finds, HasFailed};
 ghost use Rattle.stop_schedule.specs.Causes.{zone_fault, duplicate_fault, trip_fault, frequency_fault, stop_time_fault};
@@ -82,6 +83,7 @@ pub(crate) fn read_ids<F: Files>(
     buffer: &mut Bytes,
     file: TableFile,
 ) -> Result<Ids, TableFault>
+    requires { lists_ids file ≡ true }
     ensures exact { IfSome (F.told files.old) (λ told. ReadsNeeded file (duplicate_fault file) (λ ids rows. ids ≡ map (nth 0) rows) (sheets_in told dir.now) result) }
     ensures counts { Counts (HasFailed result) (F.faults files.old) (F.faults files.new) }
     ensures same { F.told files.new ≡ F.told files.old }

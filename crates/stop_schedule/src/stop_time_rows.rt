@@ -56,7 +56,9 @@ impl<'a> TakesRows for StopTimeRows<'a> {
         let Some(trip) = find_in(self.trips, sheet, 0) else {
             return Err(unknown(number, Column::TripId));
         };
-        let held = &mut self.by_trip[trip as usize];
+        let Some(held) = self.by_trip.get_mut(trip as usize) else {
+            return Err(unknown(number, Column::TripId));
+        };
         if held.len() >= MAX_STOPS {
             return Err(TableFault::Limit(TableFile::StopTimes, number));
         }

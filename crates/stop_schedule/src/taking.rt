@@ -40,8 +40,8 @@ pub(crate) trait TakesRows {
 
     /// Takes the row at hand, which is the data row of that number, or tells its fault.
     fn take(&mut self, alloc: Global, sheet: &Sheet<'_>, number: u64) -> Result<(), TableFault>
+        requires { Fits (file_of self.old) number sheet.now.row }
         ensures takes { (start : Self) (before : List Row) → Holds start self.old before → number ≡ length before + 1
-            → Fits (file_of self.old) number sheet.now.row
             → Finds (fault self.old before sheet.now.row) (λ _. Holds start self.new (before ++ sheet.now.row ∷ [])) result }
         ensures same_fault { fault self.new ≡ fault self.old }
         ensures same_file { file_of self.new ≡ file_of self.old }
@@ -94,6 +94,8 @@ pub(crate) fn read_rows<F: Files, T: TakesRows>(
         return Ok(false);
     }
     let mut sheet = Sheet::open(alloc, buffer.as_slice(), file)?;
-    take_rows(alloc, &mut sheet, taker)?;
-    Ok(true)
+    match take_rows(alloc, &mut sheet, taker) {
+        Ok(()) => Ok(true),
+        Err(fault) => Err(fault),
+    }
 }
