@@ -79,7 +79,7 @@ place-of-id ids place id distinct at =
 
 -- ---- one more id
 
-bytes_eq-flips : (a b : List ℕ) → bytes_eq a b ≡ bytes_eq b a
+pub bytes_eq-flips : (a b : List ℕ) → bytes_eq a b ≡ bytes_eq b a
 bytes_eq-flips a b =
     both_ways _ _ (λ e. (bytes_eq-Decides b a).1 (sym ((bytes_eq-Decides a b).0 e))) (λ e. (bytes_eq-Decides a b).1 (sym ((bytes_eq-Decides b a).0 e)))
 
@@ -169,6 +169,10 @@ module _ {Z : Type 0} (key : String Z) (keys : List (String Z)) where
           rw (map-append string_bytes keys (key ∷ []), are_ids-push (map string_bytes keys) (string_bytes key) good, sound, ← lacks-text (string_bytes key) refl, e) refl
 
 -- ---- the number of an id
+
+pub not-false : (a : Bool) → not a ≡ true → a ≡ false
+not-false true h = sym h
+not-false false h = refl
 
 -- an id that has a place stands there
 pub id-of-place : (ids : List (List ℕ)) (place : ℕ) (id : List ℕ) → position (bytes_eq id) ids ≡ Some place → slice_get ids place ≡ Some id

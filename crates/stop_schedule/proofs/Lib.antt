@@ -7,5 +7,10 @@ pub mod ListLemmas
 pub mod NearestLemmas
 pub mod RowLemmas
 pub mod SequenceLemmas
+pub mod ServiceLemmas
+pub mod ServiceStep
+pub mod StepLemmas
+pub mod StopStep
 pub mod TakingLemmas
 pub mod TextLemmas
+pub mod TripStep

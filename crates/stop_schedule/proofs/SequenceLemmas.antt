@@ -151,3 +151,25 @@ rising-placed stop (first ∷ stops) rising none =
         let different = apart.0 in
         let greater : nat_lt first.sequence stop.sequence ≡ true = grind (arith, nat_tests, e, different) in
         both_true (all-placed (λ other. nat_lt first.sequence other.sequence) stop stops greater (and-left (all_greater first.sequence stops) _ rising)) later
+
+-- ---- a place between others is of a sequence that none has
+
+less-apart : (sequence : ℕ) (stops : List LoadedStop) → all_less sequence stops ≡ true → has_sequence sequence stops ≡ false
+less-apart sequence [] less = refl
+less-apart sequence (first ∷ stops) less =
+    let here = and-left (nat_lt first.sequence sequence) _ less in
+    let apart : (sequence == first.sequence) ≡ false = grind (arith, nat_tests, here) in
+    rw apart (less-apart sequence stops (and-right (nat_lt first.sequence sequence) _ less))
+
+greater-apart : (sequence : ℕ) (stops : List LoadedStop) → all_greater sequence stops ≡ true → has_sequence sequence stops ≡ false
+greater-apart sequence [] greater = refl
+greater-apart sequence (first ∷ stops) greater =
+    let here = and-left (nat_lt sequence first.sequence) _ greater in
+    let apart : (sequence == first.sequence) ≡ false = grind (arith, nat_tests, here) in
+    rw apart (greater-apart sequence stops (and-right (nat_lt sequence first.sequence) _ greater))
+
+pub not-between : (stops : List LoadedStop) (sequence place : ℕ) → IsBetween stops sequence place → has_sequence sequence stops ≡ false
+not-between stops sequence place is =
+    ap (has_sequence sequence) (sym (take-append-drop place stops))
+    ∙ list_any-append (λ stop. sequence == stop.sequence) (take place stops) (drop place stops)
+    ∙ rw (less-apart sequence (take place stops) is.before) (greater-apart sequence (drop place stops) is.after)

@@ -1,5 +1,5 @@
 //! The files of a folder, each with what is made of its rows. The functions meet `specs/Timetable.antt`.
-ghost use Rattle.std.specs.Prelude.{◌≡◌, [], ⊤, true, map, IfSome};
+ghost use Rattle.std.specs.Prelude.{◌≡◌, [], ⊤, true, map, replicate, IfOk, IfSome};
 ghost use Rattle.stop_schedule.specs.Layout.{lists_ids};
 ghost use Rattle.gw_base.specs.Count.{Counts};
 ghost use Rattle.stop_schedule.specs.Answers.{Finds, HasFailed};
@@ -23,7 +23,7 @@ use crate::taking::{TakesRows, read_rows};
 use crate::trip_rows::TripRows;
 use crate::zone_rows::ZoneRows;
 use gw_base::{Bytes, Files};
-use std::alloc::Global;
+use std::alloc::{AllocError, Global};
 use std::collections::HashMap;
 
 /// The trips of `trips.txt` with the numbers of their routes and services.
@@ -173,6 +173,28 @@ pub(crate) fn read_services<F: Files>(
     })
 }
 
+// That many trips are carried.
+fn all_carried(alloc: Global, count: usize) -> Result<Vec<bool>, AllocError>
+    ensures { IfOk result (λ carried. carried.items ≡ replicate count true) }
+{
+    let mut carried = Vec::new(alloc);
+    for _ in 0..count {
+        carried.push(true)?;
+    }
+    Ok(carried)
+}
+
+// That many trips have no stops.
+fn no_stops(alloc: Global, count: usize) -> Result<Vec<Vec<LoadedStop>>, AllocError>
+    ensures { IfOk result (λ by_trip. map (λ held. held.items) by_trip.items ≡ replicate count []) }
+{
+    let mut by_trip = Vec::new(alloc);
+    for _ in 0..count {
+        by_trip.push(Vec::new(alloc))?;
+    }
+    Ok(by_trip)
+}
+
 /// Reads `frequencies.txt`, and answers of each trip whether it is carried.
 pub(crate) fn read_frequencies<F: Files>(
     alloc: Global,
@@ -186,10 +208,7 @@ pub(crate) fn read_frequencies<F: Files>(
     ensures counts { Counts (HasFailed result) (F.faults files.old) (F.faults files.new) }
     ensures same { F.told files.new ≡ F.told files.old }
 {
-    let mut carried = Vec::new(alloc);
-    for _ in 0..trips.len() {
-        carried.push(true)?;
-    }
+    let carried = all_carried(alloc, trips.len())?;
     let mut rows = FrequencyRows { trips, carried };
     read_rows(alloc, files, dir, buffer, &mut rows)?;
     let FrequencyRows { trips: _, carried } = rows;
@@ -210,10 +229,7 @@ pub(crate) fn read_stop_times<F: Files>(
     ensures counts { Counts (HasFailed result) (F.faults files.old) (F.faults files.new) }
     ensures same { F.told files.new ≡ F.told files.old }
 {
-    let mut by_trip = Vec::new(alloc);
-    for _ in 0..trips.len() {
-        by_trip.push(Vec::new(alloc))?;
-    }
+    let by_trip = no_stops(alloc, trips.len())?;
     let mut rows = StopTimeRows {
         trips,
         stops,
