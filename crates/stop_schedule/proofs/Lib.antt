@@ -9,6 +9,7 @@ pub mod RowLemmas
 pub mod SequenceLemmas
 pub mod ServiceLemmas
 pub mod ServiceStep
+pub mod StartLemmas
 pub mod StepLemmas
 pub mod StopStep
 pub mod TakingLemmas

@@ -46,7 +46,7 @@ impl<'a> TakesRows for StopTimeRows<'a> {
 
     ghost fault = { λ taker. stop_time_fault taker.trips.now taker.stops.now };
 
-    ghost Holds = { λ _ taker rows. HoldsStops taker.trips.now taker.stops.now (map (λ held. held.items) taker.by_trip.items) rows };
+    ghost Holds = { λ start taker rows. (taker.trips.now ≡ start.trips.now) × (taker.stops.now ≡ start.stops.now) × HoldsStops taker.trips.now taker.stops.now (map (λ held. held.items) taker.by_trip.items) rows };
 
     fn file(&self) -> TableFile {
         TableFile::StopTimes

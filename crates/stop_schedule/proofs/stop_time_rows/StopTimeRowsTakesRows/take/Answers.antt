@@ -17,7 +17,8 @@ use Rattle.stop_schedule.proofs.StopStep.{items_of, unknown-trip, too-many, unkn
 use Rattle.stop_schedule.proofs.stop_time_rows.StopTimeRowsTakesRows.take.Goals as goal
 
 pub returns-in_default-clause-takes : goal.returns-in_default-clause-takes
-returns-in_default-clause-takes c = λ start before holds counted.
+returns-in_default-clause-takes c = λ start before kept counted.
+    let holds = kept.2 in
     let row = c.args.sheet.now.row in
     let trips = c.args.self.now.trips.now in
     let stops = c.args.self.now.stops.now in
@@ -25,7 +26,8 @@ returns-in_default-clause-takes c = λ start before holds counted.
     rw counted (unknown-trip trips stops before row holds.known (sym (c.in_default.ensures.found text)))
 
 pub returns-in_default-get_mut-clause-takes : goal.returns-in_default-get_mut-clause-takes
-returns-in_default-get_mut-clause-takes c = λ start before holds counted.
+returns-in_default-get_mut-clause-takes c = λ start before kept counted.
+    let holds = kept.2 in
     let row = c.args.sheet.now.row in
     let trips = c.args.self.now.trips.now in
     let stops = c.args.self.now.stops.now in
@@ -37,7 +39,8 @@ returns-in_default-get_mut-clause-takes c = λ start before holds counted.
     absurd (false≢true (c.in_default-get_mut.ensures.variant.1 there))
 
 pub returns-then-len-ge-MAX_STOPS-clause-takes : goal.returns-then-len-ge-MAX_STOPS-clause-takes
-returns-then-len-ge-MAX_STOPS-clause-takes c = λ start before holds counted.
+returns-then-len-ge-MAX_STOPS-clause-takes c = λ start before kept counted.
+    let holds = kept.2 in
     let row = c.args.sheet.now.row in
     let trips = c.args.self.now.trips.now in
     let stops = c.args.self.now.stops.now in
@@ -54,7 +57,8 @@ returns-then-len-ge-MAX_STOPS-clause-takes c = λ start before holds counted.
     rw counted (too-many trips stops before row many)
 
 pub returns-in_default-find_in-clause-takes : goal.returns-in_default-find_in-clause-takes
-returns-in_default-find_in-clause-takes c = λ start before holds counted.
+returns-in_default-find_in-clause-takes c = λ start before kept counted.
+    let holds = kept.2 in
     let row = c.args.sheet.now.row in
     let trips = c.args.self.now.trips.now in
     let stops = c.args.self.now.stops.now in
@@ -72,7 +76,8 @@ returns-in_default-find_in-clause-takes c = λ start before holds counted.
     rw counted (unknown-stop trips stops before row few of_trip (sym (c.in_default-find_in.ensures.found stop_text)))
 
 pub returns-in_default-place_of-clause-takes : goal.returns-in_default-place_of-clause-takes
-returns-in_default-place_of-clause-takes c = λ start before holds counted.
+returns-in_default-place_of-clause-takes c = λ start before kept counted.
+    let holds = kept.2 in
     let row = c.args.sheet.now.row in
     let trips = c.args.self.now.trips.now in
     let stops = c.args.self.now.stops.now in
@@ -97,7 +102,8 @@ returns-in_default-place_of-clause-takes c = λ start before holds counted.
     rw counted (twice trips stops before row few of_trip of_stop has)
 
 pub returns-in-Ok-clause-takes : goal.returns-in-Ok-clause-takes
-returns-in-Ok-clause-takes c = λ start before holds counted.
+returns-in-Ok-clause-takes c = λ start before kept counted.
+    let holds = kept.2 in
     let row = c.args.sheet.now.row in
     let trips = c.args.self.now.trips.now in
     let stops = c.args.self.now.stops.now in
@@ -128,5 +134,5 @@ returns-in-Ok-clause-takes c = λ start before holds counted.
             ∙ ap (λ items. insert items place (loaded stops (length before + 1, row))) held_is
             ∙ placed-at (stops_in stops before (nth 0 row)) (loaded stops (length before + 1, row)) place between in
     (no-fault trips stops before row few of_trip of_stop none,
-    rw (map-set items_of c.args.self.now.by_trip.items c.in-Some.trip c.insert.new.self)
-    (stops-step trips stops by_trip before holds row c.in-Some.trip (items_of c.insert.new.self) (and-right _ _ c.in-Some.ensures.ids) at rising none of_trip value))
+    (kept.0, kept.1, rw (map-set items_of c.args.self.now.by_trip.items c.in-Some.trip c.insert.new.self)
+    (stops-step trips stops by_trip before holds row c.in-Some.trip (items_of c.insert.new.self) (and-right _ _ c.in-Some.ensures.ids) at rising none of_trip value)))

@@ -7,7 +7,8 @@ use Rattle.stop_schedule.proofs.TripStep.{trip-held, no-trip-fault}
 use Rattle.stop_schedule.proofs.trip_rows.TripRowsTakesRows.take.Goals as goal
 
 pub returns-clause-takes : goal.returns-clause-takes
-returns-clause-takes c = λ start before holds counted.
+returns-clause-takes c = λ start before kept counted.
+    let holds = kept.1 in
     let row = c.args.sheet.now.row in
     let routes = c.args.self.now.known_routes.now in
     let trips = c.args.self.now.trips in
@@ -21,5 +22,5 @@ returns-clause-takes c = λ start before holds counted.
     let grown = rw service_is at c.in_ok-service.ensures.ids in
     let on_service = rw service_is at c.in_ok-service.ensures.number in
     (no-trip-fault routes trips before row (sym (c.in-Some.ensures.found on_route)) holds.ids new,
-    trip-held routes services trips c.number_of.new.self c.add.new.self c.args.self.now.trip_routes.items c.args.self.now.trip_services.items c.push.new.self.items c.push-2.new.self.items
-    c.in-Some.route c.in_ok-service.service before row holds route_at grown on_service all c.in_ok-push.ensures.items c.in_ok-push-2.ensures.items)
+    (kept.0, trip-held routes services trips c.number_of.new.self c.add.new.self c.args.self.now.trip_routes.items c.args.self.now.trip_services.items c.push.new.self.items c.push-2.new.self.items
+    c.in-Some.route c.in_ok-service.service before row holds route_at grown on_service all c.in_ok-push.ensures.items c.in_ok-push-2.ensures.items))
