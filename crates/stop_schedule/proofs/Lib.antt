@@ -3,6 +3,7 @@ pub mod FieldLemmas
 pub mod FillLemmas
 pub mod FormLemmas
 pub mod IdLemmas
+pub mod JoinLemmas
 pub mod ListLemmas
 pub mod NearestLemmas
 pub mod RowLemmas

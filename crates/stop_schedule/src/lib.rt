@@ -2,10 +2,12 @@
 //! number.
 #![tactic(auto)]
 
+mod carried;
 mod checks;
 mod column;
 mod fields;
 mod folder;
+mod folder_rows;
 mod forms;
 mod frequency_rows;
 mod id_rows;
@@ -30,7 +32,5 @@ pub use numbers::{RouteNo, StopNo, TripNo};
 pub use stop_times::StopRow;
 pub use table_fault::TableFault;
 pub use table_file::TableFile;
-pub use timetable::{Timetable, read_timetable};
+pub use timetable::Timetable;
 
-#[cfg(test)]
-mod tests;

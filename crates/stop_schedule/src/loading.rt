@@ -5,7 +5,8 @@ ghost use Rattle.gw_base.specs.Count.{Counts};
 ghost use Rattle.stop_schedule.specs.Answers.{Finds, HasFailed};
 ghost use Rattle.stop_schedule.specs.Causes.{zone_fault, duplicate_fault, trip_fault, calendar_fault, date_fault, frequency_fault, stop_time_fault};
 ghost use Rattle.stop_schedule.specs.Faults.{optional_fault};
-ghost use Rattle.stop_schedule.specs.Holding.{HoldsCalendars, HoldsDates, HoldsTrips, HoldsServices, HoldsStops};
+ghost use Rattle.stop_schedule.specs.Holding.{HoldsCalendars, HoldsDates, HoldsTrips, HoldsServices, HoldsStops, calendar_at, exception_at};
+ghost use Rattle.stop_schedule.specs.Services.{runs_by};
 ghost use Rattle.stop_schedule.specs.Reading.{ReadsNeeded, ReadsRows};
 ghost use Rattle.stop_schedule.specs.Timetable.{calendars_fault, sheets_in};
 ghost use Rattle.stop_schedule.specs.Sheet.{nth, rows_in};
@@ -24,6 +25,7 @@ use crate::taking::{TakesRows, read_rows};
 use crate::trip_rows::TripRows;
 use crate::zone_rows::ZoneRows;
 use gw_base::{Bytes, Files};
+use service_day::Day;
 use std::alloc::{AllocError, Global};
 use std::collections::HashMap;
 
@@ -292,4 +294,19 @@ pub(crate) fn read_stop_times<F: Files>(
         by_trip,
     } = rows;
     Ok(by_trip)
+}
+
+impl Services {
+    /// Whether a service runs on a day.
+    pub(crate) fn run(&self, service: u32, day: Day) -> bool
+        ensures { result ≡ runs_by (exception_at self.now.exceptions service day) (calendar_at self.now.calendars service) day }
+    {
+        if let Some(added) = self.exceptions.get(&(service, day.number())) {
+            return *added;
+        }
+        match self.calendars.get(&service) {
+            Some(calendar) => calendar.has_day(day),
+            None => false,
+        }
+    }
 }
