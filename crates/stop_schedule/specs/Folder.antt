@@ -13,9 +13,10 @@ HoldsRuns routes trips trip_routes trip_services calendars exceptions sheets =
     (services : List (List ℕ)) × HoldsTrips routes services trips trip_routes trip_services (rows_in (sheets Trips))
     × HoldsServices services calendars exceptions (rows_in (sheets Calendar)) (rows_in (sheets CalendarDates))
 
-pub record HoldsFolder (folder : FolderRows) (sheets : Sheets) : Type 0 where
-  pub stops : folder.stops ≡ ids_in sheets Stops
-  pub routes : folder.routes ≡ ids_in sheets Routes
-  pub runs : HoldsRuns (ids_in sheets Routes) folder.trips.ids folder.trips.routes.items folder.trips.services.items folder.services.calendars folder.services.exceptions sheets
-  pub carried : folder.carried.items ≡ map (is_carried (rows_in (sheets Frequencies))) (ids_in sheets Trips)
-  pub by_trip : HoldsStops (ids_in sheets Trips) (ids_in sheets Stops) (map (λ held. held.items) folder.by_trip.items) (rows_in (sheets StopTimes))
+-- all that is made of the rows, by the ids of stops and routes
+pub record HoldsRest (stops routes : List (List ℕ)) (folder : FolderRows) (sheets : Sheets) : Type 0 where
+  pub stops_are : folder.stops ≡ stops
+  pub routes_are : folder.routes ≡ routes
+  pub runs : HoldsRuns routes folder.trips.ids folder.trips.routes.items folder.trips.services.items folder.services.calendars folder.services.exceptions sheets
+  pub carried : folder.carried.items ≡ map (is_carried (rows_in (sheets Frequencies))) folder.trips.ids
+  pub by_trip : HoldsStops folder.trips.ids stops (map (λ held. held.items) folder.by_trip.items) (rows_in (sheets StopTimes))

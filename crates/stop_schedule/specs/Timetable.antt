@@ -78,11 +78,14 @@ stops_fault trips stops sheets =
     option_or (optional_fault Frequencies (frequency_fault trips) (sheets Frequencies))
     (needed_fault StopTimes (stop_time_fault trips stops) (sheets StopTimes))
 
+-- of the files behind those of the names
+abbrev pub rest_fault : List (List ℕ) → List (List ℕ) → Sheets → Option TableFault
+rest_fault routes stops sheets = option_or (runs_fault routes sheets) (stops_fault (ids_in sheets Trips) stops sheets)
+
 -- the first fault of all files
 abbrev pub files_fault : Sheets → Option TableFault
 files_fault sheets =
-    option_or (names_fault sheets)
-    (option_or (runs_fault (ids_in sheets Routes) sheets) (stops_fault (ids_in sheets Trips) (ids_in sheets Stops) sheets))
+    option_or (names_fault sheets) (rest_fault (ids_in sheets Routes) (ids_in sheets Stops) sheets)
 
 -- the first fault of a folder: files in their order, and untimed ends after all rows
 abbrev pub folder_fault : Sheets → Option TableFault

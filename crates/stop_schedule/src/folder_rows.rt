@@ -2,11 +2,11 @@
 ghost use Rattle.std.specs.Prelude.{◌≡◌, map, IfSome};
 ghost use Rattle.gw_base.specs.Count.{Counts};
 ghost use Rattle.stop_schedule.specs.Answers.{Finds, HasFailed};
-ghost use Rattle.stop_schedule.specs.Folder.{HoldsFolder, HoldsRuns};
+ghost use Rattle.stop_schedule.specs.Folder.{HoldsRest, HoldsRuns};
 ghost use Rattle.stop_schedule.specs.Holding.{HoldsStops};
 ghost use Rattle.stop_schedule.specs.Sheet.{rows_in};
 ghost use Rattle.stop_schedule.specs.Trips.{is_carried};
-ghost use Rattle.stop_schedule.specs.Timetable.{files_fault, ids_in, runs_fault, stops_fault, names_fault, sheets_in};
+ghost use Rattle.stop_schedule.specs.Timetable.{files_fault, ids_in, rest_fault, runs_fault, stops_fault, names_fault, sheets_in};
 ghost use Rattle.stop_schedule.specs.declared.table_file.TableFile.TheVariants as File;
 
 use crate::ids::Ids;
@@ -86,6 +86,37 @@ fn read_stops<F: Files>(
     Ok((carried, by_trip))
 }
 
+// Reads the files behind those of the names.
+fn read_rest<F: Files>(
+    alloc: Global,
+    files: &mut F,
+    dir: &str,
+    buffer: &mut Bytes,
+    stops: Ids,
+    routes: Ids,
+) -> Result<FolderRows, TableFault>
+    ensures exact { IfSome (F.told files.old) (λ told. Finds (rest_fault routes stops (sheets_in told dir.now))
+        (λ folder. HoldsRest stops routes folder (sheets_in told dir.now)) result) }
+    ensures counts { Counts (HasFailed result) (F.faults files.old) (F.faults files.new) }
+    ensures same { F.told files.new ≡ F.told files.old }
+{
+    let (trips, services) = match read_runs(alloc, files, dir, buffer, &routes) {
+        Ok(found) => found,
+        Err(fault) => return Err(fault),
+    };
+    match read_stops(alloc, files, dir, buffer, &trips.ids, &stops) {
+        Ok((carried, by_trip)) => Ok(FolderRows {
+            stops,
+            routes,
+            trips,
+            services,
+            carried,
+            by_trip,
+        }),
+        Err(fault) => Err(fault),
+    }
+}
+
 /// Reads all files of a folder, each into the same buffer.
 pub(crate) fn read_folder<F: Files>(
     alloc: Global,
@@ -93,20 +124,14 @@ pub(crate) fn read_folder<F: Files>(
     dir: &str,
 ) -> Result<FolderRows, TableFault>
     ensures exact { IfSome (F.told files.old) (λ told. Finds (files_fault (sheets_in told dir.now))
-        (λ folder. HoldsFolder folder (sheets_in told dir.now)) result) }
+        (λ folder. HoldsRest (ids_in (sheets_in told dir.now) File.Stops) (ids_in (sheets_in told dir.now) File.Routes) folder (sheets_in told dir.now)) result) }
     ensures counts { Counts (HasFailed result) (F.faults files.old) (F.faults files.new) }
     ensures same { F.told files.new ≡ F.told files.old }
 {
     let mut buffer = List::new(alloc);
-    let (stops, routes) = read_names(alloc, files, dir, &mut buffer)?;
-    let (trips, services) = read_runs(alloc, files, dir, &mut buffer, &routes)?;
-    let (carried, by_trip) = read_stops(alloc, files, dir, &mut buffer, &trips.ids, &stops)?;
-    Ok(FolderRows {
-        stops,
-        routes,
-        trips,
-        services,
-        carried,
-        by_trip,
-    })
+    let (stops, routes) = match read_names(alloc, files, dir, &mut buffer) {
+        Ok(names) => names,
+        Err(fault) => return Err(fault),
+    };
+    read_rest(alloc, files, dir, &mut buffer, stops, routes)
 }

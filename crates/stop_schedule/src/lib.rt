@@ -2,6 +2,7 @@
 //! number.
 #![tactic(auto)]
 
+mod assembling;
 mod carried;
 mod checks;
 mod column;
@@ -27,6 +28,7 @@ mod timetable;
 mod trip_rows;
 mod zone_rows;
 
+pub use assembling::read_timetable;
 pub use column::Column;
 pub use numbers::{RouteNo, StopNo, TripNo};
 pub use stop_times::StopRow;
