@@ -17,7 +17,7 @@ use Rattle.std.specs.Cmp.{both_ways}
 use Rattle.std.specs.Cmp.Derive.{both_true}
 use Rattle.stop_schedule.specs.Ids.{are_distinct, are_ids, has_id, has_id_len, is_id}
 
-bytes_eq-refl : (id : List ℕ) → bytes_eq id id ≡ true
+pub bytes_eq-refl : (id : List ℕ) → bytes_eq id id ≡ true
 bytes_eq-refl id = (bytes_eq-Decides id id).1 refl
 
 -- a test of the images is that of the values
@@ -32,11 +32,11 @@ pub list_any-map : {A B : Type 0} (test : B → Bool) (f : A → B) (xs : List A
 list_any-map test f [] = refl
 list_any-map test f (x ∷ xs) = ap (λ b. test (f x) || b) (list_any-map test f xs)
 
-and-left : (a b : Bool) → (a && b) ≡ true → a ≡ true
+pub and-left : (a b : Bool) → (a && b) ≡ true → a ≡ true
 and-left true b h = refl
 and-left false b h = h
 
-and-right : (a b : Bool) → (a && b) ≡ true → b ≡ true
+pub and-right : (a b : Bool) → (a && b) ≡ true → b ≡ true
 and-right true b h = h
 and-right false b h = absurd (false≢true h)
 
@@ -46,14 +46,14 @@ id-at [] place id all at = cc
 id-at (first ∷ ids) zero id all at = let same : first ≡ id = cc in subst (λ t. is_id t ≡ true) same (and-left _ _ all)
 id-at (first ∷ ids) (suc place) id all at = id-at ids place id (and-right _ _ all) at
 
-has-at : (ids : List (List ℕ)) (place : ℕ) (id : List ℕ) → slice_get ids place ≡ Some id → has_id id ids ≡ true
+pub has-at : (ids : List (List ℕ)) (place : ℕ) (id : List ℕ) → slice_get ids place ≡ Some id → has_id id ids ≡ true
 has-at [] place id at = cc
 has-at (first ∷ ids) zero id at =
     let same : first ≡ id = cc in rw (same, bytes_eq-refl id) refl
 has-at (first ∷ ids) (suc place) id at = rw (has-at ids place id at) (or-true (bytes_eq id first))
 
 -- an id of a list is not one that the list lacks
-lacked : (first id : List ℕ) (ids : List (List ℕ)) → not (has_id first ids) ≡ true → has_id id ids ≡ true → bytes_eq id first ≡ false
+pub lacked : (first id : List ℕ) (ids : List (List ℕ)) → not (has_id first ids) ≡ true → has_id id ids ≡ true → bytes_eq id first ≡ false
 lacked first id ids lacks has = by (bytes_eq id first) refl
   where
     by : (b : Bool) → bytes_eq id first ≡ b → b ≡ false
@@ -79,7 +79,7 @@ place-of-id ids place id distinct at =
 
 -- ---- one more id
 
-bytes_eq-flips : (a b : List ℕ) → bytes_eq a b ≡ bytes_eq b a
+pub bytes_eq-flips : (a b : List ℕ) → bytes_eq a b ≡ bytes_eq b a
 bytes_eq-flips a b =
     both_ways _ _ (λ e. (bytes_eq-Decides b a).1 (sym ((bytes_eq-Decides a b).0 e))) (λ e. (bytes_eq-Decides a b).1 (sym ((bytes_eq-Decides b a).0 e)))
 
@@ -169,6 +169,10 @@ module _ {Z : Type 0} (key : String Z) (keys : List (String Z)) where
           rw (map-append string_bytes keys (key ∷ []), are_ids-push (map string_bytes keys) (string_bytes key) good, sound, ← lacks-text (string_bytes key) refl, e) refl
 
 -- ---- the number of an id
+
+pub not-false : (a : Bool) → not a ≡ true → a ≡ false
+not-false true h = sym h
+not-false false h = refl
 
 -- an id that has a place stands there
 pub id-of-place : (ids : List (List ℕ)) (place : ℕ) (id : List ℕ) → position (bytes_eq id) ids ≡ Some place → slice_get ids place ≡ Some id

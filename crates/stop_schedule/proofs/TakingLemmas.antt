@@ -3,11 +3,11 @@ use Rattle.std.proofs.Common.{◌≡◌, ◌∙◌, ◌+◌, ◌≤◌, ℕ, Lis
 use Rattle.std.specs.Prelude.{⊤}
 use Rattle.std.specs.Bool.{MatchBool}
 use Rattle.stop_schedule.specs.Answers.{is_free}
-use Rattle.stop_schedule.specs.Faults.{Fits, common_fault, first_fault, row_fault}
+use Rattle.stop_schedule.specs.Faults.{common_fault, first_fault, row_fault}
 use Rattle.stop_schedule.specs.Sheet.{Row}
 use Rattle.stop_schedule.specs.declared.table_file.TableFile.{TableFile}
 use Rattle.stop_schedule.specs.declared.table_fault.TableFault.{TableFault}
-use Rattle.stop_schedule.proofs.FaultLemmas.{both-none, fault-here, fits-from, next-row, said-of, second-some}
+use Rattle.stop_schedule.proofs.FaultLemmas.{both-none, fault-here, next-row, said-of, second-some}
 
 -- some rows were taken without fault, and these are left
 pub record SoFar {S : Type 0} (Holds : S → S → List Row → Type 0) (file : TableFile) (further : List Row → Row → Option TableFault)
@@ -23,10 +23,10 @@ module _ {S : Type 0} (Holds : S → S → List Row → Type 0) (file : TableFil
   common-none counted none = subst (λ n. common_fault file (n + 1) row ≡ None) counted none
 
   pub taken : SoFar Holds file further start before all done lefts → lefts ≡ row ∷ left → number ≡ length done → common_fault file (number + 1) row ≡ None
-      → (Holds start before done → number + 1 ≡ length done + 1 → Fits file (number + 1) row → (further done row ≡ None) × Holds start after (done ++ row ∷ []))
+      → (Holds start before done → number + 1 ≡ length done + 1 → (further done row ≡ None) × Holds start after (done ++ row ∷ []))
       → SoFar Holds file further start after all (done ++ row ∷ []) left
   taken so_far is counted none takes =
-      let now = takes so_far.holds (ap (λ n. n + 1) counted) (fits-from file (number + 1) row none) in
+      let now = takes so_far.holds (ap (λ n. n + 1) counted) in
       record {
         rows = append_assoc done (row ∷ []) left ∙ ap (λ rest. done ++ rest) (sym is) ∙ so_far.rows;
         faultless = next-row (row_fault file further) done row left lefts _ is (both-none _ _ (common-none counted none) now.0) so_far.faultless;
@@ -34,9 +34,9 @@ module _ {S : Type 0} (Holds : S → S → List Row → Type 0) (file : TableFil
       }
 
   pub refused : (fault : TableFault) → SoFar Holds file further start before all done lefts → lefts ≡ row ∷ left → number ≡ length done → common_fault file (number + 1) row ≡ None
-      → (Holds start before done → number + 1 ≡ length done + 1 → Fits file (number + 1) row → MatchBool (is_free fault) ⊤ (further done row ≡ Some fault))
+      → (Holds start before done → number + 1 ≡ length done + 1 → MatchBool (is_free fault) ⊤ (further done row ≡ Some fault))
       → MatchBool (is_free fault) ⊤ (first_fault (row_fault file further) [] all ≡ Some fault)
   refused fault so_far is counted none takes =
       said-of (is_free fault) (further done row ≡ Some fault) (first_fault (row_fault file further) [] all ≡ Some fault)
       (λ here. fault-here (row_fault file further) done row left lefts _ fault is (second-some _ _ fault (common-none counted none) here) so_far.faultless)
-      (takes so_far.holds (ap (λ n. n + 1) counted) (fits-from file (number + 1) row none))
+      (takes so_far.holds (ap (λ n. n + 1) counted))

@@ -1,5 +1,5 @@
 -- The faults of a row beyond those of its fields, by the rows before it in its file and by the ids of other files.
-use Rattle.std.specs.Prelude.{◌==◌, ◌&&◌, ◌+◌, ℕ, Bool, false, not, nat_le, List, [], ◌∷◌, map, length, count_by, Option, Some, None}
+use Rattle.std.specs.Prelude.{◌==◌, ◌&&◌, ◌+◌, ℕ, Bool, false, not, nat_le, List, [], ◌∷◌, map, length, filter, Option, Some, None}
 use Rattle.std.specs.List.{list_any}
 use Rattle.std.specs.Option.{option_or}
 use Rattle.std.specs.Str.{bytes_eq}
@@ -59,7 +59,7 @@ same_trip row other = bytes_eq (nth 0 row) (nth 0 other)
 -- stop_times.txt, of which these are the ids of the trips and the stops; a trip has at most 250 rows
 abbrev pub stop_time_fault : List (List ℕ) → List (List ℕ) → List Row → Row → Option TableFault
 stop_time_fault trips stops before row =
-    option_or (fault_if (nat_le 250 (count_by (same_trip row) before)) (Limit StopTimes (number_behind before)))
+    option_or (fault_if (nat_le 250 (length (filter (same_trip row) before))) (Limit StopTimes (number_behind before)))
     (option_or (fault_if (not (has_id (nth 0 row) trips)) (Unknown StopTimes (number_behind before) Column.TripId))
     (option_or (fault_if (not (has_id (nth 2 row) stops)) (Unknown StopTimes (number_behind before) Column.StopId))
     (fault_if (list_any (λ other. same_trip row other && (sequence_of row == sequence_of other)) before) (Duplicate StopTimes (number_behind before)))))

@@ -6,6 +6,7 @@ use Rattle.std.specs.HashMap.{HashMap, get}
 use Rattle.std.specs.declared.hash.FoldHasher.{FoldHasher}
 use Rattle.std.specs.declared.hash.BuildHasherDefault.{BuildHasherDefault}
 use Rattle.stop_schedule.specs.Ids.{has_id}
+use Rattle.stop_schedule.specs.Rising.{is_rising}
 use Rattle.stop_schedule.specs.Services.{calendar_in, exception_in}
 use Rattle.stop_schedule.specs.Sheet.{Row, nth}
 use Rattle.stop_schedule.specs.StopTimes.{stops_in}
@@ -63,4 +64,5 @@ pub record HoldsServices (services : List (List ℕ)) (calendars : Calendars) (e
 -- each trip has the stops that the rows give it, and the rows' trips are known
 pub record HoldsStops (trips stops : List (List ℕ)) (by_trip : List (List LoadedStop)) (rows : List Row) : Type 0 where
   pub stops_are : by_trip ≡ map (stops_in stops rows) trips
+  pub rising : list_all is_rising by_trip ≡ true
   pub known : list_all (λ row. has_id (nth 0 row) trips) rows ≡ true

@@ -1,6 +1,6 @@
 -- What is read of each file (GTFS Schedule reference): its columns in order with their forms, and the rows that it
 -- has at most.
-use Rattle.std.specs.Prelude.{ℕ, List, [], ◌∷◌}
+use Rattle.std.specs.Prelude.{ℕ, Bool, true, false, List, [], ◌∷◌}
 use Rattle.stop_schedule.specs.declared.column.Column.{Column}
 use Rattle.stop_schedule.specs.declared.column.Column.TheVariants as Column
 use Rattle.stop_schedule.specs.declared.forms.Form.{Form}
@@ -32,3 +32,9 @@ row_limit Calendar = 200000
 row_limit CalendarDates = 4000000
 row_limit Frequencies = 200000
 row_limit StopTimes = 4000000
+
+-- the file is read as a list of ids
+abbrev pub lists_ids : TableFile → Bool
+lists_ids Stops = true
+lists_ids Routes = true
+lists_ids file = false

@@ -3,13 +3,17 @@ pub mod Causes
 pub mod Columns
 pub mod Faults
 pub mod Fields
+pub mod Folder
 pub mod Forms
+pub mod Held
 pub mod Holding
 pub mod Ids
 pub mod Layout
 pub mod Reading
+pub mod Rising
 pub mod RowReader
 pub mod Rows
+pub mod Seen
 pub mod Services
 pub mod Sheet
 pub mod StopTimes

@@ -1,9 +1,12 @@
 -- What reading a file of a folder answers.
-use Rattle.std.specs.Prelude.{◌≡◌, Bool, List, Option, Result, is_some}
+use Rattle.std.specs.Prelude.{◌≡◌, Bool, List, Option, None, Some, Result, Ok, Err, is_some, ⊤}
 use Rattle.stop_schedule.specs.Answers.{Finds}
 use Rattle.stop_schedule.specs.Faults.{optional_fault, needed_fault}
 use Rattle.stop_schedule.specs.Sheet.{Row, rows_in}
-use Rattle.stop_schedule.specs.Timetable.{Sheets}
+use Rattle.stop_schedule.specs.Timetable.{Sheets, files_fault, ids_in}
+use Rattle.stop_schedule.specs.declared.timetable.Timetable.{Timetable}
+use Rattle.stop_schedule.specs.declared.table_file.TableFile.TheVariants.{Stops, Routes}
+use Rattle.stop_schedule.specs.declared.table_fault.TableFault.TheVariants.{Missing, TooLong, NoColumn, NotUtf8, BadField, Limit, Zones, Unknown, Duplicate, UntimedEnd, Failed, Memory}
 use Rattle.stop_schedule.specs.declared.table_file.TableFile.{TableFile}
 use Rattle.stop_schedule.specs.declared.table_fault.TableFault.{TableFault}
 
@@ -19,3 +22,39 @@ ReadsNeeded file further Holds sheets result = Finds (needed_fault file further 
 abbrev pub FindsFile : TableFile → (List Row → Row → Option TableFault) → (List Row → Type 0) → Sheets → Result Bool TableFault → Type 0
 FindsFile file further Holds sheets result =
     Finds (optional_fault file further (sheets file)) (λ there. (there ≡ is_some (sheets file)) × Holds (rows_in (sheets file))) result
+
+-- the fault comes after all files: an end without times, or want of memory
+abbrev pub IsAssembled : TableFault → Type 0
+IsAssembled (Missing file) = ⊥
+IsAssembled (TooLong file) = ⊥
+IsAssembled (NoColumn file column) = ⊥
+IsAssembled (NotUtf8 file row) = ⊥
+IsAssembled (BadField file row column) = ⊥
+IsAssembled (Limit file row) = ⊥
+IsAssembled (Zones row) = ⊥
+IsAssembled (Unknown file row column) = ⊥
+IsAssembled (Duplicate file row) = ⊥
+IsAssembled (Failed file) = ⊥
+IsAssembled (UntimedEnd row) = ⊤
+IsAssembled Memory = ⊤
+
+-- a fault as it comes from the files: their first, or none where an end has no times; a free fault says nothing
+abbrev pub TellsFault : Option TableFault → TableFault → Type 0
+TellsFault first (Missing file) = first ≡ Some (Missing file)
+TellsFault first (TooLong file) = first ≡ Some (TooLong file)
+TellsFault first (NoColumn file column) = first ≡ Some (NoColumn file column)
+TellsFault first (NotUtf8 file row) = first ≡ Some (NotUtf8 file row)
+TellsFault first (BadField file row column) = first ≡ Some (BadField file row column)
+TellsFault first (Limit file row) = first ≡ Some (Limit file row)
+TellsFault first (Zones row) = first ≡ Some (Zones row)
+TellsFault first (Unknown file row column) = first ≡ Some (Unknown file row column)
+TellsFault first (Duplicate file row) = first ≡ Some (Duplicate file row)
+TellsFault first (UntimedEnd row) = first ≡ None
+TellsFault first (Failed file) = ⊤
+TellsFault first Memory = ⊤
+
+-- where there is a timetable no file has a fault, and the ids of stops and routes are those of their files
+abbrev pub TellsFiles : Sheets → Result Timetable TableFault → Type 0
+TellsFiles sheets (Ok table) =
+    (files_fault sheets ≡ None) × (table.stops ≡ ids_in sheets Stops) × (table.routes ≡ ids_in sheets Routes)
+TellsFiles sheets (Err fault) = TellsFault (files_fault sheets) fault

@@ -38,7 +38,7 @@ is_of service row = bytes_eq service (nth 0 row)
 
 -- a row of calendar_dates.txt is of that service and that day
 abbrev pub is_exception : List ℕ → ℤ → Row → Bool
-is_exception service day row = is_of service row && int_eq day (day_of_row row)
+is_exception service day row = is_of service row && int_eq (day_of_row row) day
 
 -- what the rows of calendar.txt say of a service, if they say anything
 abbrev pub calendar_in : List Row → List ℕ → Option Calendar

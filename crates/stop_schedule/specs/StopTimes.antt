@@ -1,5 +1,5 @@
 -- The stops of a trip (GTFS Schedule reference, stop_times.txt).
-use Rattle.std.specs.Prelude.{◌==◌, ◌+◌, ◌-◌, ◌*◌, ◌/◌, ℕ, Bool, nat_lt, min, List, [], ◌∷◌, ◌++◌, map, filter, take, drop, reverse, length, position, unwrap_or, Option, Some, None, if◌then◌else◌}
+use Rattle.std.specs.Prelude.{◌==◌, ◌+◌, ◌-◌, ◌*◌, ◌/◌, ℕ, Bool, nat_lt, min, List, [], ◌∷◌, ◌++◌, map, filter, take, drop, reverse, length, slice_get, position, unwrap_or, Option, Some, None, if◌then◌else◌}
 use Rattle.std.specs.List.{enumerate_from}
 use Rattle.std.specs.Str.{bytes_eq}
 use Rattle.stop_schedule.specs.Forms.{seconds, sequence}
@@ -54,13 +54,13 @@ is_of_trip trip numbered = bytes_eq trip (nth 0 numbered.1)
 abbrev pub stops_in : List (List ℕ) → List Row → List ℕ → List LoadedStop
 stops_in stops rows trip = in_sequence (map (loaded stops) (filter (is_of_trip trip) (enumerate_from 1 rows)))
 
--- the nearest stop with times from the front on: how many places away it is, from 1, and its times
+-- the nearest stop with times from the front on: how many stops stand before it, and its times
 abbrev pub one_further : Option (ℕ × (ℕ × ℕ)) → Option (ℕ × (ℕ × ℕ))
 one_further None = None
 one_further (Some found) = Some (found.0 + 1, found.1)
 
 abbrev pub or_further : Option (ℕ × ℕ) → Option (ℕ × (ℕ × ℕ)) → Option (ℕ × (ℕ × ℕ))
-or_further (Some times) later = Some (1, times)
+or_further (Some times) later = Some (0, times)
 or_further None later = one_further later
 
 abbrev pub nearest : List LoadedStop → Option (ℕ × (ℕ × ℕ))
@@ -72,7 +72,7 @@ abbrev pub time_between : Option (ℕ × (ℕ × ℕ)) → Option (ℕ × (ℕ �
 time_between None after = 0
 time_between (Some before) None = 0
 time_between (Some before) (Some after) =
-    before.1.1 + (after.1.0 - before.1.1) * before.0 / (before.0 + after.0)
+    before.1.1 + (after.1.0 - before.1.1) * (before.0 + 1) / (before.0 + after.0 + 2)
 
 -- the times of a stop at a place of its trip
 abbrev pub times_or : Option (ℕ × ℕ) → ℕ → ℕ × ℕ
@@ -109,13 +109,13 @@ abbrev pub untimed_row : Option (ℕ × ℕ) → ℕ → Option ℕ
 untimed_row None row = Some row
 untimed_row (Some times) row = None
 
-abbrev pub first_untimed : List LoadedStop → Option ℕ
-first_untimed [] = None
-first_untimed (stop ∷ stops) = untimed_row stop.times stop.row
+abbrev pub untimed : Option LoadedStop → Option ℕ
+untimed None = None
+untimed (Some stop) = untimed_row stop.times stop.row
 
 -- the least row of a trip's first or last stop that has no times
 abbrev pub untimed_end : List LoadedStop → Option ℕ
-untimed_end stops = lesser (first_untimed stops) (first_untimed (reverse stops))
+untimed_end stops = lesser (untimed (slice_get stops 0)) (untimed (slice_get stops (length stops - 1)))
 
 -- the least of such rows of some trips
 abbrev pub least : List (Option ℕ) → Option ℕ

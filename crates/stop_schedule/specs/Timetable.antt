@@ -61,17 +61,35 @@ abbrev pub untimed_in : Sheets → Option ℕ
 untimed_in sheets =
     least (map (λ trip. untimed_end (stops_in (ids_in sheets Stops) (rows_in (sheets StopTimes)) (nth 0 trip))) (trips_in sheets))
 
--- the first fault of a folder: files in their order, and untimed ends after all rows
-abbrev pub folder_fault : Sheets → Option TableFault
-folder_fault sheets =
+-- the first fault of the files that name zones, stops and routes
+abbrev pub names_fault : Sheets → Option TableFault
+names_fault sheets =
     option_or (needed_fault Agency zone_fault (sheets Agency))
     (option_or (needed_fault Stops (duplicate_fault Stops) (sheets Stops))
-    (option_or (needed_fault Routes (duplicate_fault Routes) (sheets Routes))
-    (option_or (needed_fault Trips (trip_fault (ids_in sheets Routes)) (sheets Trips))
-    (option_or (calendars_fault sheets)
-    (option_or (optional_fault Frequencies (frequency_fault (ids_in sheets Trips)) (sheets Frequencies))
-    (option_or (needed_fault StopTimes (stop_time_fault (ids_in sheets Trips) (ids_in sheets Stops)) (sheets StopTimes))
-    (option_map UntimedEnd (untimed_in sheets))))))))
+    (needed_fault Routes (duplicate_fault Routes) (sheets Routes)))
+
+-- of trips.txt and the calendar files, where these are the ids of the routes
+abbrev pub runs_fault : List (List ℕ) → Sheets → Option TableFault
+runs_fault routes sheets = option_or (needed_fault Trips (trip_fault routes) (sheets Trips)) (calendars_fault sheets)
+
+-- of frequencies.txt and stop_times.txt, where these are the ids of the trips and the stops
+abbrev pub stops_fault : List (List ℕ) → List (List ℕ) → Sheets → Option TableFault
+stops_fault trips stops sheets =
+    option_or (optional_fault Frequencies (frequency_fault trips) (sheets Frequencies))
+    (needed_fault StopTimes (stop_time_fault trips stops) (sheets StopTimes))
+
+-- of the files behind those of the names
+abbrev pub rest_fault : List (List ℕ) → List (List ℕ) → Sheets → Option TableFault
+rest_fault routes stops sheets = option_or (runs_fault routes sheets) (stops_fault (ids_in sheets Trips) stops sheets)
+
+-- the first fault of all files
+abbrev pub files_fault : Sheets → Option TableFault
+files_fault sheets =
+    option_or (names_fault sheets) (rest_fault (ids_in sheets Routes) (ids_in sheets Stops) sheets)
+
+-- the first fault of a folder: files in their order, and untimed ends after all rows
+abbrev pub folder_fault : Sheets → Option TableFault
+folder_fault sheets = option_or (files_fault sheets) (option_map UntimedEnd (untimed_in sheets))
 
 -- the route of a trip
 abbrev pub route_in : Option Row → List ℕ

@@ -26,7 +26,7 @@ impl<'a> TakesRows for FrequencyRows<'a> {
 
     ghost fault = { λ taker. frequency_fault taker.trips.now };
 
-    ghost Holds = { λ _ taker rows. taker.carried.items ≡ map (is_carried rows) taker.trips.now };
+    ghost Holds = { λ start taker rows. (taker.trips.now ≡ start.trips.now) × (taker.carried.items ≡ map (is_carried rows) taker.trips.now) };
 
     fn file(&self) -> TableFile {
         TableFile::Frequencies

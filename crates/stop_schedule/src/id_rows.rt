@@ -1,5 +1,6 @@
 //! The rows of `stops.txt` and `routes.txt`: ids that differ.
-ghost use Rattle.std.specs.Prelude.{◌≡◌};
+ghost use Rattle.std.specs.Prelude.{◌≡◌, true};
+ghost use Rattle.stop_schedule.specs.Layout.{lists_ids};
 
 use crate::ids::Ids;
 use crate::sheet::Sheet;
@@ -13,6 +14,7 @@ use std::alloc::Global;
 pub(crate) struct IdRows {
     pub(crate) file: TableFile,
     pub(crate) ids: Ids,
+    pub(crate) ghost lists_ids: { lists_ids file ≡ true },
 }
 
 impl TakesRows for IdRows {

@@ -1,5 +1,5 @@
 //! Ids, numbered from 0 in the order in which they came. The functions meet `specs/Ids.antt`.
-ghost use Rattle.std.specs.Prelude.{◌≡◌, ◌&&◌, ◌||◌, ◌+◌, ◌≤◌, ◌<◌, ◌++◌, ◌∷◌, [], not, Some, is_some, if◌then◌else◌, length, slice_get, position, true, IfOk, OnErr, IfSome, IsTrue};
+ghost use Rattle.std.specs.Prelude.{◌≡◌, ◌&&◌, ◌||◌, ◌+◌, ◌≤◌, ◌<◌, ◌++◌, ◌∷◌, [], not, Some, is_some, if◌then◌else◌, length, slice_get, position, true, IfOk, OnOk, OnErr, IfSome, IsTrue};
 ghost use Rattle.std.specs.Str.{bytes_eq, is_utf8};
 ghost use Rattle.stop_schedule.specs.Ids.{are_ids, has_id, has_id_len as has_len, is_id, with_id};
 ghost use Rattle.stop_schedule.specs.Sheet.{nth};
@@ -63,6 +63,7 @@ impl Ids {
     pub(crate) fn find(&self, id: &str) -> Option<u32>
         ensures place { result ≡ position (bytes_eq id.now) self.now }
         ensures found { is_some result ≡ has_id id.now self.now }
+        ensures ids { IsTrue (are_ids self.now) }
         ensures within { IfSome result (λ place. place < length self.now) }
     {
         match self.ids.get_index_of(id) {
@@ -108,6 +109,7 @@ impl Ids {
         requires { is_id id.now ≡ true }
         ensures ids { IfOk result (λ _. self.new ≡ with_id id.now self.old) }
         ensures number { IfOk result (λ number. slice_get self.new number ≡ Some id.now) }
+        ensures sound { OnOk result (IsTrue (are_ids self.new)) }
         ensures kept { OnErr result (self.new ≡ self.old) }
     {
         match self.find(id) {
@@ -115,6 +117,7 @@ impl Ids {
             None => {
                 let number = self.len() as u32;
                 self.add(alloc, id.as_bytes())?;
+                let _ = self.len();
                 Ok(number)
             }
         }
@@ -126,7 +129,9 @@ pub(crate) fn find_in(ids: &Ids, sheet: &Sheet<'_>, column: usize) -> Option<u32
     ensures place { is_utf8 (nth column sheet.now.row) ≡ true → result ≡ position (bytes_eq (nth column sheet.now.row)) ids.now }
     ensures found { is_utf8 (nth column sheet.now.row) ≡ true → is_some result ≡ has_id (nth column sheet.now.row) ids.now }
     ensures within { IfSome result (λ place. place < length ids.now) }
+    ensures ids { IsTrue (are_ids ids.now) }
 {
+    let _ = ids.len();
     match sheet.text(column) {
         Some(id) => ids.find(id),
         None => None,

@@ -2,10 +2,13 @@
 //! number.
 #![tactic(auto)]
 
+mod assembling;
+mod carried;
 mod checks;
 mod column;
 mod fields;
 mod folder;
+mod folder_rows;
 mod forms;
 mod frequency_rows;
 mod id_rows;
@@ -25,12 +28,11 @@ mod timetable;
 mod trip_rows;
 mod zone_rows;
 
+pub use assembling::read_timetable;
 pub use column::Column;
 pub use numbers::{RouteNo, StopNo, TripNo};
 pub use stop_times::StopRow;
 pub use table_fault::TableFault;
 pub use table_file::TableFile;
-pub use timetable::{Timetable, read_timetable};
+pub use timetable::Timetable;
 
-#[cfg(test)]
-mod tests;

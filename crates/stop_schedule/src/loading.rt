@@ -1,9 +1,12 @@
 //! The files of a folder, each with what is made of its rows. The functions meet `specs/Timetable.antt`.
-ghost use Rattle.std.specs.Prelude.{◌≡◌, [], ⊤, map, IfSome};
+ghost use Rattle.std.specs.Prelude.{◌≡◌, [], ⊤, true, map, is_some, IfOk, IfSome};
+ghost use Rattle.stop_schedule.specs.Layout.{lists_ids};
 ghost use Rattle.gw_base.specs.Count.{Counts};
 ghost use Rattle.stop_schedule.specs.Answers.{Finds, HasFailed};
-ghost use Rattle.stop_schedule.specs.Causes.{zone_fault, duplicate_fault, trip_fault, frequency_fault, stop_time_fault};
-ghost use Rattle.stop_schedule.specs.Holding.{HoldsTrips, HoldsServices, HoldsStops};
+ghost use Rattle.stop_schedule.specs.Causes.{zone_fault, duplicate_fault, trip_fault, calendar_fault, date_fault, frequency_fault, stop_time_fault};
+ghost use Rattle.stop_schedule.specs.Faults.{optional_fault};
+ghost use Rattle.stop_schedule.specs.Holding.{HoldsCalendars, HoldsDates, HoldsTrips, HoldsServices, HoldsStops, calendar_at, exception_at};
+ghost use Rattle.stop_schedule.specs.Services.{runs_by};
 ghost use Rattle.stop_schedule.specs.Reading.{ReadsNeeded, ReadsRows};
 ghost use Rattle.stop_schedule.specs.Timetable.{calendars_fault, sheets_in};
 ghost use Rattle.stop_schedule.specs.Sheet.{nth, rows_in};
@@ -22,7 +25,8 @@ use crate::taking::{TakesRows, read_rows};
 use crate::trip_rows::TripRows;
 use crate::zone_rows::ZoneRows;
 use gw_base::{Bytes, Files};
-use std::alloc::Global;
+use service_day::Day;
+use std::alloc::{AllocError, Global};
 use std::collections::HashMap;
 
 /// The trips of `trips.txt` with the numbers of their routes and services.
@@ -82,6 +86,7 @@ pub(crate) fn read_ids<F: Files>(
     buffer: &mut Bytes,
     file: TableFile,
 ) -> Result<Ids, TableFault>
+    requires { lists_ids file ≡ true }
     ensures exact { IfSome (F.told files.old) (λ told. ReadsNeeded file (duplicate_fault file) (λ ids rows. ids ≡ map (nth 0) rows) (sheets_in told dir.now) result) }
     ensures counts { Counts (HasFailed result) (F.faults files.old) (F.faults files.new) }
     ensures same { F.told files.new ≡ F.told files.old }
@@ -90,7 +95,9 @@ pub(crate) fn read_ids<F: Files>(
         file,
         ids: Ids::new(alloc),
     };
-    read_needed(alloc, files, dir, buffer, &mut rows)?;
+    if let Err(fault) = read_needed(alloc, files, dir, buffer, &mut rows) {
+        return Err(fault);
+    }
     let IdRows { file: _, ids } = rows;
     Ok(ids)
 }
@@ -115,7 +122,9 @@ pub(crate) fn read_trips<F: Files>(
         trip_routes: Vec::new(alloc),
         trip_services: Vec::new(alloc),
     };
-    read_needed(alloc, files, dir, buffer, &mut rows)?;
+    if let Err(fault) = read_needed(alloc, files, dir, buffer, &mut rows) {
+        return Err(fault);
+    }
     let TripRows {
         known_routes: _,
         services,
@@ -131,6 +140,54 @@ pub(crate) fn read_trips<F: Files>(
     Ok((trips, services))
 }
 
+// Reads `calendar.txt`, and answers whether it is there too, and the services with those that it names.
+fn read_calendars<F: Files>(
+    alloc: Global,
+    files: &mut F,
+    dir: &str,
+    buffer: &mut Bytes,
+    services: Ids,
+) -> Result<(bool, CalendarRows), TableFault>
+    ensures exact { IfSome (F.told files.old) (λ told. Finds (optional_fault File.Calendar calendar_fault (sheets_in told dir.now File.Calendar))
+        (λ found. (found.0 ≡ is_some (sheets_in told dir.now File.Calendar))
+        × HoldsCalendars services found.1.services found.1.calendars (rows_in (sheets_in told dir.now File.Calendar))) result) }
+    ensures counts { Counts (HasFailed result) (F.faults files.old) (F.faults files.new) }
+    ensures same { F.told files.new ≡ F.told files.old }
+{
+    let mut rows = CalendarRows {
+        services,
+        calendars: HashMap::new(alloc),
+    };
+    match read_rows(alloc, files, dir, buffer, &mut rows) {
+        Ok(there) => Ok((there, rows)),
+        Err(fault) => Err(fault),
+    }
+}
+
+// Reads `calendar_dates.txt`, and answers whether it is there too.
+fn read_dates<F: Files>(
+    alloc: Global,
+    files: &mut F,
+    dir: &str,
+    buffer: &mut Bytes,
+    services: Ids,
+) -> Result<(bool, DateRows), TableFault>
+    ensures exact { IfSome (F.told files.old) (λ told. Finds (optional_fault File.CalendarDates date_fault (sheets_in told dir.now File.CalendarDates))
+        (λ found. (found.0 ≡ is_some (sheets_in told dir.now File.CalendarDates))
+        × HoldsDates services found.1.services found.1.exceptions (rows_in (sheets_in told dir.now File.CalendarDates))) result) }
+    ensures counts { Counts (HasFailed result) (F.faults files.old) (F.faults files.new) }
+    ensures same { F.told files.new ≡ F.told files.old }
+{
+    let mut rows = DateRows {
+        services,
+        exceptions: HashMap::new(alloc),
+    };
+    match read_rows(alloc, files, dir, buffer, &mut rows) {
+        Ok(there) => Ok((there, rows)),
+        Err(fault) => Err(fault),
+    }
+}
+
 /// Reads `calendar.txt` and `calendar_dates.txt`, of which one has to be there.
 pub(crate) fn read_services<F: Files>(
     alloc: Global,
@@ -144,20 +201,12 @@ pub(crate) fn read_services<F: Files>(
     ensures counts { Counts (HasFailed result) (F.faults files.old) (F.faults files.new) }
     ensures same { F.told files.new ≡ F.told files.old }
 {
-    let mut rows = CalendarRows {
-        services,
-        calendars: HashMap::new(alloc),
-    };
-    let has_calendar = read_rows(alloc, files, dir, buffer, &mut rows)?;
+    let (has_calendar, rows) = read_calendars(alloc, files, dir, buffer, services)?;
     let CalendarRows {
         services,
         calendars,
     } = rows;
-    let mut rows = DateRows {
-        services,
-        exceptions: HashMap::new(alloc),
-    };
-    let has_dates = read_rows(alloc, files, dir, buffer, &mut rows)?;
+    let (has_dates, rows) = read_dates(alloc, files, dir, buffer, services)?;
     if !has_calendar && !has_dates {
         return Err(TableFault::Missing(TableFile::Calendar));
     }
@@ -169,6 +218,29 @@ pub(crate) fn read_services<F: Files>(
         calendars,
         exceptions,
     })
+}
+
+// All trips are carried.
+fn all_carried(alloc: Global, trips: &Ids) -> Result<Vec<bool>, AllocError>
+    ensures { IfOk result (λ carried. carried.items ≡ map (is_carried []) trips.now) }
+{
+    let mut carried = Vec::new(alloc);
+    for _ in 0..trips.len() {
+        carried.push(true)?;
+    }
+    Ok(carried)
+}
+
+// No trip has stops.
+fn no_stops(alloc: Global, trips: &Ids, stops: &Ids) -> Result<Vec<Vec<LoadedStop>>, AllocError>
+    ensures { IfOk result (λ by_trip. HoldsStops trips.now stops.now (map (λ held. held.items) by_trip.items) []) }
+{
+    let _ = stops;
+    let mut by_trip = Vec::new(alloc);
+    for _ in 0..trips.len() {
+        by_trip.push(Vec::new(alloc))?;
+    }
+    Ok(by_trip)
 }
 
 /// Reads `frequencies.txt`, and answers of each trip whether it is carried.
@@ -184,12 +256,11 @@ pub(crate) fn read_frequencies<F: Files>(
     ensures counts { Counts (HasFailed result) (F.faults files.old) (F.faults files.new) }
     ensures same { F.told files.new ≡ F.told files.old }
 {
-    let mut carried = Vec::new(alloc);
-    for _ in 0..trips.len() {
-        carried.push(true)?;
-    }
+    let carried = all_carried(alloc, trips)?;
     let mut rows = FrequencyRows { trips, carried };
-    read_rows(alloc, files, dir, buffer, &mut rows)?;
+    if let Err(fault) = read_rows(alloc, files, dir, buffer, &mut rows) {
+        return Err(fault);
+    }
     let FrequencyRows { trips: _, carried } = rows;
     Ok(carried)
 }
@@ -208,20 +279,34 @@ pub(crate) fn read_stop_times<F: Files>(
     ensures counts { Counts (HasFailed result) (F.faults files.old) (F.faults files.new) }
     ensures same { F.told files.new ≡ F.told files.old }
 {
-    let mut by_trip = Vec::new(alloc);
-    for _ in 0..trips.len() {
-        by_trip.push(Vec::new(alloc))?;
-    }
+    let by_trip = no_stops(alloc, trips, stops)?;
     let mut rows = StopTimeRows {
         trips,
         stops,
         by_trip,
     };
-    read_needed(alloc, files, dir, buffer, &mut rows)?;
+    if let Err(fault) = read_needed(alloc, files, dir, buffer, &mut rows) {
+        return Err(fault);
+    }
     let StopTimeRows {
         trips: _,
         stops: _,
         by_trip,
     } = rows;
     Ok(by_trip)
+}
+
+impl Services {
+    /// Whether a service runs on a day.
+    pub(crate) fn run(&self, service: u32, day: Day) -> bool
+        ensures { result ≡ runs_by (exception_at self.now.exceptions service day) (calendar_at self.now.calendars service) day }
+    {
+        if let Some(added) = self.exceptions.get(&(service, day.number())) {
+            return *added;
+        }
+        match self.calendars.get(&service) {
+            Some(calendar) => calendar.has_day(day),
+            None => false,
+        }
+    }
 }

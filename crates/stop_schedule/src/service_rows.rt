@@ -142,7 +142,9 @@ impl Calendar {
     pub(crate) fn has_day(&self, day: Day) -> bool
         ensures { result ≡ spec.has_day self.now day }
     {
-        let weekday = day.weekday() as usize;
-        self.start <= day && day <= self.end && self.weekdays.get(weekday).copied().unwrap_or(false)
+        match self.weekdays.as_slice().get(day.weekday() as usize) {
+            Some(runs) => self.start.number() <= day.number() && day.number() <= self.end.number() && *runs,
+            None => false,
+        }
     }
 }

@@ -6,7 +6,7 @@ ghost use Rattle.std.specs.Option.{MatchOption};
 ghost use Rattle.std.specs.Prelude.{true, false};
 ghost use Rattle.std.specs.Str.{is_utf8};
 ghost use Rattle.gw_base.specs.Answers.{UnlessFree};
-ghost use Rattle.stop_schedule.specs.Answers.{is_free};
+ghost use Rattle.stop_schedule.specs.Answers.{HasFailed, is_free};
 ghost use Rattle.stop_schedule.specs.Rows.{rows};
 ghost use Rattle.stop_schedule.specs.Sheet.{left_of, map_ok, nth, places_of, sheet_of};
 ghost use Rattle.stop_schedule.specs.Layout.{columns as columns_of};
@@ -38,7 +38,8 @@ impl<'a> Model for Sheet<'a> {
 
 // The places of a file's columns where the row at hand names the columns, or the first that it doesn't name.
 fn find_places(alloc: Global, rows: &Rows<'_>, file: TableFile) -> Result<Vec<usize>, TableFault>
-    ensures { UnlessFree is_free result (λ answer. map_ok (λ places. places.items) answer ≡ places_of file rows.now.row (columns_of file)) }
+    ensures no_failure { HasFailed result → ⊥ }
+    ensures exact { UnlessFree is_free result (λ answer. map_ok (λ places. places.items) answer ≡ places_of file rows.now.row (columns_of file)) }
 {
     let mut places = Vec::new(alloc);
     for (column, _) in columns(file) {
@@ -58,7 +59,8 @@ impl<'a> Sheet<'a> {
         bytes: &'a [u8],
         file: TableFile,
     ) -> Result<Sheet<'a>, TableFault>
-        ensures { UnlessFree is_free result (λ answer. sheet_of file (rows bytes.now) ≡ left_of answer) }
+        ensures exact { UnlessFree is_free result (λ answer. sheet_of file (rows bytes.now) ≡ left_of answer) }
+        ensures no_failure { HasFailed result → ⊥ }
     {
         let mut rows = Rows::open(alloc, bytes);
         rows.advance()?;

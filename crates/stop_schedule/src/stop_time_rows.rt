@@ -1,5 +1,5 @@
 //! The rows of `stop_times.txt`: the stops of each trip, in rising sequence.
-ghost use Rattle.std.specs.Prelude.{◌≡◌, IfErr};
+ghost use Rattle.std.specs.Prelude.{◌≡◌};
 ghost use Rattle.stop_schedule.specs.StopTimes as spec;
 
 use crate::column::Column;
@@ -46,7 +46,7 @@ impl<'a> TakesRows for StopTimeRows<'a> {
 
     ghost fault = { λ taker. stop_time_fault taker.trips.now taker.stops.now };
 
-    ghost Holds = { λ _ taker rows. HoldsStops taker.trips.now taker.stops.now (map (λ held. held.items) taker.by_trip.items) rows };
+    ghost Holds = { λ start taker rows. (taker.trips.now ≡ start.trips.now) × (taker.stops.now ≡ start.stops.now) × HoldsStops taker.trips.now taker.stops.now (map (λ held. held.items) taker.by_trip.items) rows };
 
     fn file(&self) -> TableFile {
         TableFile::StopTimes
@@ -54,17 +54,19 @@ impl<'a> TakesRows for StopTimeRows<'a> {
 
     fn take(&mut self, _alloc: Global, sheet: &Sheet<'_>, number: u64) -> Result<(), TableFault> {
         let Some(trip) = find_in(self.trips, sheet, 0) else {
-            return Err(unknown(number, Column::TripId));
+            return Err(TableFault::Unknown(TableFile::StopTimes, number, Column::TripId));
         };
-        let held = &mut self.by_trip[trip as usize];
+        let Some(held) = self.by_trip.get_mut(trip as usize) else {
+            return Err(TableFault::Unknown(TableFile::StopTimes, number, Column::TripId));
+        };
         if held.len() >= MAX_STOPS {
             return Err(TableFault::Limit(TableFile::StopTimes, number));
         }
         let Some(stop) = find_in(self.stops, sheet, 2) else {
-            return Err(unknown(number, Column::StopId));
+            return Err(TableFault::Unknown(TableFile::StopTimes, number, Column::StopId));
         };
         let Some(sequence) = sequence(sheet.field(1)) else {
-            return Err(unknown(number, Column::StopSequence));
+            return Err(TableFault::Unknown(TableFile::StopTimes, number, Column::StopSequence));
         };
         let Some(place) = place_of(held.as_slice(), sequence) else {
             return Err(TableFault::Duplicate(TableFile::StopTimes, number));
@@ -80,11 +82,4 @@ impl<'a> TakesRows for StopTimeRows<'a> {
             Err(_) => Err(TableFault::Memory),
         }
     }
-}
-
-// The id of a column isn't in its file.
-fn unknown(number: u64, column: Column) -> TableFault
-    ensures { result ≡ TableFault.Unknown TableFile.StopTimes number column }
-{
-    TableFault::Unknown(TableFile::StopTimes, number, column)
 }

@@ -5,8 +5,9 @@ ghost use Rattle.gw_base.specs.Answers.{UnlessFree};
 ghost use Rattle.gw_base.specs.Count.{Counts};
 ghost use Rattle.gw_base.specs.Directory.{bytes_of};
 ghost use Rattle.stop_schedule.specs.Answers.{Finds, HasFailed, is_free};
-ghost use Rattle.stop_schedule.specs.Faults.{Fits, first_fault, row_fault as fault_of_row};
-ghost use Rattle.stop_schedule.specs.Sheet.{Row};
+ghost use Rattle.stop_schedule.specs.Faults.{Fits, fault_in, first_fault, row_fault as fault_of_row};
+ghost use Rattle.stop_schedule.specs.Rows.{rows};
+ghost use Rattle.stop_schedule.specs.Sheet.{Row, rows_in, sheet_of};
 ghost use Rattle.stop_schedule.specs.Reading.{FindsFile};
 ghost use Rattle.stop_schedule.specs.Timetable.{sheets_in};
 
@@ -40,8 +41,8 @@ pub(crate) trait TakesRows {
 
     /// Takes the row at hand, which is the data row of that number, or tells its fault.
     fn take(&mut self, alloc: Global, sheet: &Sheet<'_>, number: u64) -> Result<(), TableFault>
+        requires { Fits (file_of self.old) number sheet.now.row }
         ensures takes { (start : Self) (before : List Row) → Holds start self.old before → number ≡ length before + 1
-            → Fits (file_of self.old) number sheet.now.row
             → Finds (fault self.old before sheet.now.row) (λ _. Holds start self.new (before ++ sheet.now.row ∷ [])) result }
         ensures same_fault { fault self.new ≡ fault self.old }
         ensures same_file { file_of self.new ≡ file_of self.old }
@@ -74,6 +75,23 @@ fn take_rows<T: TakesRows>(
     Ok(())
 }
 
+// Takes all rows by the bytes of a file, up to its first fault.
+fn take_bytes<T: TakesRows>(
+    alloc: Global,
+    bytes: &[u8],
+    taker: &mut T,
+) -> Result<(), TableFault>
+    ensures takes { T.Holds taker.old taker.old []
+        → Finds (fault_in (T.file_of taker.old) (T.fault taker.old) (sheet_of (T.file_of taker.old) (rows bytes.now)))
+        (λ _. T.Holds taker.old taker.new (rows_in (Some (sheet_of (T.file_of taker.old) (rows bytes.now))))) result }
+    ensures same_fault { T.fault taker.new ≡ T.fault taker.old }
+    ensures same_file { T.file_of taker.new ≡ T.file_of taker.old }
+    ensures no_failure { HasFailed result → ⊥ }
+{
+    let mut sheet = Sheet::open(alloc, bytes, taker.file())?;
+    take_rows(alloc, &mut sheet, taker)
+}
+
 /// Reads the rows of a file of a folder into the taker, and says whether there is the file.
 pub(crate) fn read_rows<F: Files, T: TakesRows>(
     alloc: Global,
@@ -93,7 +111,8 @@ pub(crate) fn read_rows<F: Files, T: TakesRows>(
     if !read_file(alloc, files, dir, file, buffer)? {
         return Ok(false);
     }
-    let mut sheet = Sheet::open(alloc, buffer.as_slice(), file)?;
-    take_rows(alloc, &mut sheet, taker)?;
-    Ok(true)
+    match take_bytes(alloc, buffer.as_slice(), taker) {
+        Ok(()) => Ok(true),
+        Err(fault) => Err(fault),
+    }
 }

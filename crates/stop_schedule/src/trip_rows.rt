@@ -29,7 +29,7 @@ impl<'a> TakesRows for TripRows<'a> {
 
     ghost fault = { λ taker. trip_fault taker.known_routes.now };
 
-    ghost Holds = { λ _ taker rows. HoldsTrips taker.known_routes.now taker.services taker.trips taker.trip_routes.items taker.trip_services.items rows };
+    ghost Holds = { λ start taker rows. (taker.known_routes.now ≡ start.known_routes.now) × HoldsTrips taker.known_routes.now taker.services taker.trips taker.trip_routes.items taker.trip_services.items rows };
 
     fn file(&self) -> TableFile {
         TableFile::Trips

@@ -22,8 +22,7 @@ loop-number-preserved g c =
     let within : number + 1 ≤ row_limit file = fits.counted in
     let counted : number + 1 ≡ length (inv.0 ++ row ∷ []) = rw (length-append inv.0 (row ∷ []), ← inv.1.number) refl in
     let fault_is = inv.1.same_fault in
-    let taker_file_is = inv.1.same_file in
-    let takes = rw (taker_file_is, fault_is) at (c.in_default-take.ensures.takes start inv.0) in
+    let takes = rw fault_is at (c.in_default-take.ensures.takes start inv.0) in
     (inv.0 ++ row ∷ [], record {
       number = counted;
       few = omega (arith, few, within);
@@ -45,7 +44,13 @@ returns-in-Err-clause-takes g c = λ holds.
     let file_is : c.file.result ≡ file = c.file.ensures ∙ inv.1.same_file in
     let none : common_fault file (number + 1) row ≡ None = rw (← file_is) (sym c.in_default.ensures) in
     let fault_is = inv.1.same_fault in
-    let taker_file_is = inv.1.same_file in
-    let takes = rw (taker_file_is, fault_is) at (c.in-Err.ensures.takes start inv.0) in
+    let takes = rw fault_is at (c.in-Err.ensures.takes start inv.0) in
     refused g.T.TakesRows.Holds file (g.T.TakesRows.fault start) start c.loop-number.taker c.take.new.self c.args.sheet.now.left inv.0
     c.loop-number.sheet.left left row number c.in-Err.fault (inv.1.so_far holds) is inv.1.number none takes
+
+pub take-requires : goal.take-requires
+take-requires g c =
+    let number = c.loop-number.number in
+    let file = g.T.TakesRows.file_of c.loop-number.taker in
+    let none : common_fault file (number + 1) c.advance.new.self.row ≡ None = rw (← c.file.ensures) (sym c.in_default.ensures) in
+    fits-from file (number + 1) c.advance.new.self.row none

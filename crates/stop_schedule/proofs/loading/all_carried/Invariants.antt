@@ -1,0 +1,6 @@
+use Rattle.std.proofs.Common.{◌≡◌, [], map, replicate, true}
+use Rattle.stop_schedule.proofs.StopStep.{items_of}
+use Rattle.stop_schedule.proofs.loading.all_carried.Given as goal
+
+abbrev pub invariant-loop : goal.invariant-loop
+invariant-loop l = l.carried.items ≡ replicate l.counter true

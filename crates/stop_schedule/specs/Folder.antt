@@ -1,0 +1,22 @@
+-- What is held of the rows of all files.
+use Rattle.std.specs.Prelude.{◌≡◌, ℕ, Bool, List, map}
+use Rattle.stop_schedule.specs.Holding.{Calendars, Exceptions, HoldsServices, HoldsStops, HoldsTrips}
+use Rattle.stop_schedule.specs.Sheet.{rows_in}
+use Rattle.stop_schedule.specs.Timetable.{Sheets, ids_in}
+use Rattle.stop_schedule.specs.Trips.{is_carried}
+use Rattle.stop_schedule.specs.declared.folder_rows.FolderRows.{FolderRows}
+use Rattle.stop_schedule.specs.declared.table_file.TableFile.TheVariants.{Stops, Routes, Trips, Calendar, CalendarDates, Frequencies, StopTimes}
+
+-- the trips, and the calendars and exceptions of their services
+abbrev pub HoldsRuns : List (List ℕ) → List (List ℕ) → List ℕ → List ℕ → Calendars → Exceptions → Sheets → Type 0
+HoldsRuns routes trips trip_routes trip_services calendars exceptions sheets =
+    (services : List (List ℕ)) × HoldsTrips routes services trips trip_routes trip_services (rows_in (sheets Trips))
+    × HoldsServices services calendars exceptions (rows_in (sheets Calendar)) (rows_in (sheets CalendarDates))
+
+-- all that is made of the rows, by the ids of stops and routes
+pub record HoldsRest (stops routes : List (List ℕ)) (folder : FolderRows) (sheets : Sheets) : Type 0 where
+  pub stops_are : folder.stops ≡ stops
+  pub routes_are : folder.routes ≡ routes
+  pub runs : HoldsRuns routes folder.trips.ids folder.trips.routes.items folder.trips.services.items folder.services.calendars folder.services.exceptions sheets
+  pub carried : folder.carried.items ≡ map (is_carried (rows_in (sheets Frequencies))) folder.trips.ids
+  pub by_trip : HoldsStops folder.trips.ids stops (map (λ held. held.items) folder.by_trip.items) (rows_in (sheets StopTimes))

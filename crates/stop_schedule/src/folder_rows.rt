@@ -1,0 +1,137 @@
+//! All files of a folder, read in their order. The functions meet `specs/Timetable.antt`.
+ghost use Rattle.std.specs.Prelude.{◌≡◌, map, IfSome};
+ghost use Rattle.gw_base.specs.Count.{Counts};
+ghost use Rattle.stop_schedule.specs.Answers.{Finds, HasFailed};
+ghost use Rattle.stop_schedule.specs.Folder.{HoldsRest, HoldsRuns};
+ghost use Rattle.stop_schedule.specs.Holding.{HoldsStops};
+ghost use Rattle.stop_schedule.specs.Sheet.{rows_in};
+ghost use Rattle.stop_schedule.specs.Trips.{is_carried};
+ghost use Rattle.stop_schedule.specs.Timetable.{files_fault, ids_in, rest_fault, runs_fault, stops_fault, names_fault, sheets_in};
+ghost use Rattle.stop_schedule.specs.declared.table_file.TableFile.TheVariants as File;
+
+use crate::ids::Ids;
+use crate::loading::{
+    Services, Trips, read_frequencies, read_ids, read_services, read_stop_times, read_trips, read_zones,
+};
+use crate::stop_times::LoadedStop;
+use crate::table_fault::TableFault;
+use crate::table_file::TableFile;
+use gw_base::{Bytes, Files, List};
+use std::alloc::Global;
+
+/// What is made of the rows of a folder's files.
+#[derive(Drop)]
+pub(crate) struct FolderRows {
+    pub(crate) stops: Ids,
+    pub(crate) routes: Ids,
+    pub(crate) trips: Trips,
+    pub(crate) services: Services,
+    pub(crate) carried: Vec<bool>,
+    pub(crate) by_trip: Vec<Vec<LoadedStop>>,
+}
+
+// Reads `agency.txt`, `stops.txt` and `routes.txt`, and answers the ids of the stops and the routes.
+fn read_names<F: Files>(
+    alloc: Global,
+    files: &mut F,
+    dir: &str,
+    buffer: &mut Bytes,
+) -> Result<(Ids, Ids), TableFault>
+    ensures exact { IfSome (F.told files.old) (λ told. Finds (names_fault (sheets_in told dir.now))
+        (λ names. (names.0 ≡ ids_in (sheets_in told dir.now) File.Stops) × (names.1 ≡ ids_in (sheets_in told dir.now) File.Routes)) result) }
+    ensures counts { Counts (HasFailed result) (F.faults files.old) (F.faults files.new) }
+    ensures same { F.told files.new ≡ F.told files.old }
+{
+    read_zones(alloc, files, dir, buffer)?;
+    let stops = read_ids(alloc, files, dir, buffer, TableFile::Stops)?;
+    let routes = read_ids(alloc, files, dir, buffer, TableFile::Routes)?;
+    Ok((stops, routes))
+}
+
+// Reads `trips.txt` and the calendar files.
+fn read_runs<F: Files>(
+    alloc: Global,
+    files: &mut F,
+    dir: &str,
+    buffer: &mut Bytes,
+    routes: &Ids,
+) -> Result<(Trips, Services), TableFault>
+    ensures exact { IfSome (F.told files.old) (λ told. Finds (runs_fault routes.now (sheets_in told dir.now))
+        (λ found. HoldsRuns routes.now found.0.ids found.0.routes.items found.0.services.items found.1.calendars found.1.exceptions (sheets_in told dir.now)) result) }
+    ensures counts { Counts (HasFailed result) (F.faults files.old) (F.faults files.new) }
+    ensures same { F.told files.new ≡ F.told files.old }
+{
+    let (trips, services) = read_trips(alloc, files, dir, buffer, routes)?;
+    let services = read_services(alloc, files, dir, buffer, services)?;
+    Ok((trips, services))
+}
+
+// Reads `frequencies.txt` and `stop_times.txt`.
+fn read_stops<F: Files>(
+    alloc: Global,
+    files: &mut F,
+    dir: &str,
+    buffer: &mut Bytes,
+    trips: &Ids,
+    stops: &Ids,
+) -> Result<(Vec<bool>, Vec<Vec<LoadedStop>>), TableFault>
+    ensures exact { IfSome (F.told files.old) (λ told. Finds (stops_fault trips.now stops.now (sheets_in told dir.now))
+        (λ found. (found.0.items ≡ map (is_carried (rows_in (sheets_in told dir.now File.Frequencies))) trips.now)
+        × HoldsStops trips.now stops.now (map (λ held. held.items) found.1.items) (rows_in (sheets_in told dir.now File.StopTimes))) result) }
+    ensures counts { Counts (HasFailed result) (F.faults files.old) (F.faults files.new) }
+    ensures same { F.told files.new ≡ F.told files.old }
+{
+    let carried = read_frequencies(alloc, files, dir, buffer, trips)?;
+    let by_trip = read_stop_times(alloc, files, dir, buffer, trips, stops)?;
+    Ok((carried, by_trip))
+}
+
+// Reads the files behind those of the names.
+fn read_rest<F: Files>(
+    alloc: Global,
+    files: &mut F,
+    dir: &str,
+    buffer: &mut Bytes,
+    stops: Ids,
+    routes: Ids,
+) -> Result<FolderRows, TableFault>
+    ensures exact { IfSome (F.told files.old) (λ told. Finds (rest_fault routes stops (sheets_in told dir.now))
+        (λ folder. HoldsRest stops routes folder (sheets_in told dir.now)) result) }
+    ensures counts { Counts (HasFailed result) (F.faults files.old) (F.faults files.new) }
+    ensures same { F.told files.new ≡ F.told files.old }
+{
+    let (trips, services) = match read_runs(alloc, files, dir, buffer, &routes) {
+        Ok(found) => found,
+        Err(fault) => return Err(fault),
+    };
+    match read_stops(alloc, files, dir, buffer, &trips.ids, &stops) {
+        Ok((carried, by_trip)) => Ok(FolderRows {
+            stops,
+            routes,
+            trips,
+            services,
+            carried,
+            by_trip,
+        }),
+        Err(fault) => Err(fault),
+    }
+}
+
+/// Reads all files of a folder, each into the same buffer.
+pub(crate) fn read_folder<F: Files>(
+    alloc: Global,
+    files: &mut F,
+    dir: &str,
+) -> Result<FolderRows, TableFault>
+    ensures exact { IfSome (F.told files.old) (λ told. Finds (files_fault (sheets_in told dir.now))
+        (λ folder. HoldsRest (ids_in (sheets_in told dir.now) File.Stops) (ids_in (sheets_in told dir.now) File.Routes) folder (sheets_in told dir.now)) result) }
+    ensures counts { Counts (HasFailed result) (F.faults files.old) (F.faults files.new) }
+    ensures same { F.told files.new ≡ F.told files.old }
+{
+    let mut buffer = List::new(alloc);
+    let (stops, routes) = match read_names(alloc, files, dir, &mut buffer) {
+        Ok(names) => names,
+        Err(fault) => return Err(fault),
+    };
+    read_rest(alloc, files, dir, &mut buffer, stops, routes)
+}
