@@ -1,11 +1,8 @@
 -- What is written means what it was written from.
-use Rattle.std.proofs.Common.{◌≡◌, ℕ, ℤ, pos, inl, inr, ◌+◌, ◌^◌, ◌<◌, ◌≤◌, List, [], ◌∷◌, ◌++◌, length, refl, ap, ◌∙◌, arith, length-append}
-use Rattle.std.proofs.lemmas.Bool.{cases_lt}
-use Rattle.std.proofs.lemmas.List.{append-nil, get_or_past}
+use Rattle.std.proofs.Common.{◌≡◌, ℕ, ℤ, pos, ◌+◌, ◌^◌, ◌<◌, ◌≤◌, List, [], ◌∷◌, ◌++◌, length, refl, ap, ◌∙◌, arith, length-append}
+use Rattle.std.proofs.lemmas.List.{append-nil}
 use Rattle.std.proofs.lemmas.List.Elements.{filter_map-append}
-use Rattle.std.proofs.lemmas.Str.{IsUtf8-append, IsUtf8-from_ascii}
-use Rattle.std.specs.Prelude.{Some, All, codes, IsUtf8, unsigned_abs}
-use Rattle.std.specs.Char.{IsAsciiDigit}
+use Rattle.std.specs.Prelude.{Some, codes, IsUtf8, unsigned_abs}
 use Rattle.std.specs.List.{AllZip}
 use Rattle.gw_base.specs.declared.messages.Entity.{Entity}
 use Rattle.gw_base.specs.declared.messages.Feed.{Feed}
@@ -15,9 +12,8 @@ use Rattle.wire_fields.proofs.Lists.{Concatenates-append, Concatenates-one, Conc
 use Rattle.wire_fields.proofs.Varints.{length-varint_10}
 use Rattle.wire_fields.proofs.Written.{varint_field_written, bytes_field_written}
 use Rattle.feed_messages.specs.Meaning.{bodies, Means}
-use Rattle.feed_messages.specs.Tables.{OfTripDescriptor, OfTripUpdate, OfFeedEntity, OfFeedHeader, MeansFeed, MeansEntity, full_dataset}
-use Rattle.feed_messages.specs.Written.{trip_descriptor, trip_update, feed_entity, written, feed_header, header}
-use Rattle.feed_messages.proofs.FieldLengths.{length-bytes_field, length-varint_field}
+use Rattle.feed_messages.specs.Tables.{OfFeedEntity, OfFeedHeader, MeansFeed, MeansEntity, full_dataset}
+use Rattle.feed_messages.specs.Written.{feed_header, header}
 use Rattle.feed_messages.proofs.HeaderLemmas.{fields as header_front, feed_header-is}
 
 -- a field of a number, and of bytes

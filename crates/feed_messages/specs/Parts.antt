@@ -2,18 +2,18 @@
 -- it is read by its type.
 use Rattle.std.specs.Prelude.{List}
 use Rattle.wire_fields.specs.Grammar.{WireField}
-use Rattle.feed_messages.specs.declared.quick.tables.AlertParts.{AlertParts}
-use Rattle.feed_messages.specs.declared.quick.tables.EntityParts.{EntityParts}
-use Rattle.feed_messages.specs.declared.quick.tables.EventParts.{EventParts}
-use Rattle.feed_messages.specs.declared.quick.tables.FeedParts.{FeedParts}
-use Rattle.feed_messages.specs.declared.quick.tables.HeaderParts.{HeaderParts}
-use Rattle.feed_messages.specs.declared.quick.tables.PeriodParts.{PeriodParts}
-use Rattle.feed_messages.specs.declared.quick.tables.SelectorParts.{SelectorParts}
-use Rattle.feed_messages.specs.declared.quick.tables.StopParts.{StopParts}
-use Rattle.feed_messages.specs.declared.quick.tables.StringParts.{StringParts}
-use Rattle.feed_messages.specs.declared.quick.tables.TranslationParts.{TranslationParts}
-use Rattle.feed_messages.specs.declared.quick.tables.TripParts.{TripParts}
-use Rattle.feed_messages.specs.declared.quick.tables.UpdateParts.{UpdateParts}
+use Rattle.feed_messages.specs.declared.quick.alerts.AlertParts.{AlertParts}
+use Rattle.feed_messages.specs.declared.quick.feeds.EntityParts.{EntityParts}
+use Rattle.feed_messages.specs.declared.quick.trips.EventParts.{EventParts}
+use Rattle.feed_messages.specs.declared.quick.feeds.FeedParts.{FeedParts}
+use Rattle.feed_messages.specs.declared.quick.feeds.HeaderParts.{HeaderParts}
+use Rattle.feed_messages.specs.declared.quick.alerts.PeriodParts.{PeriodParts}
+use Rattle.feed_messages.specs.declared.quick.alerts.SelectorParts.{SelectorParts}
+use Rattle.feed_messages.specs.declared.quick.trips.StopParts.{StopParts}
+use Rattle.feed_messages.specs.declared.quick.alerts.StringParts.{StringParts}
+use Rattle.feed_messages.specs.declared.quick.alerts.TranslationParts.{TranslationParts}
+use Rattle.feed_messages.specs.declared.quick.trips.TripParts.{TripParts}
+use Rattle.feed_messages.specs.declared.quick.trips.UpdateParts.{UpdateParts}
 use Rattle.feed_messages.specs.Meaning.{IsUint64, IsText, AreMessages}
 use Rattle.feed_messages.specs.Tables.{OfStopTimeUpdate, OfTimeRange, OfEntitySelector, OfTranslation}
 use Rattle.feed_messages.specs.Partly.{seen, IsFound, AreShortEntities}

@@ -3,16 +3,18 @@
 ghost use Rattle.std.specs.Prelude.{IfOk};
 ghost use Rattle.feed_messages.specs.Partly.{MeansShortFeed};
 
+mod alerts;
+mod feeds;
 mod fields;
 mod found;
 mod nested;
-mod tables;
+mod trips;
 
 use crate::plain_fault::PlainFault;
+use feeds::FeedParts;
 use gw_base::Feed;
 use nested::read_parts;
 use std::alloc::Global;
-use tables::FeedParts;
 
 // The feed that the bytes mean, if no entity is too long. Where it answers `Meaningless`, the bytes have a fault.
 pub fn quick_feed(alloc: Global, bytes: &[u8]) -> Result<Feed, PlainFault>

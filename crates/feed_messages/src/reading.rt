@@ -1,6 +1,7 @@
 //! Feeds are read: what they mean, or the one fault that they have.
 ghost use Rattle.std.specs.Prelude.{◌≡◌, IfOk, IfErr};
 ghost use Rattle.feed_messages.specs.declared.fault.FeedFault.{FeedFault};
+ghost use Rattle.gw_base.specs.declared.messages.Feed.{Feed};
 ghost use Rattle.feed_messages.specs.Tables.{MeansFeed};
 ghost use Rattle.feed_messages.specs.Faults.{HasFault, IsTold};
 
@@ -34,6 +35,7 @@ fn checked_feed(alloc: Global, bytes: &[u8]) -> Result<Feed, FeedFault>
 pub fn read_feed(alloc: Global, bytes: &[u8]) -> Result<Feed, FeedFault>
     ensures means { IfOk result (λ feed. MeansFeed bytes.now feed) }
     ensures no_fault { IfOk result (λ _. (fault : FeedFault) → ¬ HasFault bytes.now fault) }
+    ensures only { (other : Feed) → MeansFeed bytes.now other → IfOk result (λ feed. feed ≡ other) }
     ensures fault { IfErr result (λ fault. IsTold bytes.now fault) }
 {
     match quick_feed(alloc, bytes) {

@@ -1,5 +1,5 @@
 //! One field more: what the last number and the last text of a field number are behind it.
-ghost use Rattle.std.specs.Prelude.{◌≡◌, ◌==◌, ◌%◌, ◌^◌, ℕ, List, option_map, unwrap_or, not, false, IfOk};
+ghost use Rattle.std.specs.Prelude.{◌≡◌, ◌==◌, ◌%◌, ◌^◌, ℕ, List, option_map, unwrap_or, not, false, Some, IfOk};
 ghost use Rattle.std.specs.Int.{w32, w64, cast_signed};
 ghost use Rattle.wire_fields.specs.Seen.{field_of};
 ghost use Rattle.feed_messages.specs.Meaning.{IsUint64, IsText};
@@ -7,6 +7,8 @@ ghost use Rattle.feed_messages.specs.Partly.{Goes, seen};
 
 use crate::plain::kinds::{body_in, number_in};
 use crate::plain_fault::PlainFault;
+use gw_base::Text;
+use std::alloc::Global;
 use wire_fields::Field;
 
 // How many numbers a word of 32 bits has.
@@ -84,5 +86,15 @@ pub fn as_bool(value: Option<u64>) -> bool
     match value {
         Some(value) => value != 0,
         None => false,
+    }
+}
+
+// A text that has to be there.
+pub fn required_text(alloc: Global, text: Option<&str>) -> Result<Text, PlainFault>
+    ensures { IfOk result (λ copy. Some copy ≡ option_map (λ t. t.now) text.entry) }
+{
+    match text {
+        Some(text) => Ok(Text::copied(alloc, text)?),
+        None => Err(PlainFault::Meaningless),
     }
 }

@@ -1,5 +1,5 @@
 -- Each part goes on by one field.
-use Rattle.feed_messages.proofs.quick.tables.SelectorPartsParts.take.Goals as goal
+use Rattle.feed_messages.proofs.quick.alerts.SelectorPartsParts.take.Goals as goal
 
 pub returns : goal.returns
 returns c = λ fields known. record {

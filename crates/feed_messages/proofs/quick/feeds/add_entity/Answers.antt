@@ -2,7 +2,7 @@
 use Rattle.std.proofs.Common.{sym, ◌≤◌, length, arith}
 use Rattle.wire_fields.specs.Seen.{field_of}
 use Rattle.feed_messages.proofs.OneMore.{short_new, short_same}
-use Rattle.feed_messages.proofs.quick.tables.add_entity.Goals as goal
+use Rattle.feed_messages.proofs.quick.feeds.add_entity.Goals as goal
 
 pub returns-in_ok-push-in-Some : goal.returns-in_ok-push-in-Some
 returns-in_ok-push-in-Some c = λ fields known.

@@ -1,5 +1,5 @@
 -- Each part goes on by one field.
-use Rattle.feed_messages.proofs.quick.tables.FeedPartsParts.take.Goals as goal
+use Rattle.feed_messages.proofs.quick.feeds.FeedPartsParts.take.Goals as goal
 
 pub returns : goal.returns
 returns c = λ fields known. record {

@@ -1,0 +1,175 @@
+//! A feed with its header and entities, each by its table of `specs/Tables.antt`.
+ghost use Rattle.std.specs.Prelude.{OnOk};
+ghost use Rattle.wire_fields.specs.Seen.{field_of};
+ghost use Rattle.feed_messages.specs.Tables.{OfFeedEntity, OfFeedHeader};
+ghost use Rattle.feed_messages.specs.Partly.{Goes, OfShortFeed, AreShortEntities};
+ghost use Rattle.feed_messages.specs.Parts.{AfterEntity, AfterHeader, AfterFeed};
+
+use crate::finder::lengths::LIMIT;
+use crate::plain::kinds::body_in;
+use crate::plain::tables::Header;
+use crate::plain_fault::PlainFault;
+use crate::quick::fields::{as_bool, as_enum, number_after, required_text, text_after};
+use crate::quick::found::{Found, add_body};
+use crate::quick::nested::{Parts, QuickMessage, read_found, read_parts, read_required};
+use gw_base::{Entity, Feed, List};
+use std::alloc::Global;
+use wire_fields::Field;
+
+#[derive(Drop)]
+pub struct EntityParts<'a> {
+    id: Option<&'a str>,
+    deleted: Option<u64>,
+    trip_update: Found<'a>,
+    alert: Found<'a>,
+}
+
+impl<'a> Parts<'a> for EntityParts<'a> {
+    type Whole = Entity;
+
+    ghost after = { AfterEntity };
+
+    ghost table = { OfFeedEntity };
+
+    fn start(_alloc: Global) -> EntityParts<'a> {
+        EntityParts {
+            id: None,
+            deleted: None,
+            trip_update: Found::Nothing,
+            alert: Found::Nothing,
+        }
+    }
+
+    fn take(&mut self, alloc: Global, field: &Field<'a>) -> Result<(), PlainFault> {
+        self.id = text_after(1, field, self.id)?;
+        self.deleted = number_after(2, field, self.deleted);
+        add_body(alloc, 3, field, &mut self.trip_update)?;
+        add_body(alloc, 5, field, &mut self.alert)?;
+        Ok(())
+    }
+
+    fn finish(self, alloc: Global) -> Result<Entity, PlainFault> {
+        Ok(Entity {
+            id: required_text(alloc, self.id)?,
+            deleted: as_bool(self.deleted),
+            trip_update: read_found(alloc, &self.trip_update)?,
+            alert: read_found(alloc, &self.alert)?,
+        })
+    }
+}
+
+impl QuickMessage for Entity {
+    ghost table = { OfFeedEntity };
+
+    fn read(alloc: Global, bytes: &[u8]) -> Result<Entity, PlainFault> {
+        read_parts::<EntityParts<'_>>(alloc, bytes)
+    }
+}
+
+#[derive(Drop)]
+pub struct HeaderParts<'a> {
+    version: Option<&'a str>,
+    incrementality: Option<u64>,
+    timestamp: Option<u64>,
+}
+
+impl<'a> Parts<'a> for HeaderParts<'a> {
+    type Whole = Header;
+
+    ghost after = { AfterHeader };
+
+    ghost table = { λ fields m. OfFeedHeader fields (record { version = m.version; incrementality = m.incrementality; timestamp = m.timestamp }) };
+
+    fn start(_alloc: Global) -> HeaderParts<'a> {
+        HeaderParts {
+            version: None,
+            incrementality: None,
+            timestamp: None,
+        }
+    }
+
+    fn take(&mut self, _alloc: Global, field: &Field<'a>) -> Result<(), PlainFault> {
+        self.version = text_after(1, field, self.version)?;
+        self.incrementality = number_after(2, field, self.incrementality);
+        self.timestamp = number_after(3, field, self.timestamp);
+        Ok(())
+    }
+
+    fn finish(self, alloc: Global) -> Result<Header, PlainFault> {
+        Ok(Header {
+            version: required_text(alloc, self.version)?,
+            incrementality: as_enum(self.incrementality, 0),
+            timestamp: self.timestamp,
+        })
+    }
+}
+
+impl QuickMessage for Header {
+    ghost table = { λ fields m. OfFeedHeader fields (record { version = m.version; incrementality = m.incrementality; timestamp = m.timestamp }) };
+
+    fn read(alloc: Global, bytes: &[u8]) -> Result<Header, PlainFault> {
+        read_parts::<HeaderParts<'_>>(alloc, bytes)
+    }
+}
+
+// Adds the entity that a field is, if it is one. It may not be too long.
+fn add_entity(
+    alloc: Global,
+    field: &Field<'_>,
+    entities: &mut List<Entity>,
+) -> Result<(), PlainFault>
+    ensures { OnOk result (Goes AreShortEntities (field_of field.now) entities.old entities.new) }
+{
+    match body_in(field, 2) {
+        Some(body) => {
+            if body.len() as u64 > LIMIT {
+                return Err(PlainFault::Meaningless);
+            }
+            let entity = Entity::read(alloc, body)?;
+            entities.push(entity)?;
+            Ok(())
+        }
+        None => Ok(()),
+    }
+}
+
+#[derive(Drop)]
+pub struct FeedParts<'a> {
+    header: Found<'a>,
+    entities: List<Entity>,
+}
+
+impl<'a> Parts<'a> for FeedParts<'a> {
+    type Whole = Feed;
+
+    ghost after = { AfterFeed };
+
+    ghost table = { OfShortFeed };
+
+    fn start(alloc: Global) -> FeedParts<'a> {
+        FeedParts {
+            header: Found::Nothing,
+            entities: List::new(alloc),
+        }
+    }
+
+    fn take(&mut self, alloc: Global, field: &Field<'a>) -> Result<(), PlainFault> {
+        add_body(alloc, 1, field, &mut self.header)?;
+        add_entity(alloc, field, &mut self.entities)?;
+        Ok(())
+    }
+
+    fn finish(self, alloc: Global) -> Result<Feed, PlainFault> {
+        let Header {
+            version,
+            incrementality,
+            timestamp,
+        } = read_required(alloc, &self.header)?;
+        Ok(Feed {
+            version,
+            incrementality,
+            timestamp,
+            entities: self.entities,
+        })
+    }
+}
