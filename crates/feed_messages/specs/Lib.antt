@@ -1,5 +1,12 @@
-pub mod Cancelled
+pub mod Faults
+pub mod Found
+pub mod Known
 pub mod Meaning
+pub mod Partly
+pub mod Parts
+pub mod Pieces
 pub mod Plain
+pub mod Sizes
+pub mod Sound
 pub mod Tables
 pub mod Written

@@ -1,6 +1,6 @@
 -- How messages of GTFS Realtime 2.0 are written: fields in rising number, the shortest varints, and nothing for a
 -- field that is missing, but for those that are always written (GTFS Realtime reference; protobuf encoding).
-use Rattle.std.specs.Prelude.{◌==◌, ℕ, ℤ, List, [], ◌∷◌, ◌++◌, codes, if◌then◌else◌, Option, Some, None, unsigned_abs}
+use Rattle.std.specs.Prelude.{◌==◌, Bool, ℕ, ℤ, List, [], ◌∷◌, ◌++◌, codes, if◌then◌else◌, Option, Some, None, unsigned_abs}
 use Rattle.std.specs.List.{flat_map}
 use Rattle.std.specs.Int.{w64, cast_unsigned}
 use Rattle.wire_fields.specs.Spelling.{varint_field, bytes_field}
@@ -32,13 +32,16 @@ abbrev pub stop_time_event : Event → List ℕ
 stop_time_event event = if_there (signed_field 1) event.delay ++ if_there (signed_field 2) event.time
 
 -- a stop's relation of 0 isn't written
+abbrev pub relation_field : ℤ → List ℕ
+relation_field relation = if unsigned_abs relation == 0 then [] else signed_field 5 relation
+
 abbrev pub stop_time_update : StopUpdate → List ℕ
 stop_time_update update =
     if_there (varint_field 1) update.sequence
     ++ if_there (λ event. bytes_field 2 (stop_time_event event)) update.arrival
     ++ if_there (λ event. bytes_field 3 (stop_time_event event)) update.departure
     ++ if_there (bytes_field 4) update.stop_id
-    ++ (if unsigned_abs update.relation == 0 then [] else signed_field 5 update.relation)
+    ++ relation_field update.relation
 
 abbrev pub trip_update : TripUpdate → List ℕ
 trip_update update =
@@ -58,9 +61,12 @@ abbrev pub translation : Translation → List ℕ
 translation text = bytes_field 1 text.text ++ if_there (bytes_field 2) text.language
 
 -- a text in several languages, which isn't written where there is none
+abbrev pub translated_string : List Translation → List ℕ
+translated_string translations = flat_map (λ text. bytes_field 1 (translation text)) translations
+
 abbrev pub translated_field : ℕ → List Translation → List ℕ
 translated_field number [] = []
-translated_field number (first ∷ others) = bytes_field number (flat_map (λ text. bytes_field 1 (translation text)) (first ∷ others))
+translated_field number (first ∷ others) = bytes_field number (translated_string (first ∷ others))
 
 abbrev pub alert : Alert → List ℕ
 alert a =
@@ -70,10 +76,13 @@ alert a =
     ++ translated_field 10 a.header ++ translated_field 11 a.description
 
 -- `is_deleted` is written only where it is true
+abbrev pub deleted_field : Bool → List ℕ
+deleted_field deleted = if deleted then varint_field 2 1 else []
+
 abbrev pub feed_entity : Entity → List ℕ
 feed_entity entity =
     bytes_field 1 entity.id
-    ++ (if entity.deleted then varint_field 2 1 else [])
+    ++ deleted_field entity.deleted
     ++ if_there (λ update. bytes_field 3 (trip_update update)) entity.trip_update
     ++ if_there (λ a. bytes_field 5 (alert a)) entity.alert
 
@@ -88,3 +97,7 @@ feed_header timestamp = bytes_field 1 (codes "2.0") ++ varint_field 2 0 ++ varin
 -- the header of that moment as the first field of its feed
 abbrev pub header : ℤ → List ℕ
 header moment = bytes_field 1 (feed_header (unsigned_abs moment))
+
+-- a feed of these entities that is made at that moment
+abbrev pub written_feed : ℤ → List Entity → List ℕ
+written_feed moment entities = header moment ++ flat_map written entities

@@ -2,16 +2,26 @@
 //! definitions of `specs/Written.antt` name, and what is read is what `specs/Tables.antt` says that bytes mean.
 #![tactic(auto)]
 
-mod cancelled;
+mod fault;
+mod finder;
 mod header;
 mod laws;
 mod plain;
 mod plain_fault;
+mod quick;
+mod reading;
 #[cfg(test)]
 mod tests;
+mod whole;
+mod writing;
 
-pub use cancelled::cancelled_bytes;
+pub use fault::FeedFault;
 pub use header::{HeaderBytes, header_bytes};
-pub use laws::{an_entity_is_added, the_feed_is_one};
+pub use laws::{
+    a_fault_or_a_feed, a_written_feed_is_meant, an_entity_is_added, no_fault_where_a_feed_is_meant,
+    the_feed_is_one,
+};
 pub use plain::plain_feed;
 pub use plain_fault::PlainFault;
+pub use reading::read_feed;
+pub use writing::entity_bytes;

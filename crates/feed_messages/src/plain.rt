@@ -4,9 +4,9 @@ ghost use Rattle.std.specs.Prelude.{◌≡◌, IfOk, IsErrOf};
 ghost use Rattle.gw_base.specs.declared.messages.Feed.{Feed};
 ghost use Rattle.feed_messages.specs.Tables.{MeansFeed};
 
-mod kinds;
+pub mod kinds;
 mod nested;
-mod tables;
+pub mod tables;
 
 use crate::plain_fault::PlainFault;
 use gw_base::Feed;

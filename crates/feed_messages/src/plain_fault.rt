@@ -4,7 +4,7 @@ ghost use Rattle.feed_messages.specs.declared.plain_fault.PlainFault.TheVariants
 
 use std::alloc::AllocError;
 use std::str::Utf8Error;
-use wire_fields::ListFault;
+use wire_fields::{ListFault, WireFault};
 
 /// Why bytes were not read as a message.
 #[derive(Clone, Copy, Debug, PartialEq, Eq)]
@@ -41,5 +41,13 @@ impl From<ListFault> for PlainFault {
             ListFault::Wire(_) => PlainFault::Meaningless,
             ListFault::Memory => PlainFault::Memory,
         }
+    }
+}
+
+impl From<WireFault> for PlainFault {
+    ghost from_gives = { λ _ e. e ≡ Meaningless };
+
+    fn from(_fault: WireFault) -> PlainFault {
+        PlainFault::Meaningless
     }
 }

@@ -1,4 +1,7 @@
 //! The written bytes of worked examples, and what is read from bytes.
+mod reading;
+mod writing;
+
 use super::*;
 use gw_base::{Alert, Entity, Event, Moment, Period, Text, TripUpdate};
 use std::alloc::Global;
@@ -18,17 +21,7 @@ fn a_header_is_written(rt: HostRuntime) -> Result<(), Fail> {
     Ok(())
 }
 
-#[test]
-fn a_cancelled_journey_is_written(rt: HostRuntime) -> Result<(), Fail> {
-    let moment = Moment::new(1_714_543_200).ok_or("a moment")?;
-    let bytes = cancelled_bytes(rt.alloc(), "T1", b"20240501", moment)?;
-    let expected =
-        b"\x12\x27\x0a\x0b20240501:T1\x1a\x18\x0a\x10\x0a\x02T1\x1a\x0820240501\x20\x03\x20\xe0\xb4\xc7\xb1\x06";
-    assert_eq!(rt; bytes.as_slice(), expected.as_slice());
-    Ok(())
-}
-
-/// The header and the entity of the examples above.
+/// A header and the entity of a cancelled journey.
 static EXAMPLE: [u8; 56] =
     *b"\x0a\x0d\x0a\x032.0\x10\x00\x18\xe0\xb4\xc7\xb1\x06\x12\x27\x0a\x0b20240501:T1\x1a\x18\x0a\x10\x0a\x02T1\x1a\x0820240501\x20\x03\x20\xe0\xb4\xc7\xb1\x06";
 

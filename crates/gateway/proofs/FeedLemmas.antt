@@ -1,20 +1,22 @@
 -- What the bytes of a feed mean, entity by entity.
-use Rattle.std.proofs.Common.{◌≡◌, ◌∙◌, ◌<◌, ◌+◌, ◌++◌, ◌∷◌, [], ℕ, zero, suc, ℤ, List, length, take, drop, get_or, map, Result, Ok, Err, Some, sym, ap, subst, if◌then◌else◌}
-use Rattle.std.proofs.lemmas.List.{map-append, take_more, drop_more, append_assoc}
+use Rattle.std.proofs.Common.{◌≡◌, ◌∙◌, ◌<◌, ◌+◌, ◌++◌, ◌∷◌, [], ℕ, zero, suc, ℤ, List, length, take, drop, get_or, map, Result, Ok, Err, Some, sym, ap, subst, inl, inr, arith}
+use Rattle.std.proofs.lemmas.Bool.{cases_lt}
+use Rattle.std.proofs.lemmas.List.{map-append, take_more, drop_more, append_assoc, get_or_past}
+use Rattle.std.proofs.lemmas.Str.{IsUtf8-from_ascii}
+use Rattle.std.specs.Char.{IsAsciiDigit}
 use Rattle.std.proofs.lemmas.Option.{none-some}
-use Rattle.std.specs.Prelude.{⊤, OnOk, slice_get}
+use Rattle.std.specs.Prelude.{⊤, All, IsUtf8, OnOk, slice_get}
 use Rattle.std.specs.List.{flat_map}
-use Rattle.std.specs.Result.{is_ok}
 use Rattle.gw_base.specs.declared.messages.Feed.{Feed}
 use Rattle.service_day.specs.DayTexts.{compact_text}
-use Rattle.feed_messages.specs.Cancelled.{cancelled_entity}
+use Rattle.gateway.specs.Cancelled.{cancelled_entity}
 use Rattle.feed_messages.specs.Tables.{MeansFeed, MeansEntity, with_entity, full_dataset}
 use Rattle.feed_messages.proofs.Building.{means_more}
 use Rattle.gateway.specs.Feeds.{id_of, message_of, entity_of, feed_of}
 use Rattle.gateway.specs.declared.item.Cancelled.{Cancelled}
 
 -- bytes that grew by more bytes
-grown : {E : Type 0} (P : List ℕ → Type 0) (result : Result ⊤ E) (old more new : List ℕ) → new ≡ (if is_ok result then old ++ more else old) → P (old ++ more) → OnOk result (P new)
+grown : {E : Type 0} (P : List ℕ → Type 0) (result : Result ⊤ E) (old more new : List ℕ) → OnOk result (new ≡ old ++ more) → P (old ++ more) → OnOk result (P new)
 grown P (Ok done) old more new same p = subst P (sym same) p
 grown P (Err fault) old more new same p = tt
 
@@ -27,7 +29,7 @@ id_found (first ∷ trips) (suc trip) id found = id_found trips trip id found
 pub entity_added : {E : Type 0} (result : Result ⊤ E) (trips : List (List ℕ)) (journey : Cancelled) (id date entity more old new : List ℕ) (before : Feed)
     → slice_get trips journey.trip.0 ≡ Some id → date ≡ compact_text journey.day
     → MeansEntity entity (cancelled_entity id date journey.recorded) → more ≡ entity
-    → new ≡ (if is_ok result then old ++ more else old) → MeansFeed old before
+    → OnOk result (new ≡ old ++ more) → MeansFeed old before
     → OnOk result (MeansFeed new (with_entity before (message_of trips journey)))
 entity_added result trips journey id date entity more old new before found day means same grew h =
     grown (λ bytes. MeansFeed bytes (with_entity before (message_of trips journey))) result old more new grew
@@ -46,3 +48,10 @@ pub bytes_more : (trips : List (List ℕ)) (journeys : List Cancelled) (n : ℕ)
 bytes_more trips journeys n journey front new all within is so_far added =
     let left : drop n journeys ≡ journey ∷ drop (n + 1) journeys = drop_more journeys n journey within ∙ ap (λ (first : Cancelled). first ∷ drop (n + 1) journeys) (sym is) in
     rw added (append_assoc front (entity_of trips journey) (flat_map (entity_of trips) (drop (n + 1) journeys)) ∙ ap (λ (rest : List Cancelled). front ++ flat_map (entity_of trips) rest) (sym left) ∙ so_far)
+
+-- digits are text
+pub digits_are_text : (date : List ℕ) → All IsAsciiDigit date → IsUtf8 date
+digits_are_text date digits = IsUtf8-from_ascii date (λ i. elim (cases_lt i (length date)) [
+  | inl within ↦ let digit = digits i 0 within in omega arith
+  | inr past ↦ rw (get_or_past date i 0 past) (omega arith)
+])

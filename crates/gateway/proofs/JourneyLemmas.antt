@@ -16,12 +16,13 @@ use Rattle.gw_base.specs.Moments.{IsMoment}
 use Rattle.service_day.specs.Days.{date_number}
 use Rattle.service_day.specs.Digits.{has_form, two_at, four_at}
 use Rattle.service_day.specs.Utc.{utc_of, utc_form, moment_at, moment_if, is_moment, is_clock, seconds_at}
-use Rattle.gateway.specs.Journeys.{Setting, same_journey, taken, behind, verdict, verdicts, verdicts_behind, aside_from}
+use Rattle.gateway.specs.Journeys.{same_journey, taken, behind, verdict, verdicts, verdicts_behind, aside_from}
 use Rattle.gateway.specs.Items.{same_key, Saw}
 use Rattle.gateway.specs.declared.item.Aside.{Aside}
 use Rattle.gateway.specs.declared.item.Aside.TheVariants.{NotYet}
 use Rattle.gateway.specs.declared.item.Cancelled.{Cancelled}
 use Rattle.gateway.proofs.FrameLemmas.{trees_at}
+use Rattle.gateway.specs.declared.setting.Setting.{Setting}
 
 is_moment-IsMoment : (secs : ℤ) → is_moment secs ≡ true → IsMoment secs
 is_moment-IsMoment secs e = grind (arith, ints)

@@ -1,9 +1,8 @@
-mod EndingLemmas
 mod FeedLemmas
+mod FormLemmas
 mod FrameLemmas
 mod JourneyLemmas
-mod OutcomeLemmas
-mod SinkLemmas
 mod PublishedLemmas
 mod ReadingLemmas
+mod TableLemmas
 mod WordLemmas

@@ -1,82 +1,94 @@
--- What was written where the work was done.
-use Rattle.std.proofs.Common.{◌≡◌, ◌∙◌, ℕ, List, length, Result, Ok, Err, Option, Some, None, IfSome, sym, ap, refl, inl, inr, arith}
-use Rattle.std.proofs.lemmas.Bool.{cases_lt}
+-- What is published where the work was done.
+use Rattle.std.proofs.Common.{◌≡◌, ℕ, Bool, true, false, List, length, Result, Ok, Err, Option, Some, None, IfSome, codes, ◌++◌, sym, ap, refl, subst, if◌then◌else◌}
+use Rattle.std.specs.Prelude.{nat_le}
 use Rattle.gw_base.specs.Directory.{bytes_of}
 use Rattle.gw_base.specs.Told.{with_bytes}
 use Rattle.serde_json.specs.Data.{Data}
+use Rattle.service_day.specs.Windows.{IsWindow}
+use Rattle.service_day.specs.declared.zones.Rules.{Rules}
 use Rattle.stop_schedule.specs.Table.{Table}
 use Rattle.stop_schedule.specs.Timetable.{timetable}
 use Rattle.stop_schedule.specs.declared.table_fault.TableFault.{TableFault}
-use Rattle.stop_schedule.specs.declared.table_fault.TableFault.TheVariants as table_fault
+use Rattle.stop_schedule.specs.declared.table_fault.TableFault.TheVariants as fault
+use Rattle.gateway.specs.Feeds.{IsFeed}
 use Rattle.gateway.specs.Frame.{journeys_of}
-use Rattle.gateway.specs.Outcomes.{Outcome, IsOutcome, OfTable, OfFile, OfItems, delivery_limit, task_of, setting_in}
-use Rattle.gateway.specs.Published.{Publishes}
-use Rattle.gateway.specs.Words.{ToGtfsrt, IsToGtfsrt}
-use Rattle.gateway.proofs.ReadingLemmas.{read_all, ordered_readable, command_windowed}
+use Rattle.gateway.specs.Items.{sorted}
+use Rattle.gateway.specs.Journeys.{taken, verdicts}
+use Rattle.gateway.specs.Published.{IsRead, IsZone, Publishes}
+use Rattle.gateway.specs.Windowed.{HasWindow}
+use Rattle.gateway.specs.Words.{NamedZone, by_rule, by_file, ToGtfsrt, IsToGtfsrt}
+use Rattle.gateway.specs.Work.{Directory, ToGtfsrtWork, folder, further, delivery, delivery_file, body_limit, Zone, zone_limit}
+use Rattle.gateway.specs.declared.delivery.Delivery.{Delivery}
+use Rattle.gateway.specs.declared.exit.Exit.{Exit}
+use Rattle.gateway.specs.declared.exit.Exit.TheVariants.{Refused}
+use Rattle.gateway.specs.declared.setting.Setting.{Setting}
+use Rattle.gateway.specs.declared.work.Done.{Done}
+use Rattle.gateway.proofs.ReadingLemmas.{read_all, ordered_readable, windowed_setting}
 
--- an outcome of status 0 is none of another status
-same_status : (outcome other : Outcome) → outcome ≡ other → outcome.status ≡ 0 → other.status ≡ 0
-same_status outcome other e done = sym (ap (λ (o : Outcome). o.status) e) ∙ done
+-- what a step found, by its answer
 
--- a run of status 0, and what standard output held before and holds now
-record Run (words : List (List ℕ)) (files : List (List ℕ × List ℕ)) : Type 0 where
-  outcome : Outcome
-  status : outcome.status ≡ 0
-  before : Option (List ℕ)
-  now : Option (List ℕ)
-  written : now ≡ with_bytes before outcome.out
-  command : ToGtfsrt
-  accepted : IsToGtfsrt words command
+found_table : (dir : List ℕ) (read : Result Table TableFault) (table : Table) → Ok table ≡ folder dir read → read ≡ Ok table
+found_table dir (Ok other) table e = ap (λ t. Ok t) (sym (same_ok table other e))
+  where
+    same_ok : (a b : Table) → ◌≡◌ {A = Result Table Exit} (Ok a) (Ok b) → a ≡ b
+    same_ok a b e = cc
+found_table dir (Err (fault.Missing file)) table e = absurd cc
+found_table dir (Err (fault.BadTable file)) table e = absurd cc
+found_table dir (Err (fault.Failed file)) table e = absurd cc
+found_table dir (Err fault.Memory) table e = absurd cc
 
-of_items : (words : List (List ℕ)) (files : List (List ℕ × List ℕ)) (run : Run words files) (table : Table) (body : List ℕ) (found : Option (List Data))
-    → timetable files (task_of run.command).gtfs ≡ Ok table → bytes_of files (task_of run.command).file ≡ Some body → journeys_of body ≡ found
-    → OfItems (task_of run.command) table found run.outcome → Publishes words files run.before run.now
-of_items words files run table body None folder delivery none h = absurd (omega (arith, same_status run.outcome _ h run.status))
-of_items words files run table body (Some items) folder delivery some h = record {
-  command = run.command;
-  accepted = run.accepted;
-  table = table;
-  folder = folder;
-  body = body;
-  delivery = delivery;
-  items = items;
-  journeys = some;
-  ordered = h.feed.ordered;
-  just_taken = h.feed.same;
-  sorted = h.feed.sorted;
-  bytes = run.outcome.out;
-  written = run.written;
-  means = h.feed.means;
-  read = read_all run.command.at (setting_in (task_of run.command) table) h.feed.ordered h.feed.ordered
-      (ordered_readable (setting_in (task_of run.command) table) items h.feed.ordered (command_windowed words run.command table run.accepted) h.feed.same);
-}
+found_body : (limit : ℕ) (name : List ℕ) (there : Option (List ℕ)) (body : List ℕ) → Ok body ≡ further limit name there → there ≡ Some body
+found_body limit name None body e = absurd cc
+found_body limit name (Some bytes) body e = by (nat_le (length bytes) limit) e
+  where
+    by : (fits : Bool) → ◌≡◌ {A = Result (List ℕ) Exit} (Ok body) (if fits then Ok bytes else Err (Refused (codes "TooLong " ++ name))) → Some bytes ≡ Some body
+    by true e = let same : body ≡ bytes = cc in ap Some (sym same)
+    by false e = absurd cc
 
-of_file : (words : List (List ℕ)) (files : List (List ℕ × List ℕ)) (run : Run words files) (table : Table) (found : Option (List ℕ))
-    → timetable files (task_of run.command).gtfs ≡ Ok table → bytes_of files (task_of run.command).file ≡ found
-    → OfFile (task_of run.command) table found run.outcome → Publishes words files run.before run.now
-of_file words files run table None folder delivery h = absurd (omega (arith, same_status run.outcome _ h run.status))
-of_file words files run table (Some body) folder delivery h = elim (cases_lt delivery_limit (length body)) [
-  | inl long ↦ absurd (omega (arith, same_status run.outcome _ (h.0 long) run.status))
-  | inr short ↦ of_items words files run table body (journeys_of body) folder delivery refl (h.1 short)
-]
+found_items : (setting : Setting) (name : List ℕ) (there : Option (List Data)) (made : Delivery) → Ok made ≡ delivery setting name there
+    → (items : List Data) × (there ≡ Some items) × (made ≡ sorted setting items)
+found_items setting name None made e = absurd cc
+found_items setting name (Some items) made e = (items, refl, cc)
 
-of_table : (words : List (List ℕ)) (files : List (List ℕ × List ℕ)) (run : Run words files) (found : Result Table TableFault)
-    → timetable files (task_of run.command).gtfs ≡ found
-    → OfTable (task_of run.command) found (bytes_of files (task_of run.command).file) run.outcome → Publishes words files run.before run.now
-of_table words files run (Ok table) folder h = of_file words files run table (bytes_of files (task_of run.command).file) folder refl h
-of_table words files run (Err (table_fault.Missing file)) folder h = absurd (omega (arith, same_status run.outcome _ h run.status))
-of_table words files run (Err (table_fault.BadTable file)) folder h = absurd (omega (arith, same_status run.outcome _ h run.status))
-of_table words files run (Err (table_fault.Failed file)) folder h = absurd h
-of_table words files run (Err table_fault.Memory) folder h = absurd h
+found_zone : (named : NamedZone) (files : Directory) (zone : Rules) → Zone named files (Ok zone) → IsZone named files zone
+found_zone (by_rule text) files zone is = is
+found_zone (by_file path) files zone (bytes, read, is) = (bytes, found_body zone_limit path (bytes_of files path) bytes read, is)
 
-of_words : (words : List (List ℕ)) (files : List (List ℕ × List ℕ)) (outcome : Outcome) (before now : Option (List ℕ)) → outcome.status ≡ 0 → now ≡ with_bytes before outcome.out
-    → IsOutcome words files outcome → Publishes words files before now
-of_words words files outcome before now status written (inl (command, accepted, h)) =
-    of_table words files (record { outcome = outcome; status = status; before = before; now = now; written = written; command = command; accepted = accepted }) (timetable files (task_of command).gtfs) refl h
-of_words words files outcome before now status written (inr (at, refused_at, e)) = absurd (omega (arith, same_status outcome _ e status))
+-- the journeys that are taken are those that are read again
+of_work : (words : List (List ℕ)) (files : Directory) (command : ToGtfsrt) (done : Done) (before now : Option (List ℕ)) → IsToGtfsrt words command
+    → HasWindow command.from command.days → ToGtfsrtWork command files (Ok done) → now ≡ with_bytes before done.out → Publishes words files before now
+of_work words files command done before now accepted has (setting, (table, folder_is, (zone, zone_is, (window, window_is, made))), (body, read, (made_of, sorted_is, made_is))) written =
+    let same : setting ≡ record { table = table; zone = zone; window = window } = cc in
+    let items = found_items setting (delivery_file command) (journeys_of body) made_of sorted_is in
+    let window = subst (λ (s : Setting). IsWindow zone command.from command.days s.window) (sym same) window_is in
+    let is_feed : IsFeed command.at setting.table.trips (taken (verdicts setting items.0)) done.out = subst (λ (d : Delivery). IsFeed command.at setting.table.trips d.taken done.out) items.2 made_is.0 in
+    record {
+      command = command;
+      setting = setting;
+      items = items.0;
+      read = record {
+        accepted = accepted;
+        folder = found_table command.gtfs (timetable files command.gtfs) setting.table (rw same folder_is);
+        zone = zone;
+        zone_is = found_zone command.zone files zone zone_is;
+        window = window;
+        body = body;
+        delivery = found_body body_limit (delivery_file command) (bytes_of files (delivery_file command)) body read;
+        journeys = items.1;
+      };
+      ordered = is_feed.ordered;
+      just_taken = is_feed.same;
+      sorted = is_feed.sorted;
+      bytes = done.out;
+      written = written;
+      means = is_feed.means;
+      entities = read_all command.at setting is_feed.ordered is_feed.ordered
+          (ordered_readable setting items.0 is_feed.ordered (windowed_setting zone command setting has window) is_feed.same);
+    }
 
--- what ends with status 0 publishes
-pub publishes : (words : List (List ℕ)) (files : Option (List (List ℕ × List ℕ))) (outcome : Outcome) (before now : Option (List ℕ)) → outcome.status ≡ 0
-    → IfSome files (λ told. IsOutcome words told outcome) → now ≡ with_bytes before outcome.out → IfSome files (λ told. Publishes words told before now)
-publishes words None outcome before now status h written = tt
-publishes words (Some told) outcome before now status h written = of_words words told outcome before now status written h
+-- what is done publishes
+pub publishes : (words : List (List ℕ)) (files : Option Directory) (command : ToGtfsrt) (done : Done) (before now : Option (List ℕ)) → IsToGtfsrt words command
+    → HasWindow command.from command.days → IfSome files (λ told. ToGtfsrtWork command told (Ok done)) → now ≡ with_bytes before done.out
+    → IfSome files (λ told. Publishes words told before now)
+publishes words None command done before now accepted has work written = tt
+publishes words (Some told) command done before now accepted has work written = of_work words told command done before now accepted has work written

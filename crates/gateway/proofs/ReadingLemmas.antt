@@ -1,11 +1,11 @@
 -- Each journey that is taken is read again from its entity.
 use Rattle.std.proofs.Common.{◌≡◌, ◌≤◌, ◌&&◌, ◌++◌, ◌∷◌, [], ℕ, ℤ, pos, negsuc, ◌+ℤ◌, ◌-ℤ◌, ◌≤ℤ◌, List, Bool, true, false, length, get_or, map, Result, Ok, Err, Option, Some, None, ap, subst, refl, if◌then◌else◌, arith}
-use Rattle.std.proofs.lemmas.Bool.{ltb-true, le-leb, false≢true}
+use Rattle.std.proofs.lemmas.Bool.{ltb-true, le-leb}
 use Rattle.std.proofs.lemmas.Option.{none-some, same_Some, option_and_then_some}
 use Rattle.std.proofs.lemmas.Int.{ints}
 use Rattle.std.proofs.lemmas.List.Sums.{passes_at_first}
 use Rattle.std.proofs.lemmas.Slice.Eq.{bytes_eq-Decides}
-use Rattle.std.specs.Prelude.{int_le, nat_le, position, nat_lt, not, codes, unsigned_abs}
+use Rattle.std.specs.Prelude.{int_le, int_lt, is_some, position, nat_lt, not, codes, slice_index_or, unsigned_abs}
 use Rattle.std.specs.List.{AllByRecursion, list_any, position_or_len}
 use Rattle.std.specs.List.Sorted.{IsPermutation}
 use Rattle.std.proofs.lemmas.List.Elements.{All-from_recursion, recursion_from_All}
@@ -14,24 +14,25 @@ use Rattle.std.specs.Str.{bytes_eq}
 use Rattle.gw_base.specs.Moments.{IsMoment}
 use Rattle.serde_json.specs.Data.{Data}
 use Rattle.service_day.specs.Days.{IsDay}
-use Rattle.service_day.specs.DayTexts.{day_of}
 use Rattle.service_day.specs.Utc.{utc_of}
-use Rattle.service_day.specs.declared.days.DayForm.TheVariants.{Dashed}
+use Rattle.service_day.specs.Windows.{IsWindow}
+use Rattle.service_day.specs.declared.zones.Rules.{Rules}
 use Rattle.service_day.proofs.DayTextLemmas.{compact_day-compact_text}
 use Rattle.gateway.specs.Feeds.{id_of, message_of, feed_of}
-use Rattle.gateway.specs.Journeys.{Spelt, Setting, text_under, is_cancelled, is_extra, recorded_at, day_at, trip_at, in_window, dated, judged, verdict, spelt, behind, verdicts, verdicts_behind, taken, same_journey}
-use Rattle.gateway.specs.Outcomes.{task_of, setting_in}
-use Rattle.gateway.specs.Words.{ToGtfsrt, IsToGtfsrt, beginning, day_count, decimal_number, first_day, last_day}
-use Rattle.stop_schedule.specs.Table.{Table}
+use Rattle.gateway.specs.Journeys.{Spelt, text_under, is_cancelled, is_extra, recorded_at, day_at, trip_at, in_window, dated, judged, verdict, spelt, behind, verdicts, verdicts_behind, taken, same_journey}
+use Rattle.gateway.specs.Windowed.{HasWindow}
+use Rattle.gateway.specs.Words.{ToGtfsrt}
 use Rattle.gateway.specs.Readings.{reading, reading_of, moment_in}
 use Rattle.gateway.specs.declared.item.Aside.{Aside}
 use Rattle.gateway.specs.declared.item.Aside.TheVariants.{NotYet, OutOfWindow}
 use Rattle.gateway.specs.declared.item.Cancelled.{Cancelled}
+use Rattle.gateway.proofs.FormLemmas.{cond_then}
 use Rattle.gateway.proofs.JourneyLemmas.{utc_of-IsMoment}
+use Rattle.gateway.specs.declared.setting.Setting.{Setting}
 
 -- what is known of a journey that is taken
 pub record IsReadable (setting : Setting) (journey : Cancelled) : Type 0 where
-  pub trip : position (bytes_eq (id_of setting.trips journey.trip.0)) setting.trips ≡ Some journey.trip.0
+  pub trip : position (bytes_eq (id_of setting.table.trips journey.trip.0)) setting.table.trips ≡ Some journey.trip.0
   pub day : IsDay journey.day
   pub within : in_window setting journey.day ≡ true
   pub moment : IsMoment journey.recorded
@@ -45,25 +46,31 @@ moment_is (negsuc n) h = let first = h.0 in absurd (omega (arith, ints))
 
 -- such a journey is read from its entity in any feed
 read_one : (at : ℤ) (setting : Setting) (all : List Cancelled) (journey : Cancelled) → IsReadable setting journey
-    → reading setting (feed_of at setting.trips all) (message_of setting.trips journey) ≡ Some (reading_of journey)
+    → reading setting (feed_of at setting.table.trips all) (message_of setting.table.trips journey) ≡ Some (reading_of journey)
 read_one at setting all journey h =
     rw (h.trip, compact_day-compact_text journey.day h.day, h.within, moment_is journey.recorded h.moment) refl
 
 pub read_all : (at : ℤ) (setting : Setting) (all journeys : List Cancelled) → AllByRecursion (IsReadable setting) journeys
-    → map (reading setting (feed_of at setting.trips all)) (map (message_of setting.trips) journeys) ≡ map (λ journey. Some (reading_of journey)) journeys
+    → map (reading setting (feed_of at setting.table.trips all)) (map (message_of setting.table.trips) journeys) ≡ map (λ journey. Some (reading_of journey)) journeys
 read_all at setting all [] h = refl
 read_all at setting all (journey ∷ journeys) h = λ i. read_one at setting all journey h.0 i ∷ read_all at setting all journeys h.1 i
 
 -- a window from 1971 to 9997
 pub record IsWindowed (setting : Setting) : Type 0 where
-  pub first : pos 365 ≤ℤ setting.from
-  pub last : (setting.from +ℤ pos setting.days) ≤ℤ pos 2932167
+  pub first : pos 365 ≤ℤ setting.window.first
+  pub last : (setting.window.first +ℤ pos (length setting.window.starts)) ≤ℤ pos 2932167
 
 in_days : (setting : Setting) (day : ℤ) → IsWindowed setting → in_window setting day ≡ true → IsDay day
 in_days setting day h e =
+    let window = setting.window in
+    let within = shown (int_le window.first day && int_lt day (window.first +ℤ pos (length window.starts))) (slice_index_or window.starts (unsigned_abs (day -ℤ window.first)) (pos 0)) e in
     let first = h.first in
     let last = h.last in
     grind (arith, ints)
+  where
+    shown : (b : Bool) (x : ℤ) → is_some (if b then Some x else None) ≡ true → b ≡ true
+    shown true x e = refl
+    shown false x e = e
 
 -- the first of the ids that are this one is this one
 position_passes : (test : List ℕ → Bool) (ids : List (List ℕ)) (place : ℕ) → position test ids ≡ Some place → test (get_or ids place []) ≡ true
@@ -77,14 +84,6 @@ same_id : (trips : List (List ℕ)) (id : List ℕ) (trip : ℕ) → position (b
 same_id trips id trip e =
     let same : id ≡ get_or trips trip [] = (bytes_eq-Decides id (get_or trips trip [])).0 (position_passes (bytes_eq id) trips trip e) in
     rw (← same) e
-
-cond_then : {A : Type 0} (b : Bool) (o : Option A) (x : A) → (if b then o else None) ≡ Some x → (b ≡ true) × (o ≡ Some x)
-cond_then true o x e = (refl, e)
-cond_then false o x e = absurd (none-some x e)
-
-both_right : (a b : Bool) → (a && b) ≡ true → b ≡ true
-both_right true b e = e
-both_right false b e = absurd (false≢true e)
 
 -- what is recorded is a moment
 spelt_moment : (item : Data) (journey : Spelt) → spelt item ≡ Some journey → IsMoment journey.recorded
@@ -101,20 +100,20 @@ same_Ok x y e = cc
 
 -- a journey that is taken
 dated_readable : (setting : Setting) (said : Spelt) (trip : Option ℕ) (journey : Cancelled) → IsWindowed setting → IsMoment said.recorded
-    → position (bytes_eq said.trip_id) setting.trips ≡ trip → dated setting said trip ≡ Ok journey → IsReadable setting journey
+    → position (bytes_eq said.trip_id) setting.table.trips ≡ trip → dated setting said trip ≡ Ok journey → IsReadable setting journey
 dated_readable setting said None journey w m found e = absurd (cc)
 dated_readable setting said (Some trip) journey w m found e = by (in_window setting said.day) refl e
   where
     by : (b : Bool) → in_window setting said.day ≡ b
         → ◌≡◌ {A = Result Cancelled Aside} (if b then Ok (record { day = said.day; trip = record { 0 = trip }; recorded = said.recorded }) else Err OutOfWindow) (Ok journey) → IsReadable setting journey
     by true within e =
-        subst (IsReadable setting) (same_Ok _ _ e) (record { trip = same_id setting.trips said.trip_id trip found; day = in_days setting said.day w within; within = within; moment = m })
+        subst (IsReadable setting) (same_Ok _ _ e) (record { trip = same_id setting.table.trips said.trip_id trip found; day = in_days setting said.day w within; within = within; moment = m })
     by false within e = absurd (cc)
 
 judged_readable : (setting : Setting) (found : Option Spelt) (journey : Cancelled) → IsWindowed setting → ((s : Spelt) → found ≡ Some s → IsMoment s.recorded)
     → judged setting found ≡ Ok journey → IsReadable setting journey
 judged_readable setting None journey w m e = absurd (cc)
-judged_readable setting (Some s) journey w m e = dated_readable setting s (position (bytes_eq s.trip_id) setting.trips) journey w (m s refl) refl e
+judged_readable setting (Some s) journey w m e = dated_readable setting s (position (bytes_eq s.trip_id) setting.table.trips) journey w (m s refl) refl e
 
 verdict_readable : (setting : Setting) (item : Data) (journey : Cancelled) → IsWindowed setting → verdict setting item ≡ Ok journey → IsReadable setting journey
 verdict_readable setting item journey w e = judged_readable setting (spelt item) journey w (λ s found. spelt_moment item s found) e
@@ -145,20 +144,8 @@ ordered_readable setting items ordered w same =
     recursion_from_All (IsReadable setting) ordered (All-permutation (IsReadable setting) (taken (verdicts setting items)) ordered same all)
 
 -- the window of an accepted command
-pub command_windowed : (words : List (List ℕ)) (command : ToGtfsrt) (table : Table) → IsToGtfsrt words command → IsWindowed (setting_in (task_of command) table)
-command_windowed words command table h =
-    let first : pos 365 ≤ℤ command.from = first_in h.0 command.from h.9 in
-    let last : int_le (command.from +ℤ pos command.days -ℤ pos 1) last_day ≡ true = last_in command.from h.1 command.days h.10 in
-    record { first = first; last = grind (arith, ints) }
-  where
-    first_in : (word : List ℕ) (from : ℤ) → beginning word ≡ Some from → pos 365 ≤ℤ from
-    first_in word from e = option_and_then_some _ (day_of Dashed word) from e (λ day found f.
-        let both : (int_le first_day day && int_le day last_day ≡ true) × (Some day ≡ Some from) = cond_then _ _ from f in
-        let low = both.0 in
-        let same : day ≡ from = same_Some day from both.1 in
-        subst (λ d. pos 365 ≤ℤ d) same (grind (arith, ints)))
-
-    last_in : (from : ℤ) (word : List ℕ) (days : ℕ) → day_count from word ≡ Some days → int_le (from +ℤ pos days -ℤ pos 1) last_day ≡ true
-    last_in from word days e = option_and_then_some _ (decimal_number word) days e (λ n found f.
-        let all : (nat_le 1 n && nat_le n 32 && int_le (from +ℤ pos n -ℤ pos 1) last_day ≡ true) × (Some n ≡ Some days) = cond_then _ _ days f in
-        subst (λ d. int_le (from +ℤ pos d -ℤ pos 1) last_day ≡ true) (same_Some n days all.1) (both_right (nat_le 1 n && nat_le n 32) _ all.0))
+pub windowed_setting : (zone : Rules) (command : ToGtfsrt) (setting : Setting) → HasWindow command.from command.days → IsWindow zone command.from command.days setting.window → IsWindowed setting
+windowed_setting zone command setting has is =
+    let first = has.first_in.0 in
+    let last = has.last_in.1 in
+    record { first = rw is.first_is first; last = rw (is.first_is, is.days_are) (grind (arith, ints)) }

@@ -8,7 +8,7 @@ use Rattle.gw_base.specs.declared.messages.Entity.{Entity}
 use Rattle.gw_base.specs.declared.messages.Feed.{Feed}
 use Rattle.service_day.specs.DayTexts.{compact_text}
 use Rattle.feed_messages.specs.Written.{header, written}
-use Rattle.feed_messages.specs.Cancelled.{cancelled_entity}
+use Rattle.gateway.specs.Cancelled.{cancelled_entity}
 use Rattle.feed_messages.specs.Tables.{MeansFeed, full_dataset}
 use Rattle.gateway.specs.declared.item.Cancelled.{Cancelled}
 

@@ -1,5 +1,5 @@
 -- What the journeys of a delivery say, and which are taken (SIRI 2.0, EstimatedVehicleJourney).
-use Rattle.std.specs.Prelude.{◌&&◌, ◌+◌, ◌==◌, ℕ, Bool, false, not, ℤ, pos, ◌+ℤ◌, int_le, int_lt, List, [], ◌∷◌, ◌++◌, length, position, codes, Option, Some, None, option_and_then, unwrap_or, is_some, Result, Ok, Err, if◌then◌else◌}
+use Rattle.std.specs.Prelude.{◌&&◌, ◌+◌, ◌==◌, ℕ, Bool, false, not, ℤ, List, [], ◌∷◌, ◌++◌, length, position, codes, Option, Some, None, option_and_then, unwrap_or, is_some, Result, Ok, Err, if◌then◌else◌}
 use Rattle.std.specs.List.{list_any, filter_map}
 use Rattle.std.specs.Ordering.{int_eq}
 use Rattle.std.specs.Result.{result_ok}
@@ -8,10 +8,12 @@ use Rattle.serde_json.specs.Data.{Data}
 use Rattle.serde_json.specs.Find.{get, as_bool, as_str}
 use Rattle.service_day.specs.DayTexts.{day_of}
 use Rattle.service_day.specs.Utc.{utc_of}
+use Rattle.service_day.specs.Windows.{start_in}
 use Rattle.service_day.specs.declared.days.DayForm.TheVariants.{Dashed}
 use Rattle.gateway.specs.declared.item.Aside.{Aside}
 use Rattle.gateway.specs.declared.item.Aside.TheVariants.{NotYet, UnknownJourney, OutOfWindow}
 use Rattle.gateway.specs.declared.item.Cancelled.{Cancelled}
+use Rattle.gateway.specs.declared.setting.Setting.{Setting}
 
 -- a cancelled journey as it is spelled: the second at which it was recorded, its day, and its trip's id
 pub record Spelt : Type 0 where
@@ -54,14 +56,9 @@ spelt item =
     if is_cancelled item && not (is_extra item) then Some (record { recorded = recorded; day = day; trip_id = trip_id }) else None)
     (trip_at item)) (day_at item)) (recorded_at item)
 
--- the setting: the ids of the trips, by which they are numbered, and the first day and the number of days of the window
-pub record Setting : Type 0 where
-  pub trips : List (List ℕ)
-  pub from : ℤ
-  pub days : ℕ
-
+-- a day of the window
 abbrev pub in_window : Setting → ℤ → Bool
-in_window setting day = int_le setting.from day && int_lt day (setting.from +ℤ pos setting.days)
+in_window setting day = is_some (start_in setting.window day)
 
 -- a trip's journey on a day, if there is the trip and the day is in the window
 abbrev pub dated : Setting → Spelt → Option ℕ → Result Cancelled Aside
@@ -74,7 +71,7 @@ dated setting journey (Some trip) =
 -- what an item is by what it spells
 abbrev pub judged : Setting → Option Spelt → Result Cancelled Aside
 judged setting None = Err NotYet
-judged setting (Some journey) = dated setting journey (position (bytes_eq journey.trip_id) setting.trips)
+judged setting (Some journey) = dated setting journey (position (bytes_eq journey.trip_id) setting.table.trips)
 
 -- what an item is by itself: a cancelled journey, or why it is set aside
 abbrev pub verdict : Setting → Data → Result Cancelled Aside

@@ -9,10 +9,11 @@ use Rattle.gw_base.specs.declared.messages.TripDescriptor.{TripDescriptor}
 use Rattle.gw_base.specs.declared.messages.TripUpdate.{TripUpdate}
 use Rattle.service_day.specs.DayTexts.{day_of}
 use Rattle.service_day.specs.declared.days.DayForm.TheVariants.{Compact}
-use Rattle.gateway.specs.Journeys.{Setting, in_window}
+use Rattle.gateway.specs.Journeys.{in_window}
 use Rattle.gateway.specs.declared.item.Cancelled.{Cancelled}
+use Rattle.gateway.specs.declared.setting.Setting.{Setting}
 
--- a trip that is read as cancelled on a day, as was recorded at a moment, if one is known
+-- a trip that is read as cancelled on a day, with the moment at which that was recorded, if one is known
 pub record Reading : Type 0 where
   pub day : ℤ
   pub trip : ℕ
@@ -27,9 +28,10 @@ abbrev pub recorded_in : Option ℤ → Option ℤ → Option ℤ
 recorded_in (Some update) feed = Some update
 recorded_in None feed = feed
 
--- the number of the trip and the day that a descriptor names: a trip of the timetable, and a day of the window
+-- the number of the trip and the day that a descriptor names: a trip of the timetable, and a day of the window. So far a
+-- descriptor without a start_date names no day
 abbrev pub trip_in : Setting → TripDescriptor → Option ℕ
-trip_in setting trip = option_and_then (λ id. position (bytes_eq id) setting.trips) trip.trip_id
+trip_in setting trip = option_and_then (λ id. position (bytes_eq id) setting.table.trips) trip.trip_id
 
 abbrev pub day_in : Setting → TripDescriptor → Option ℤ
 day_in setting trip =

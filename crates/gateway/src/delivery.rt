@@ -1,17 +1,18 @@
 //! A delivery of estimated timetables: which of its journeys are taken, and which are set aside.
-ghost use Rattle.std.specs.Prelude.{◌≡◌, ◌<◌, ◌++◌, ◌∷◌, [], None, List, Result, map, length, IfOk, OnOk, IfSome, IsSome, IsErrOf};
+ghost use Rattle.std.specs.Prelude.{◌≡◌, ◌<◌, ◌++◌, ◌∷◌, [], None, Some, List, Result, map, option_map, length, IfOk, OnOk, IsErrOf};
 ghost use Rattle.std.specs.List.{AllByRecursion};
 ghost use Rattle.serde_json.specs.View.{view};
 ghost use Rattle.gateway.specs.Frame.{journeys_of};
 ghost use Rattle.gateway.specs.Journeys.{behind};
-ghost use Rattle.gateway.specs.Items.{setting_of, Saw, Sorts};
+ghost use Rattle.gateway.specs.Items.{Saw, sorted};
 
 use crate::frame::{FrameFault, journeys};
-use crate::item::{Aside, Cancelled, Window, verdict};
+use crate::item::{Aside, Cancelled, verdict};
+use crate::setting::Setting;
+use gw_base::List;
 use indexmap::IndexSet;
 use serde_json::Value;
 use std::alloc::{AllocError, AllocFailed, Global};
-use stop_schedule::Timetable;
 
 /// Why a delivery is refused.
 #[derive(Clone, Copy, Debug, PartialEq, Eq)]
@@ -48,9 +49,9 @@ impl<T: Drop> From<AllocFailed<T>> for DeliveryFault {
 #[derive(Debug, Drop)]
 pub struct Delivery {
     /// The journeys that are taken, in document order.
-    pub taken: Vec<Cancelled>,
+    pub taken: List<Cancelled>,
     /// The items that are set aside: the number of each, counted from 0, and why; in document order.
-    pub aside: Vec<(u64, Aside)>,
+    pub aside: List<(u64, Aside)>,
 }
 
 // An item's verdict behind those before, whose journeys were seen. Of items for one journey of one day the
@@ -75,20 +76,15 @@ fn counted(
 }
 
 // The items of a delivery, each taken or set aside.
-fn sorted_out(
-    alloc: Global,
-    items: &[&Value],
-    table: &Timetable,
-    window: &Window,
-) -> Result<Delivery, AllocError>
-    ensures sorted { IfOk result (λ delivery. Sorts (setting_of table.now window.now) delivery (map (λ item. view item.now) items.now)) }
-    ensures trips { IfOk result (λ delivery. AllByRecursion (λ journey. journey.trip.0 < length table.now.trips) delivery.taken.items) }
+fn sorted_out(alloc: Global, items: &[&Value], setting: &Setting) -> Result<Delivery, AllocError>
+    ensures sorted { IfOk result (λ delivery. delivery ≡ sorted setting.now (map (λ item. view item.now) items.now)) }
+    ensures trips { IfOk result (λ delivery. AllByRecursion (λ journey. journey.trip.0 < length setting.now.table.trips) delivery.taken) }
 {
     let mut seen = IndexSet::new(alloc);
-    let mut taken = Vec::new(alloc);
-    let mut aside = Vec::new(alloc);
+    let mut taken = List::new(alloc);
+    let mut aside = List::new(alloc);
     for (number, item) in items.iter().enumerate() {
-        match counted(&mut seen, verdict(item, table, window))? {
+        match counted(&mut seen, verdict(item, setting))? {
             Ok(journey) => taken.push(journey)?,
             Err(why) => aside.push((number as u64, why))?,
         }
@@ -101,12 +97,10 @@ fn sorted_out(
 pub fn read_delivery(
     alloc: Global,
     body: &[u8],
-    table: &Timetable,
-    window: &Window,
+    setting: &Setting,
 ) -> Result<Delivery, DeliveryFault>
-    ensures sorted { IfOk result (λ delivery. IfSome (journeys_of body.now) (Sorts (setting_of table.now window.now) delivery)) }
-    ensures found { IfOk result (λ delivery. IsSome (journeys_of body.now)) }
-    ensures trips { IfOk result (λ delivery. AllByRecursion (λ journey. journey.trip.0 < length table.now.trips) delivery.taken.items) }
+    ensures sorted { IfOk result (λ delivery. option_map (sorted setting.now) (journeys_of body.now) ≡ Some delivery) }
+    ensures trips { IfOk result (λ delivery. AllByRecursion (λ journey. journey.trip.0 < length setting.now.table.trips) delivery.taken) }
     ensures fault { IsErrOf result DeliveryFault.BadDelivery → journeys_of body.now ≡ None }
 {
     let root = match Value::from_slice(alloc, body) {
@@ -115,7 +109,7 @@ pub fn read_delivery(
         Err(_) => return Err(DeliveryFault::BadDelivery),
     };
     match journeys(alloc, &root) {
-        Ok(items) => Ok(sorted_out(alloc, items.as_slice(), table, window)?),
+        Ok(items) => Ok(sorted_out(alloc, items.as_slice(), setting)?),
         Err(FrameFault::NotFrame) => Err(DeliveryFault::BadDelivery),
         Err(FrameFault::Memory) => Err(DeliveryFault::Memory),
     }

@@ -1,8 +1,8 @@
 //! The real files and streams. They count their faults, and tell nothing of their content.
-ghost use Rattle.std.specs.Prelude.{None};
+ghost use Rattle.std.specs.Prelude.{◌≡◌, ◌++◌, ℕ, List, None, IfOk, IsErrOf};
+ghost use Rattle.gw_base.specs.Count.{Counts};
 
 use gw_base::{Bytes, Failed, FileFault, Files, Got, Sink};
-use std::alloc::Global;
 use std::fs::File;
 use std::io::{self, ErrorKind, Read, Write};
 use std::marker::Model;
@@ -11,7 +11,6 @@ use std::marker::Model;
 #[derive(Drop)]
 pub struct DirFiles<'a, R: std::rt::Files> {
     rt: &'a R,
-    alloc: Global,
     faults: u64,
 }
 
@@ -24,21 +23,34 @@ impl<'a, R: std::rt::Files> Model for DirFiles<'a, R> {
 }
 
 impl<'a, R: std::rt::Files> DirFiles<'a, R> {
-    /// The files that the runtime reaches.
-    pub fn new(alloc: Global, rt: &'a R) -> DirFiles<'a, R> {
-        DirFiles {
-            rt,
-            alloc,
-            faults: 0,
-        }
+    /// The files that the runtime reaches, with no fault so far.
+    pub fn new(rt: &'a R) -> DirFiles<'a, R>
+        ensures { result ≡ 0 }
+    {
+        DirFiles { rt, faults: 0 }
     }
 
-    // The file's bytes, or its first `limit` bytes and one more.
-    fn bytes_of(&self, name: &str, limit: u64) -> io::Result<Vec<u8>> {
-        let mut bytes = Vec::new(self.alloc);
+    // Reads the file's bytes, or its first `limit` bytes and one more, straight behind what is there.
+    fn read_behind(&self, name: &str, limit: u64, into: &mut Bytes) -> io::Result<usize>
+        ensures behind { (bytes : List ℕ) × (into.new ≡ into.old ++ bytes) }
+    {
         let file = File::open(self.rt, name)?;
-        file.take(limit.saturating_add(1)).read_to_end(&mut bytes)?;
-        Ok(bytes)
+        into.read_to_end(&mut file.take(limit.saturating_add(1)))
+    }
+
+    // What a failed read is: a file that isn't there, want of memory, or a fault, which is counted.
+    fn failed(&mut self, kind: ErrorKind) -> Result<Got, FileFault>
+        ensures missing { IfOk result (λ got. got ≡ Got.Missing) }
+        ensures counts { Counts (IsErrOf result FileFault.Failed) self.old self.new }
+    {
+        match kind {
+            ErrorKind::NotFound | ErrorKind::NotADirectory => Ok(Got::Missing),
+            ErrorKind::OutOfMemory => Err(FileFault::Memory),
+            _ => {
+                self.faults = self.faults.saturating_add(1);
+                Err(FileFault::Failed)
+            }
+        }
     }
 }
 
@@ -48,20 +60,16 @@ impl<'a, R: std::rt::Files> Files for DirFiles<'a, R> {
     ghost faults = { λ faults. faults };
 
     fn read_file(&mut self, name: &str, limit: u64, into: &mut Bytes) -> Result<Got, FileFault> {
-        match self.bytes_of(name, limit) {
-            Ok(bytes) if limit < bytes.len() as u64 => Ok(Got::TooLong),
-            Ok(bytes) => match into.extend(bytes.as_slice()) {
-                Ok(()) => Ok(Got::Whole),
-                Err(_) => Err(FileFault::Memory),
-            },
-            Err(fault) => match fault.kind() {
-                ErrorKind::NotFound | ErrorKind::NotADirectory => Ok(Got::Missing),
-                ErrorKind::OutOfMemory => Err(FileFault::Memory),
-                _ => {
-                    self.faults = self.faults.saturating_add(1);
-                    Err(FileFault::Failed)
-                }
-            },
+        let before = into.len();
+        let read = self.read_behind(name, limit, into);
+        let count = (into.len() - before) as u64;
+        if read.is_ok() && count <= limit {
+            return Ok(Got::Whole);
+        }
+        into.truncate(before);
+        match read {
+            Ok(_) => Ok(Got::TooLong),
+            Err(fault) => self.failed(fault.kind()),
         }
     }
 }
@@ -82,8 +90,10 @@ impl<W: Write + Drop> Model for StdSink<W> {
 }
 
 impl<W: Write + Drop> StdSink<W> {
-    /// A sink that writes to the stream.
-    pub fn new(stream: W) -> StdSink<W> {
+    /// A sink that writes to the stream, with no fault so far.
+    pub fn new(stream: W) -> StdSink<W>
+        ensures { result ≡ 0 }
+    {
         StdSink { stream, faults: 0 }
     }
 }

@@ -1,15 +1,16 @@
 //! What one journey of a delivery says, and why it is set aside.
-ghost use Rattle.std.specs.Prelude.{◌≡◌, ◌<◌, [], length, IfOk, option_map};
+ghost use Rattle.std.specs.Prelude.{◌≡◌, ◌<◌, length, IfOk, option_map};
 ghost use Rattle.serde_json.specs.View.{view};
-ghost use Rattle.gateway.specs.Journeys.{in_window, is_cancelled as cancelled, text_under, recorded_at as recorded_of, day_at as day_of_item, trip_at as trip_of, spelt, verdict};
-ghost use Rattle.gateway.specs.Items.{setting_of, spelt_of};
+ghost use Rattle.gateway.specs.Journeys.{is_cancelled as cancelled, text_under, recorded_at as recorded_of, day_at as day_of_item, trip_at as trip_of, spelt, verdict};
+ghost use Rattle.gateway.specs.Items.{spelt_of};
 
+use crate::setting::Setting;
 use gw_base::Moment;
 use serde_json::Value;
 use service_day::{Day, DayForm, read_day, read_utc};
-use stop_schedule::{Timetable, TripNo};
+use stop_schedule::TripNo;
 
-/// A journey that is cancelled, as was recorded at a moment. Ordered by service day and then trip.
+/// A journey that is recorded as cancelled. Ordered by service day and then trip.
 #[derive(Clone, Copy, Debug, PartialEq, Eq, PartialOrd, Ord)]
 pub struct Cancelled {
     /// The service day.
@@ -29,25 +30,6 @@ pub enum Aside {
     UnknownJourney,
     /// Its day isn't in the window.
     OutOfWindow,
-}
-
-/// The days for which journeys are taken.
-#[derive(Clone, Copy, Debug)]
-pub struct Window {
-    /// The first day.
-    pub first: Day,
-    /// How many days, from 1 to 32.
-    pub days: u8,
-}
-
-impl Window {
-    /// Whether a day is one of them.
-    pub fn contains(&self, day: Day) -> bool
-        ensures { result ≡ in_window (record { trips = []; from = self.now.first; days = self.now.days }) day }
-    {
-        let first = self.first.number();
-        first <= day.number() && day.number() - first < i32::from(self.days)
-    }
 }
 
 // A cancelled journey as it is spelled: its moment, its day and its trip's id.
@@ -118,17 +100,17 @@ fn spelled(item: &Value) -> Option<Spelling<'_>>
 }
 
 /// The cancelled journey that an item is, or why it is set aside.
-pub fn verdict(item: &Value, table: &Timetable, window: &Window) -> Result<Cancelled, Aside>
-    ensures value { result ≡ verdict (setting_of table.now window.now) (view item.now) }
-    ensures trip { IfOk result (λ journey. journey.trip.0 < length table.now.trips) }
+pub fn verdict(item: &Value, setting: &Setting) -> Result<Cancelled, Aside>
+    ensures value { result ≡ verdict setting.now (view item.now) }
+    ensures trip { IfOk result (λ journey. journey.trip.0 < length setting.now.table.trips) }
 {
     let Some(spelled) = spelled(item) else {
         return Err(Aside::NotYet);
     };
-    let Some(trip) = table.find_trip(spelled.trip_id) else {
+    let Some(trip) = setting.table.find_trip(spelled.trip_id) else {
         return Err(Aside::UnknownJourney);
     };
-    if !window.contains(spelled.day) {
+    if setting.window.start_of(spelled.day).is_none() {
         return Err(Aside::OutOfWindow);
     }
     Ok(Cancelled {

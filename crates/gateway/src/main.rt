@@ -5,15 +5,17 @@
 mod command_line;
 mod delivery;
 mod devices;
+mod exit;
 mod feed;
 mod frame;
 mod item;
-mod outcome;
 mod report;
+mod setting;
 #[cfg(test)]
 mod tests;
 mod top;
 mod words;
+mod work;
 
 use command_line::words_of;
 use devices::{DirFiles, StdSink};
@@ -21,8 +23,9 @@ use gw_base::{NoClock, NoDoor};
 use std::process::ExitCode;
 
 const USAGE: &str = "\
-usage: gateway to-gtfsrt --gtfs DIR --zone-rule RULE --from YYYY-MM-DD --days N --at YYYY-MM-DDThh:mm:ssZ --et FILE
+usage: gateway to-gtfsrt --gtfs DIR ZONE --from YYYY-MM-DD --days N --at YYYY-MM-DDThh:mm:ssZ --et FILE
 
+ZONE is --zone-rule RULE, a POSIX rule such as CET-1CEST,M3.5.0,M10.5.0/3, or --zone-file FILE, a TZif file.
 to-gtfsrt reads the GTFS folder DIR and the SIRI estimated timetable FILE, and writes a GTFS Realtime feed
 to standard output and a report to standard error.
 ";
@@ -40,7 +43,7 @@ fn main(rt: HostRuntime) -> ExitCode {
             words => top::gateway(
                 alloc,
                 words,
-                &mut DirFiles::new(alloc, &rt),
+                &mut DirFiles::new(&rt),
                 &mut NoDoor::new(),
                 &mut NoClock::new(),
                 &mut out,

@@ -4,6 +4,7 @@ ghost use Rattle.gateway.specs.Reports.{aside_text, aside_line, count_line, repo
 
 use crate::delivery::Delivery;
 use crate::item::Aside;
+use gw_base::Bytes;
 use itoa::Buffer;
 use std::alloc::{AllocError, Global};
 
@@ -19,36 +20,36 @@ fn aside_text(aside: Aside) -> &'static str
 }
 
 // Adds the line of an item that is set aside.
-fn add_aside(report: &mut Vec<u8>, file: &str, item: u64, aside: Aside) -> Result<(), AllocError>
-    ensures { OnOk result (report.new.items ≡ report.old.items ++ aside_line file.now (item, aside)) }
+fn add_aside(report: &mut Bytes, file: &str, item: u64, aside: Aside) -> Result<(), AllocError>
+    ensures { OnOk result (report.new ≡ report.old ++ aside_line file.now (item, aside)) }
 {
     let mut digits = Buffer::new();
-    report.extend_from_slice(file.as_bytes())?;
-    report.extend_from_slice(b" aside ")?;
-    report.extend_from_slice(digits.format(item).as_bytes())?;
-    report.extend_from_slice(b" ")?;
-    report.extend_from_slice(aside_text(aside).as_bytes())?;
-    report.extend_from_slice(b"\n")
+    report.extend(file.as_bytes())?;
+    report.extend(b" aside ")?;
+    report.extend(digits.format(item).as_bytes())?;
+    report.extend(b" ")?;
+    report.extend(aside_text(aside).as_bytes())?;
+    report.extend(b"\n")
 }
 
 // Adds the line of counts.
-fn add_counts(report: &mut Vec<u8>, file: &str, taken: u64, aside: u64) -> Result<(), AllocError>
-    ensures { OnOk result (report.new.items ≡ report.old.items ++ count_line file.now taken aside) }
+fn add_counts(report: &mut Bytes, file: &str, taken: u64, aside: u64) -> Result<(), AllocError>
+    ensures { OnOk result (report.new ≡ report.old ++ count_line file.now taken aside) }
 {
     let mut digits = Buffer::new();
-    report.extend_from_slice(file.as_bytes())?;
-    report.extend_from_slice(b" taken ")?;
-    report.extend_from_slice(digits.format(taken).as_bytes())?;
-    report.extend_from_slice(b" passed 0 aside ")?;
-    report.extend_from_slice(digits.format(aside).as_bytes())?;
-    report.extend_from_slice(b"\n")
+    report.extend(file.as_bytes())?;
+    report.extend(b" taken ")?;
+    report.extend(digits.format(taken).as_bytes())?;
+    report.extend(b" passed 0 aside ")?;
+    report.extend(digits.format(aside).as_bytes())?;
+    report.extend(b"\n")
 }
 
 /// The lines `FILE aside I FAULT` of each item set aside, and `FILE taken T passed P aside N`.
-pub fn report(alloc: Global, file: &str, delivery: &Delivery) -> Result<Vec<u8>, AllocError>
-    ensures { IfOk result (λ report. report.items ≡ report_text file.now delivery.now.taken.items delivery.now.aside.items) }
+pub fn report(alloc: Global, file: &str, delivery: &Delivery) -> Result<Bytes, AllocError>
+    ensures { IfOk result (λ report. report ≡ report_text file.now delivery.now.taken delivery.now.aside) }
 {
-    let mut report = Vec::new(alloc);
+    let mut report = Bytes::new(alloc);
     for (item, aside) in delivery.aside.as_slice() {
         add_aside(&mut report, file, *item, *aside)?;
     }

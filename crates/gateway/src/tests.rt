@@ -16,7 +16,7 @@ use std::test::Fail;
 
 #[test]
 fn files_of_the_machine_are_read(rt: HostRuntime) {
-    let mut files = DirFiles::new(rt.alloc(), &rt);
+    let mut files = DirFiles::new(&rt);
     let mut into = Bytes::new(rt.alloc());
     assert_eq!(rt; files.read_file("/dev/null", 0, &mut into), Ok(Got::Whole));
     assert_eq!(rt;

@@ -12,6 +12,7 @@ mod memory_files;
 mod memory_sink;
 mod messages;
 mod moment;
+mod required;
 mod sink;
 #[cfg(test)]
 mod tests;
@@ -32,6 +33,7 @@ pub use messages::{
     TripUpdate,
 };
 pub use moment::Moment;
+pub use required::Required;
 pub use sink::{Failed, Sink, put_all};
 pub use text::Text;
 pub use wire_kind::WireKind;

@@ -1,7 +1,8 @@
 //! A list of values, and bytes as a list of them. Contracts see the list alone, and not its room.
-ghost use Rattle.std.specs.Prelude.{◌≡◌, ◌==◌, ◌++◌, ◌∷◌, [], length, OnOk, OnErr, IfOk};
+ghost use Rattle.std.specs.Prelude.{◌≡◌, ◌==◌, ◌++◌, ◌∷◌, [], ℕ, List as Values, take, length, OnOk, OnErr, IfOk};
 
 use std::alloc::{AllocError, Global};
+use std::io::{self, Read};
 use std::marker::Model;
 
 /// A list of values. A contract sees it as the list of them.
@@ -102,5 +103,20 @@ impl List<u8> {
         ensures kept { OnErr result (self.new ≡ self.old) }
     {
         self.items.extend_from_slice(bytes)
+    }
+
+    /// Leaves the first `count` bytes, and keeps the room.
+    pub fn truncate(&mut self, count: usize)
+        ensures front { self.new ≡ take count self.old }
+    {
+        self.items.truncate(count);
+    }
+
+    /// Reads to the end of what the reader gives, behind the bytes that are there: after a fault too they
+    /// are still there. Answers how many bytes came.
+    pub fn read_to_end<R: Read>(&mut self, reader: &mut R) -> io::Result<usize>
+        ensures behind { (bytes : Values ℕ) × (self.new ≡ self.old ++ bytes) }
+    {
+        reader.read_to_end(&mut self.items)
     }
 }

@@ -1,10 +1,11 @@
 -- A zone's clock, by `jiff`'s readings of POSIX rules and of TZif tables (RFC 9636).
-use Rattle.std.specs.Prelude.{◌≡◌, ◌⊎◌, ℕ, ℤ, List, Ok, Err}
+use Rattle.std.specs.Prelude.{◌≡◌, ◌⊎◌, ℕ, ℤ, List, None, Ok, Err}
 use Rattle.jiff_core.specs.declared.civil.datetime.DateTime.{DateTime}
 use Rattle.jiff_core.specs.declared.error.TzifFault.{TzifFault}
 use Rattle.jiff_tz.specs.Ambiguous.{compatible_offset}
 use Rattle.jiff_tz.specs.Tzif as Tzif
 use Rattle.jiff_tz.specs.Tzif.{HasBadRule, RuleAgrees, tzif_view}
+use Rattle.jiff_tz.specs.PosixReader.{read_whole}
 use Rattle.jiff_tz.specs.TzifReader.{read_tzif}
 use Rattle.jiff_tz.specs.Zone as Zone
 use Rattle.jiff.specs.Placed.{IsPosixZone}
@@ -26,6 +27,10 @@ local_offset (Table table) shown = (compatible_offset (Tzif.ambiguous_at table s
 abbrev pub IsRuleZone : List ℕ → Rules → Type 0
 IsRuleZone text (Rule zone) = IsPosixZone text (plain_zone zone)
 IsRuleZone text (Table table) = ⊥
+
+-- `jiff` reads no rule from the text
+abbrev pub IsBadRule : List ℕ → Type 0
+IsBadRule text = read_whole text ≡ None
 
 -- the zone is what `jiff` reads from the bytes of a TZif file, whose footer agrees with its table
 abbrev pub IsTableZone : List ℕ → Rules → Type 0

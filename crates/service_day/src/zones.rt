@@ -46,13 +46,14 @@ pub enum ZoneFault {
 }
 
 impl Zone {
-    ghost use Rattle.service_day.specs.Zones.{IsRuleZone, IsTableZone, IsBadTable, offset_at, local_offset};
+    ghost use Rattle.service_day.specs.Zones.{IsRuleZone, IsBadRule, IsTableZone, IsBadTable, offset_at, local_offset};
 
     /// The zone of a POSIX rule such as `CET-1CEST,M3.5.0,M10.5.0/3`. Refused exactly where `jiff`
     /// reads no rule from the text. Takes no memory.
     pub fn from_rule(text: &str) -> Result<Zone, ZoneFault>
         ensures succeeds { IsOk result ↔ IsSome (read_whole text.now) }
         ensures value { IfOk result (IsRuleZone text.now) }
+        ensures refused { IsErr result → IsBadRule text.now }
         ensures err { IfErr result (λ fault. fault ≡ ZoneFault.Refused) }
     {
         match TimeZone::posix(text) {

@@ -51,6 +51,11 @@ pub length-varint_below : (k number : ℕ) → k < 10 → number < 128 ^ suc k �
 unfolding varint
 length-varint_below k number lt below = (length-seven_bits_each k 10 number (omega arith) below).1
 
+-- a number below 128 is one byte
+pub varint-small : (number : ℕ) → number < 128 → varint number ≡ number ∷ []
+unfolding varint
+varint-small number below = last_byte 9 number below
+
 -- the length of a spelling, by ranges
 pub length-varint_1 : (number : ℕ) → number < 128 → length (varint number) ≡ 1
 unfolding varint

@@ -48,7 +48,7 @@ abbrev pub BeginsUnsound : List ℕ → Type 0
 BeginsUnsound bytes =
     (tag : List ℕ) × (rest : List ℕ) × (value : ℕ) × (bytes ≡ tag ++ rest) × IsVarint tag value × ¬ IsSoundTag value
 
--- the end of a group that closes none of these open groups
+-- the end of a group that doesn't close the innermost of these open groups, or that comes while none is open
 abbrev pub BeginsEnd : List ℕ → List ℕ → Type 0
 BeginsEnd groups bytes =
     (end : List ℕ) × (rest : List ℕ) × (number : ℕ) × (bytes ≡ end ++ rest) × IsItem (Ends number) end × (open_after_end groups number ≡ None)

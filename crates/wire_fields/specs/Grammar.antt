@@ -143,3 +143,7 @@ pub record IsNext (bytes : List ℕ) (at next : ℕ) (field : WireField) : Type 
 abbrev pub Continues : List ℕ → ℕ → ℕ → WireField → Type 0
 Continues bytes at next field =
     (fields : List WireField) → AreFields (take at bytes) fields → AreFields (take next bytes) (fields ++ field ∷ [])
+
+-- the bytes begin with a spelling of the number, and the rest stands behind it
+abbrev pub BeginsNumber : List ℕ → ℕ → List ℕ → Type 0
+BeginsNumber bytes value rest = (spelling : List ℕ) × (bytes ≡ spelling ++ rest) × IsVarint spelling value

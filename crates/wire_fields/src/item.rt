@@ -28,7 +28,7 @@ impl<'a> Item<'a> {
 /// The number at the front, of any spelling, with the bytes behind it (protobuf encoding, "Base 128 Varints").
 #[tactic(auto, unfolding(crate::specs::Reading::varint_at, crate::specs::Reading::chain_at))]
 #[inline(always)]
-fn read_varint(bytes: &[u8]) -> Result<(u64, &[u8]), WireKind>
+pub fn read_varint(bytes: &[u8]) -> Result<(u64, &[u8]), WireKind>
     ensures { Gives (λ x. (x.0, x.1.now)) result (varint_at bytes.now) }
 {
     match bytes {

@@ -18,7 +18,7 @@ pub use laws::{
     fields_are_one, fields_join, fields_or_a_break, the_break_is_one, written_fields_are_spellings,
 };
 pub use listing::list_fields;
-pub use reading::next_field;
+pub use reading::{first_number, next_field};
 pub use varint::{Varint, spell_varint, varint_len};
 pub use writing::{put_field_bytes, put_field_varint, put_varint};
 

@@ -1,6 +1,6 @@
 //! The fields of a message, one after the other, as `specs/Grammar.antt` and `specs/Breaks.antt` define them.
-ghost use Rattle.std.specs.Prelude.{◌≡◌, List, ◌≤◌, ◌↔◌, length, take, Ok, None, IfOk, IfErr, IfSome, IsErr};
-ghost use Rattle.wire_fields.specs.Grammar.{WireField, AreFields, BeginsField, IsNext, Continues};
+ghost use Rattle.std.specs.Prelude.{◌≡◌, ℕ, List, ◌≤◌, ◌↔◌, length, take, Ok, None, IfOk, IfErr, IfSome, IfNone, IsErr};
+ghost use Rattle.wire_fields.specs.Grammar.{WireField, AreFields, BeginsField, BeginsNumber, IsNext, Continues};
 ghost use Rattle.wire_fields.specs.Breaks.{IsBreak, IsBroken};
 ghost use Rattle.wire_fields.specs.Reading.{EndsGroup, BreaksInGroup};
 ghost use Rattle.wire_fields.specs.Seen.{field_of};
@@ -8,7 +8,7 @@ ghost use Rattle.gw_base.specs.declared.wire_kind.WireKind.{WireKind};
 
 use crate::field::{Field, Value, WireFault};
 use crate::groups::OpenGroups;
-use crate::item::{Item, read_item};
+use crate::item::{Item, read_item, read_varint};
 use gw_base::WireKind;
 
 /// The bytes behind the end of a group of this number, whose start stands before these bytes.
@@ -61,5 +61,17 @@ pub fn next_field<'a>(bytes: &'a [u8], at: usize) -> Result<Option<(Field<'a>, u
             at: at as u64,
             kind,
         }),
+    }
+}
+
+/// The number with which the bytes begin, of any spelling, and the bytes behind it (protobuf encoding, "Base 128
+/// Varints"). None exactly where they begin with none. Takes no memory.
+pub fn first_number(bytes: &[u8]) -> Option<(u64, &[u8])>
+    ensures found { IfSome result (λ x. BeginsNumber bytes.now x.0 x.1.now) }
+    ensures none { IfNone result ((value : ℕ) (rest : List ℕ) → ¬ BeginsNumber bytes.now value rest) }
+{
+    match read_varint(bytes) {
+        Ok(found) => Some(found),
+        Err(_) => None,
     }
 }

@@ -12,6 +12,10 @@ pub fn put_varint(buf: &mut Buf, value: u64)
     ensures bytes { buf.new.bytes ≡ buf.old.bytes ++ varint value }
     ensures spare { buf.new.spare ≡ buf.old.spare - length (varint value) }
 {
+    if value < 128 {
+        buf.put(value as u8);
+        return;
+    }
     let text = spell_varint(value);
     buf.put_slice(text.as_slice());
 }

@@ -15,7 +15,7 @@ use wire_fields::{Field, Value};
 const WORD: u64 = 4_294_967_296;
 
 // The number that a field holds, if the field has that field number.
-fn number_in(field: &Field<'_>, number: u32) -> Option<u64>
+pub fn number_in(field: &Field<'_>, number: u32) -> Option<u64>
     ensures { result ≡ (if field.now.number == number then number_in (payload_of field.now.value) else None) }
 {
     match field.value {
@@ -25,7 +25,7 @@ fn number_in(field: &Field<'_>, number: u32) -> Option<u64>
 }
 
 // The bytes that a field holds, if the field has that field number.
-fn body_in<'a>(field: &Field<'a>, number: u32) -> Option<&'a [u8]>
+pub fn body_in<'a>(field: &Field<'a>, number: u32) -> Option<&'a [u8]>
     ensures { option_map (λ body. body.now) result ≡ (if field.now.number == number then body_in (payload_of field.now.value) else None) }
 {
     match field.value {
@@ -126,7 +126,7 @@ fn last_text<'a>(bodies: &[&'a [u8]]) -> Result<Option<&'a str>, Utf8Error>
 }
 
 // A copy of a text that may be missing.
-fn copied(alloc: Global, text: Option<&str>) -> Result<Option<Text>, AllocError>
+pub fn copied(alloc: Global, text: Option<&str>) -> Result<Option<Text>, AllocError>
     ensures { IfOk result (λ copy. copy ≡ option_map (λ found. found.now) text.entry) }
 {
     match text {

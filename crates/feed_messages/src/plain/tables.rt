@@ -162,9 +162,9 @@ impl Message for Entity {
 // The header of a feed (GTFS Realtime, FeedHeader).
 #[derive(Drop)]
 pub struct Header {
-    version: Text,
-    incrementality: i32,
-    timestamp: Option<u64>,
+    pub version: Text,
+    pub incrementality: i32,
+    pub timestamp: Option<u64>,
 }
 
 impl Message for Header {

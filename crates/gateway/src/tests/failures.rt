@@ -1,39 +1,47 @@
 //! Devices that fail: what a run then leaves.
-use super::runs::{
-    Given, JOURNEY, ONE_ENTITY, ONE_TAKEN, TRIPS, WORDS, assert_run, json, run_given, sink,
-    with_trips,
-};
+use super::runs::{Given, ONE_ENTITY, ONE_TAKEN, Other, WORDS, assert_run, run_given, sink};
 use std::alloc::Global;
 use std::process::Abort;
 
 const FAILED: &str = "gateway: failed\n";
 
+// The number of the read of the delivery, which comes behind those of the folder.
+const DELIVERY: u64 = 2;
+
 // Reads that fail, each list with what the run leaves.
 static READS: [(&str, &[u64], u8, &[u8], &str); 5] = [
     ("the folder fails", &[1], 74, b"", FAILED),
-    ("the delivery fails", &[2], 74, b"", FAILED),
-    ("both fail", &[1, 2], 74, b"", FAILED),
-    ("a later one fails", &[3], 0, ONE_ENTITY, ONE_TAKEN),
+    ("the delivery fails", &[DELIVERY], 74, b"", FAILED),
+    ("both fail", &[1, DELIVERY], 74, b"", FAILED),
+    (
+        "a later one fails",
+        &[DELIVERY + 1],
+        0,
+        ONE_ENTITY,
+        ONE_TAKEN,
+    ),
     ("none fails", &[], 0, ONE_ENTITY, ONE_TAKEN),
 ];
 
-// A run on the journey of T1 of which these reads fail leaves this.
-fn assert_reads(
-    rt: &impl Abort,
-    alloc: Global,
-    name: &str,
-    fails: &[u64],
-    expected: (u8, &[u8], &str),
-) {
-    let delivery = json(alloc, JOURNEY).expect(rt, "memory");
-    let given = with_trips(delivery.as_str().as_bytes(), fails);
-    assert_run(rt, alloc, name, &given, expected);
+// The accepted words over these files and failing reads.
+fn given<'a>(others: &'a [Other<'a>], fails: &'a [u64]) -> Given<'a> {
+    Given {
+        words: WORDS,
+        others,
+        fails,
+    }
 }
 
 #[test]
 fn a_failed_read_ends_a_run_with_nothing_written(rt: HostRuntime) {
     for (name, fails, status, out, err) in READS.iter() {
-        assert_reads(&rt, rt.alloc(), name, fails, (*status, out, err));
+        assert_run(
+            &rt,
+            rt.alloc(),
+            name,
+            &given(&[], fails),
+            (*status, out, err),
+        );
     }
 }
 
@@ -54,7 +62,7 @@ static SINKS: [(&str, Bounds, Bounds, u8, bool, &str); 10] = [
         FAILED,
     ),
     (
-        "the feed has too little room",
+        "the feed has little room",
         (55, &[]),
         (100, &[]),
         74,
@@ -90,8 +98,8 @@ static SINKS: [(&str, Bounds, Bounds, u8, bool, &str); 10] = [
     ("nothing has room", (0, &[]), (0, &[]), 74, false, ""),
 ];
 
-// The run on the journey of T1 over these sinks ends with that status, all of the feed or only a front
-// of it, and that text on standard error.
+// A run over these sinks ends with that status, all of the feed or only a front of it, and that text on
+// standard error.
 fn assert_written(
     rt: &impl Abort,
     alloc: Global,
@@ -99,11 +107,9 @@ fn assert_written(
     (for_out, for_err): (Bounds, Bounds),
     (status, is_whole, text): (u8, bool, &str),
 ) {
-    let delivery = json(alloc, JOURNEY).expect(rt, "memory");
     let mut out = sink(alloc, for_out.0, for_out.1).expect(rt, "memory");
     let mut err = sink(alloc, for_err.0, for_err.1).expect(rt, "memory");
-    let given = with_trips(delivery.as_str().as_bytes(), &[]);
-    let ended = run_given(alloc, &given, &mut out, &mut err).expect(rt, "memory");
+    let ended = run_given(alloc, &given(&[], &[]), &mut out, &mut err).expect(rt, "memory");
     assert_eq!(rt; err.written(), text.as_bytes(), "standard error, {name}");
     assert_eq!(rt; ended, status, "status, {name}");
     assert!(rt;
@@ -125,74 +131,57 @@ fn a_failed_write_is_a_failure(rt: HostRuntime) {
     }
 }
 
-// What a run is given that is refused: the words, the trips, the delivery and the reads that fail; and
-// the status and the text of the refusal.
-type Refusal = (
-    &'static str,
-    Option<&'static [u8]>,
-    Option<&'static [u8]>,
-    &'static [u64],
-    u8,
-    &'static str,
-);
-
-static REFUSALS: [Refusal; 8] = [
-    ("to-siri", None, None, &[], 2, "gateway: bad word 0\n"),
-    (WORDS, None, None, &[], 66, "gateway: Missing g/trips.txt\n"),
+// What a run is given that is refused, with the status and the text of the refusal.
+static REFUSALS: [(&str, &[Other], &[u64], u8, &str); 6] = [
+    ("to-siri", &[], &[], 2, "gateway: bad word 0\n"),
     (
         WORDS,
-        Some(b""),
-        None,
+        &[("g/trips.txt", None)],
         &[],
-        65,
-        "gateway: BadTable trips.txt\n",
+        66,
+        "gateway: Missing g/trips.txt\n",
     ),
+    (WORDS, &[("f", None)], &[], 66, "gateway: Missing f\n"),
     (
         WORDS,
-        Some(b""),
-        None,
-        &[2],
-        65,
-        "gateway: BadTable trips.txt\n",
-    ),
-    (WORDS, Some(TRIPS), None, &[], 66, "gateway: Missing f\n"),
-    (
-        WORDS,
-        Some(TRIPS),
-        Some(b"{}"),
+        &[("f", Some(b"{}"))],
         &[],
         65,
         "gateway: f BadDelivery\n",
     ),
-    (WORDS, Some(TRIPS), Some(b"{}"), &[2], 74, FAILED),
-    (WORDS, None, None, &[1], 74, FAILED),
+    (WORDS, &[("f", Some(b"{}"))], &[DELIVERY], 74, FAILED),
+    (WORDS, &[], &[1], 74, FAILED),
 ];
 
 // A refusal with these bounds of standard error keeps its status, and standard error gets a front of its
 // text.
-fn assert_front(rt: &impl Abort, alloc: Global, refusal: &Refusal, room: u64, fails: &[u64]) {
-    let (words, trips, delivery, reads, status, fault) = *refusal;
-    let given = Given {
-        words,
-        trips,
-        delivery,
-        fails: reads,
-    };
+fn assert_front(
+    rt: &impl Abort,
+    alloc: Global,
+    refused: &Given,
+    (status, fault): (u8, &str),
+    (room, fails): (u64, &[u64]),
+) {
     let mut out = sink(alloc, 0, &[]).expect(rt, "memory");
     let mut err = sink(alloc, room, fails).expect(rt, "memory");
-    let ended = run_given(alloc, &given, &mut out, &mut err).expect(rt, "memory");
+    let ended = run_given(alloc, refused, &mut out, &mut err).expect(rt, "memory");
     assert_eq!(rt; ended, status, "{fault}");
     assert!(rt; fault.as_bytes().starts_with(err.written()), "{fault}");
 }
 
 #[test]
 fn a_refusal_keeps_its_status_where_its_text_fails(rt: HostRuntime) {
-    for refusal in REFUSALS.iter() {
+    for (words, others, fails, status, fault) in REFUSALS.iter() {
+        let refused = Given {
+            words,
+            others,
+            fails,
+        };
         for room in 0..40 {
-            assert_front(&rt, rt.alloc(), refusal, room, &[]);
+            assert_front(&rt, rt.alloc(), &refused, (*status, fault), (room, &[]));
         }
-        for fails in 1..8 {
-            assert_front(&rt, rt.alloc(), refusal, 100, &[fails]);
+        for write in 1..8 {
+            assert_front(&rt, rt.alloc(), &refused, (*status, fault), (100, &[write]));
         }
     }
 }

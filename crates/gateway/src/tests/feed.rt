@@ -3,7 +3,7 @@ use super::entities::{
     L1_FIRST, L1_SECOND, LONG_FIRST, T1_FIRST, T1_SECOND, T2_SECOND, ZURICH_FIRST, assert_feed,
     feed_of,
 };
-use super::runs::{Given, JOURNEY, assert_run, json, run_given, sink, with_trips};
+use super::runs::{Given, WORDS, assert_run, json, run_given, sink};
 use feed_messages::plain_feed;
 use gw_base::{Entity, MemorySink, Text, TripUpdate};
 use std::alloc::{AllocError, Global};
@@ -24,7 +24,9 @@ const MIXED_REPORT: &str =
 
 // Trips of other ids, with their journeys.
 const OTHER_TRIPS: &[u8] =
-    b"trip_id\nZ\xc3\xbcrich\na-trip-whose-entity-has-more-than-127-bytes-0123\n";
+    b"route_id,service_id,trip_id\nR1,D,Z\xc3\xbcrich\nR1,D,a-trip-whose-entity-has-more-than-127-bytes-0123\n";
+
+const NO_STOP_TIMES: &[u8] = b"trip_id,arrival_time,departure_time,stop_id,stop_sequence\n";
 
 const OTHER_JOURNEYS: &str =
     "$<{$R,$F:{$D:'2024-05-01',$I:'a-trip-whose-entity-has-more-than-127-bytes-0123'},$C},\
@@ -40,9 +42,15 @@ fn journeys_are_written_by_day_and_then_trip_number(rt: HostRuntime) {
 fn long_ids_and_ids_of_any_letters_are_written(rt: HostRuntime) {
     let feed = feed_of(rt.alloc(), &[ZURICH_FIRST, LONG_FIRST]).expect(&rt, "memory");
     let delivery = json(rt.alloc(), OTHER_JOURNEYS).expect(&rt, "memory");
+    let others = [
+        ("g/trips.txt", Some(OTHER_TRIPS)),
+        ("g/stop_times.txt", Some(NO_STOP_TIMES)),
+        ("f", Some(delivery.as_str().as_bytes())),
+    ];
     let given = Given {
-        trips: Some(OTHER_TRIPS),
-        ..with_trips(delivery.as_str().as_bytes(), &[])
+        words: WORDS,
+        others: &others,
+        fails: &[],
     };
     let expected = (0, feed.as_slice(), "f taken 2 passed 0 aside 0\n");
     assert_run(&rt, rt.alloc(), "other ids", &given, expected);
@@ -50,8 +58,11 @@ fn long_ids_and_ids_of_any_letters_are_written(rt: HostRuntime) {
 
 // Standard output of a run on the journey of T1.
 fn written(alloc: Global) -> Result<MemorySink, AllocError> {
-    let delivery = json(alloc, JOURNEY)?;
-    let given = with_trips(delivery.as_str().as_bytes(), &[]);
+    let given = Given {
+        words: WORDS,
+        others: &[],
+        fails: &[],
+    };
     let mut out = sink(alloc, 100, &[])?;
     let mut err = sink(alloc, 100, &[])?;
     run_given(alloc, &given, &mut out, &mut err)?;
@@ -64,7 +75,7 @@ fn assert_text(rt: &impl Abort, text: &Option<Text>, expected: &str) {
     assert_eq!(rt; text.as_str(), expected);
 }
 
-// The update says that the trip is cancelled on its day, as was recorded then.
+// The update says that the trip is cancelled on its day, and when that was recorded.
 fn assert_cancelled(rt: &impl Abort, update: &TripUpdate) {
     assert_text(rt, &update.trip.trip_id, "T1");
     assert_text(rt, &update.trip.start_date, "20240501");

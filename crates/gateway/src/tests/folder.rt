@@ -1,148 +1,138 @@
-//! The folder's `trips.txt`: tables that are taken, and tables that are refused.
-use super::runs::{
-    Given, NO_ENTITY, ONE_ENTITY, ONE_TAKEN, TRIPS, WORDS, assert_run, assert_trips,
-};
-use std::alloc::{AllocError, Global};
+//! The folder in a run: a fault of it ends the run with its text, before anything of the delivery is told.
+use super::runs::{Given, ONE_ENTITY, ONE_TAKEN, Other, assert_other, assert_run};
+use std::alloc::Global;
+use std::process::Abort;
 
-const BAD_TABLE: &str = "gateway: BadTable trips.txt\n";
-
-// Tables with the trip T1.
-static GOOD: [(&str, &[u8]); 17] = [
-    ("one trip", b"trip_id\nT1\n"),
-    ("no line feed at the end", b"trip_id\nT1"),
-    ("carriage returns", b"trip_id\r\nT2\r\nT1\r\n"),
-    ("empty lines", b"\ntrip_id\n\nT1\n\n"),
-    ("columns on both sides", b"x,trip_id,y\n1,T1,2\n"),
+// A file in place of the sample's, each with the status and the text of the run.
+static REFUSED: [(&str, Other, u8, &str); 5] = [
     (
-        "a field that is no text and isn't read",
-        b"x,trip_id\n\xff,T1\n",
-    ),
-    ("a name that is no text", b"\xff,trip_id\n1,T1\n"),
-    ("a quoted name and a quoted id", b"\"trip_id\"\n\"T1\"\n"),
-    (
-        "quoted fields with commas and quotes",
-        b"x,trip_id\n\"1,2\",T1\n\"3\"\"4\",\"T,2\"\n",
-    ),
-    ("a byte order mark", b"\xef\xbb\xbftrip_id\nT1\n"),
-    ("blanks round a name and an id", b"x, \ttrip_id \n1, T1\t\n"),
-    ("a short row with an id", b"trip_id,x\nT1\n"),
-    ("a long row", b"x,trip_id\n1,T1,2,3\n"),
-    (
-        "a name that stands there twice",
-        b"trip_id,trip_id\nT1,T2\nT2,T2\n",
-    ),
-    (
-        "ids of two cases, and one with a space",
-        b"trip_id\nt1\nT 1\nT1\n",
-    ),
-    ("an id of other letters", b"trip_id\nT1\nZ\xc3\xbcrich\n"),
-    ("the usual trips", TRIPS),
-];
-
-// Tables that are refused.
-static BAD: [(&str, &[u8]); 15] = [
-    ("no byte", b""),
-    ("no row", b"\n\n"),
-    ("no row of names", b"T1\n"),
-    ("no column of that name", b"route_id,service_id\nR1,T1\n"),
-    ("a name in another case", b"Trip_id\nT1\n"),
-    (
-        "two byte order marks",
-        b"\xef\xbb\xbf\xef\xbb\xbftrip_id\nT1\n",
-    ),
-    ("an empty id", b"trip_id,x\nT1,1\n,1\n"),
-    ("an id of blanks", b"trip_id,x\nT1,1\n \t ,1\n"),
-    ("an empty id in quotes", b"trip_id\nT1\n\"\"\n"),
-    ("a short row without an id", b"x,trip_id\n1,T1\n2\n"),
-    ("an id twice", b"trip_id\nT1\nT2\nT1\n"),
-    ("an id twice, once with blanks", b"trip_id\nT1\n T1 \n"),
-    ("an id twice, once in quotes", b"trip_id\nT1\n\"T1\"\n"),
-    ("an id that is no text", b"trip_id\nT1\nA\xff\n"),
-    (
-        "an id with half a surrogate pair",
-        b"trip_id\nT1\n\xed\xa0\x80\n",
-    ),
-];
-
-#[test]
-fn good_tables_are_taken(rt: HostRuntime) {
-    for (name, trips) in GOOD.iter() {
-        assert_trips(&rt, rt.alloc(), name, trips, (0, ONE_ENTITY, ONE_TAKEN));
-    }
-}
-
-#[test]
-fn bad_tables_are_refused(rt: HostRuntime) {
-    for (name, trips) in BAD.iter() {
-        assert_trips(&rt, rt.alloc(), name, trips, (65, b"", BAD_TABLE));
-    }
-}
-
-#[test]
-fn a_table_of_no_trips_is_taken(rt: HostRuntime) {
-    let report = "f aside 0 UnknownJourney\nf taken 0 passed 0 aside 1\n";
-    assert_trips(
-        &rt,
-        rt.alloc(),
         "no trips",
-        b"trip_id\n",
-        (0, NO_ENTITY, report),
-    );
-}
-
-// A table with T1 and an id of so many bytes.
-fn long_table(alloc: Global, length: usize) -> Result<Vec<u8>, AllocError> {
-    let mut trips = Vec::from_slice(alloc, b"trip_id\nT1\n")?;
-    for _ in 0..length {
-        trips.push(b'a')?;
-    }
-    Ok(trips)
-}
+        ("g/trips.txt", None),
+        66,
+        "gateway: Missing g/trips.txt\n",
+    ),
+    (
+        "no byte",
+        ("g/trips.txt", Some(b"")),
+        65,
+        "gateway: BadTable trips.txt\n",
+    ),
+    (
+        "no column of trips",
+        ("g/trips.txt", Some(b"route_id,service_id\nR1,D\n")),
+        65,
+        "gateway: BadTable trips.txt\n",
+    ),
+    (
+        "a trip twice",
+        (
+            "g/trips.txt",
+            Some(b"route_id,service_id,trip_id\nR1,D,T1\nR1,D,T1\n"),
+        ),
+        65,
+        "gateway: BadTable trips.txt\n",
+    ),
+    ("no delivery", ("f", None), 66, "gateway: Missing f\n"),
+];
 
 #[test]
-fn an_id_has_at_most_200_bytes(rt: HostRuntime) {
-    let longest = long_table(rt.alloc(), 200).expect(&rt, "memory");
-    assert_trips(
-        &rt,
-        rt.alloc(),
-        "the longest id",
-        longest.as_slice(),
-        (0, ONE_ENTITY, ONE_TAKEN),
-    );
-    let longer = long_table(rt.alloc(), 201).expect(&rt, "memory");
-    assert_trips(
-        &rt,
-        rt.alloc(),
-        "a longer id",
-        longer.as_slice(),
-        (65, b"", BAD_TABLE),
-    );
+fn a_fault_of_the_files_ends_a_run_with_its_text(rt: HostRuntime) {
+    for (name, other, status, err) in REFUSED.iter() {
+        assert_other(&rt, rt.alloc(), name, *other, (*status, b"", err));
+    }
 }
 
-// Folders and deliveries of which something is wrong: the folder comes first.
-static ORDER: [(Option<&[u8]>, Option<&[u8]>, u8, &str); 6] = [
-    (None, None, 66, "gateway: Missing g/trips.txt\n"),
-    (None, Some(b"{}"), 66, "gateway: Missing g/trips.txt\n"),
-    (Some(b""), None, 65, "gateway: BadTable trips.txt\n"),
-    (Some(b""), Some(b"{}"), 65, "gateway: BadTable trips.txt\n"),
-    (Some(b"trip_id\n"), None, 66, "gateway: Missing f\n"),
+// Spellings of trips.txt that say the same.
+static SAME: [(&str, &[u8]); 4] = [
     (
-        Some(b"trip_id\n"),
-        Some(b"{}"),
-        65,
-        "gateway: f BadDelivery\n",
+        "carriage returns and no line end",
+        b"route_id,service_id,trip_id\r\nR1,D,T1",
+    ),
+    (
+        "a byte order mark",
+        b"\xef\xbb\xbfroute_id,service_id,trip_id\nR1,D,T1\n",
+    ),
+    (
+        "quotes and blanks",
+        b"\"route_id\", service_id,\ttrip_id\nR1,D,\" T1 \"\n",
+    ),
+    (
+        "another order, a further column and a long row",
+        b"trip_id,x,service_id,route_id\nT1,\"1,\n2\",D,R1,3\n",
     ),
 ];
 
 #[test]
-fn the_folder_comes_before_the_delivery(rt: HostRuntime) {
-    for (trips, delivery, status, err) in ORDER.iter() {
-        let given = Given {
-            words: WORDS,
-            trips: *trips,
-            delivery: *delivery,
-            fails: &[],
-        };
-        assert_run(&rt, rt.alloc(), err, &given, (*status, b"", err));
+fn spellings_of_one_table_say_the_same(rt: HostRuntime) {
+    for (name, trips) in SAME.iter() {
+        let other = ("g/trips.txt", Some(*trips));
+        assert_other(&rt, rt.alloc(), name, other, (0, ONE_ENTITY, ONE_TAKEN));
+    }
+}
+
+// A zone in the words, other files, and the status and the text of the run: the zone comes behind the folder and before
+// the delivery.
+static ZONES: [(&str, &[Other], u8, &str); 7] = [
+    (
+        "--zone-rule ???",
+        &[("f", None)],
+        65,
+        "gateway: zone refused\n",
+    ),
+    (
+        "--zone-rule ???",
+        &[("g/trips.txt", None)],
+        66,
+        "gateway: Missing g/trips.txt\n",
+    ),
+    (
+        "--zone-rule UTC0",
+        &[("f", None)],
+        66,
+        "gateway: Missing f\n",
+    ),
+    ("--zone-file z", &[("f", None)], 66, "gateway: Missing z\n"),
+    (
+        "--zone-file z",
+        &[("z", Some(b"\0")), ("f", None)],
+        65,
+        "gateway: zone refused\n",
+    ),
+    (
+        "--zone-file z",
+        &[("z", Some(b"")), ("g/trips.txt", None)],
+        66,
+        "gateway: Missing g/trips.txt\n",
+    ),
+    (
+        "--zone-file z",
+        &[("z", Some(UTC)), ("f", None)],
+        66,
+        "gateway: Missing f\n",
+    ),
+];
+
+// The TZif file of UTC (RFC 9636, version 2, without transitions).
+const UTC: &[u8] =
+    b"TZif2\0\0\0\0\0\0\0\0\0\0\0\0\0\0\0\0\0\0\0\0\0\0\0\0\0\0\0\0\0\0\0\0\0\0\x01\0\0\0\x04\0\0\0\0\0\0UTC\0TZif2\0\0\0\0\0\0\0\0\0\0\0\0\0\0\0\0\0\0\0\0\0\0\0\0\0\0\0\0\0\0\0\0\0\0\x01\0\0\0\x04\0\0\0\0\0\0UTC\0\nUTC0\n";
+
+// The run of the words with that zone.
+fn assert_zone(rt: &impl Abort, alloc: Global, zone: &str, others: &[Other], ends: (u8, &str)) {
+    let words = format!(in alloc;
+        "to-gtfsrt --gtfs g {zone} --from 2024-05-01 --days 2 --at 2024-05-01T06:00:00Z --et f"
+    );
+    let words = words.expect(rt, "memory");
+    let given = Given {
+        words: words.as_str(),
+        others,
+        fails: &[],
+    };
+    assert_run(rt, alloc, zone, &given, (ends.0, b"", ends.1));
+}
+
+#[test]
+fn the_zone_comes_behind_the_folder_and_before_the_delivery(rt: HostRuntime) {
+    for (zone, others, status, err) in ZONES.iter() {
+        assert_zone(&rt, rt.alloc(), zone, others, (*status, err));
     }
 }

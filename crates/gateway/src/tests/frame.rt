@@ -1,7 +1,5 @@
 //! The delivery's file: frames that are read, and bodies that are refused.
-use super::runs::{
-    JOURNEY, NO_ENTITY, ONE_ENTITY, ONE_TAKEN, assert_delivery, assert_run, json, with_trips,
-};
+use super::runs::{JOURNEY, NO_ENTITY, ONE_ENTITY, ONE_TAKEN, assert_delivery, assert_other, json};
 use std::alloc::{AllocError, Global};
 
 // The most bytes of a delivery.
@@ -107,13 +105,8 @@ fn a_body_of_no_frame_is_refused(rt: HostRuntime) {
 #[test]
 fn a_body_that_is_no_json_is_refused(rt: HostRuntime) {
     for (name, body) in NO_JSON.iter() {
-        assert_run(
-            &rt,
-            rt.alloc(),
-            name,
-            &with_trips(body, &[]),
-            (65, b"", BAD_DELIVERY),
-        );
+        let other = ("f", Some(*body));
+        assert_other(&rt, rt.alloc(), name, other, (65, b"", BAD_DELIVERY));
     }
 }
 
@@ -127,21 +120,21 @@ fn spaced(alloc: Global, length: usize) -> Result<Vec<u8>, AllocError> {
 #[test]
 fn a_delivery_has_at_most_16777216_bytes(rt: HostRuntime) {
     let longest = spaced(rt.alloc(), MOST).expect(&rt, "memory");
-    let given_longest = with_trips(longest.as_slice(), &[]);
-    assert_run(
+    let taken = (0, ONE_ENTITY, ONE_TAKEN);
+    assert_other(
         &rt,
         rt.alloc(),
         "the longest",
-        &given_longest,
-        (0, ONE_ENTITY, ONE_TAKEN),
+        ("f", Some(longest.as_slice())),
+        taken,
     );
     let longer = spaced(rt.alloc(), MOST + 1).expect(&rt, "memory");
-    let given_longer = with_trips(longer.as_slice(), &[]);
-    assert_run(
+    let refused = (65, b"".as_slice(), "gateway: TooLong f\n");
+    assert_other(
         &rt,
         rt.alloc(),
         "one longer",
-        &given_longer,
-        (65, b"", "gateway: TooLong f\n"),
+        ("f", Some(longer.as_slice())),
+        refused,
     );
 }

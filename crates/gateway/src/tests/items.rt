@@ -3,144 +3,134 @@ use super::entities::{
     T1_EARLIER, T1_FIRST, T1_NEWEST, T1_OLDEST, T1_SECOND, T2_FIRST, assert_feed,
 };
 use super::runs::{NO_ENTITY, ONE_TAKEN, assert_delivery};
-use std::alloc::Global;
+use std::alloc::{AllocError, Global};
 use std::process::Abort;
 
-// Items that are set aside, each with its fault. The letters are those of `json`.
-static ASIDE: [(&str, &str); 64] = [
-    // No object.
-    ("null", "NotYet"),
-    ("7", "NotYet"),
-    ("'T1'", "NotYet"),
-    ("[{$R,$1,$C}]", "NotYet"),
-    ("{}", "NotYet"),
-    // RecordedAtTime.
-    ("{$1,$C}", "NotYet"),
-    ("{'RecordedAtTime':null,$1,$C}", "NotYet"),
-    ("{'RecordedAtTime':1714543200,$1,$C}", "NotYet"),
-    ("{'RecordedAtTime':'',$1,$C}", "NotYet"),
-    (
-        "{'RecordedAtTime':'2024-05-01T08:00:00+02:00',$1,$C}",
-        "NotYet",
-    ),
-    ("{'RecordedAtTime':'2024-05-01T06:00:00',$1,$C}", "NotYet"),
-    (
-        "{'RecordedAtTime':'2024-05-01T06:00:00.5Z',$1,$C}",
-        "NotYet",
-    ),
-    ("{'RecordedAtTime':'2024-05-01T06:00:60Z',$1,$C}", "NotYet"),
-    ("{'RecordedAtTime':'2024-02-30T06:00:00Z',$1,$C}", "NotYet"),
-    ("{'RecordedAtTime':'1969-12-31T23:59:59Z',$1,$C}", "NotYet"),
-    (
-        "{'RecordedAtTime':['2024-05-01T06:00:00Z'],$1,$C}",
-        "NotYet",
-    ),
-    (
-        "{'RecordedAtTime':{'value':'2024-05-01T06:00:00Z'},$1,$C}",
-        "NotYet",
-    ),
-    ("{'recordedAtTime':'2024-05-01T06:00:00Z',$1,$C}", "NotYet"),
-    // FramedVehicleJourneyRef.
-    ("{$R,$C}", "NotYet"),
-    ("{$R,$F:null,$C}", "NotYet"),
-    ("{$R,$F:'T1',$C}", "NotYet"),
-    ("{$R,$F:[{$D:'2024-05-01',$I:'T1'}],$C}", "NotYet"),
-    ("{$R,$D:'2024-05-01',$I:'T1',$C}", "NotYet"),
-    // DataFrameRef.
-    ("{$R,$F:{$I:'T1'},$C}", "NotYet"),
-    ("{$R,$F:{$D:null,$I:'T1'},$C}", "NotYet"),
-    ("{$R,$F:{$D:20240501,$I:'T1'},$C}", "NotYet"),
-    ("{$R,$F:{$D:'20240501',$I:'T1'},$C}", "NotYet"),
-    ("{$R,$F:{$D:'2024-02-30',$I:'T1'},$C}", "NotYet"),
-    ("{$R,$F:{$D:'2024-05-01 ',$I:'T1'},$C}", "NotYet"),
-    ("{$R,$F:{$D:'',$I:'T1'},$C}", "NotYet"),
-    ("{$R,$F:{$D:{'value':'2024-05-01'},$I:'T1'},$C}", "NotYet"),
-    // DatedVehicleJourneyRef.
-    ("{$R,$F:{$D:'2024-05-01'},$C}", "NotYet"),
-    ("{$R,$F:{$D:'2024-05-01',$I:null},$C}", "NotYet"),
-    ("{$R,$F:{$D:'2024-05-01',$I:1},$C}", "NotYet"),
-    ("{$R,$F:{$D:'2024-05-01',$I:''},$C}", "NotYet"),
-    ("{$R,$F:{$D:'2024-05-01',$I:['T1']},$C}", "NotYet"),
-    // Cancellation.
-    ("{$R,$1}", "NotYet"),
-    ("{$R,$1,'Cancellation':false}", "NotYet"),
-    ("{$R,$1,'Cancellation':null}", "NotYet"),
-    ("{$R,$1,'Cancellation':'true'}", "NotYet"),
-    ("{$R,$1,'Cancellation':1}", "NotYet"),
-    ("{$R,$1,'Cancellation':[true]}", "NotYet"),
-    // ExtraJourney, of any value.
-    ("{$R,$1,$C,'ExtraJourney':true}", "NotYet"),
-    ("{$R,$1,$C,'ExtraJourney':false}", "NotYet"),
-    ("{$R,$1,$C,'ExtraJourney':null}", "NotYet"),
-    ("{'ExtraJourney':'',$R,$1,$C}", "NotYet"),
-    // The trip.
-    ("{$R,$F:{$D:'2024-05-01',$I:'NOPE'},$C}", "UnknownJourney"),
-    ("{$R,$F:{$D:'2024-05-01',$I:'t1'},$C}", "UnknownJourney"),
-    ("{$R,$F:{$D:'2024-05-01',$I:' T1'},$C}", "UnknownJourney"),
-    ("{$R,$F:{$D:'2024-05-01',$I:'T'},$C}", "UnknownJourney"),
-    // The day.
-    ("{$R,$F:{$D:'2024-04-30',$I:'T1'},$C}", "OutOfWindow"),
-    ("{$R,$F:{$D:'2024-05-03',$I:'T1'},$C}", "OutOfWindow"),
-    ("{$R,$F:{$D:'1970-01-01',$I:'T1'},$C}", "OutOfWindow"),
-    ("{$R,$F:{$D:'9998-12-31',$I:'T1'},$C}", "OutOfWindow"),
-    // Two faults at once.
-    ("{$R,$F:{$D:'2024-05-03',$I:'NOPE'},$C}", "UnknownJourney"),
-    ("{$R,$F:{$I:'NOPE',$D:'2024-04-30'},$C}", "UnknownJourney"),
-    (
-        "{'RecordedAtTime':'',$F:{$D:'2024-05-01',$I:'NOPE'},$C}",
-        "NotYet",
-    ),
-    (
-        "{$C,$F:{$I:'NOPE',$D:'2024-05-01'},'RecordedAtTime':7}",
-        "NotYet",
-    ),
-    (
-        "{$R,$F:{$D:'2024-05-03',$I:'T1'},'Cancellation':false}",
-        "NotYet",
-    ),
-    (
-        "{'Cancellation':false,$F:{$D:'2024-05-01',$I:'NOPE'},$R}",
-        "NotYet",
-    ),
-    (
-        "{$R,$F:{$D:'2024-05-03',$I:'T1'},$C,'ExtraJourney':false}",
-        "NotYet",
-    ),
-    (
-        "{'ExtraJourney':0,$R,$F:{$D:'2024-05-01',$I:'NOPE'},$C}",
-        "NotYet",
-    ),
-    ("{$R,$F:{$D:'20240501',$I:'NOPE'},$C}", "NotYet"),
-    ("{$F:{$D:'2024-05-03',$I:''},$R,$C}", "NotYet"),
+// A member of an item, and the JSON text that it has in place of a good one. An empty text takes the
+// member away.
+type Member = (&'static str, &'static str);
+
+// The members of a good item; those of the reference stand in it.
+static GOOD: [Member; 3] = [
+    ("RecordedAtTime", "'2024-05-01T06:00:00Z'"),
+    ("FramedVehicleJourneyRef", ""),
+    ("Cancellation", "true"),
 ];
 
-// Items that are taken, each with its entity's bytes.
-static TAKEN: [(&str, &[u8]); 10] = [
-    ("{$R,$1,$C}", T1_FIRST),
-    ("{$C,$1,$R}", T1_FIRST),
+static REFERENCE: [Member; 2] = [
+    ("DataFrameRef", "'2024-05-01'"),
+    ("DatedVehicleJourneyRef", "'T1'"),
+];
+
+// Members that set an item aside, each with its fault.
+static BAD: [(Member, &str); 42] = [
+    (("RecordedAtTime", ""), "NotYet"),
+    (("RecordedAtTime", "null"), "NotYet"),
+    (("RecordedAtTime", "1714543200"), "NotYet"),
+    (("RecordedAtTime", "''"), "NotYet"),
+    (("RecordedAtTime", "'2024-05-01T08:00:00+02:00'"), "NotYet"),
+    (("RecordedAtTime", "'2024-05-01T06:00:00'"), "NotYet"),
+    (("RecordedAtTime", "'2024-05-01T06:00:00.5Z'"), "NotYet"),
+    (("RecordedAtTime", "'2024-05-01T06:00:60Z'"), "NotYet"),
+    (("RecordedAtTime", "'2024-02-30T06:00:00Z'"), "NotYet"),
+    (("RecordedAtTime", "'1969-12-31T23:59:59Z'"), "NotYet"),
+    (("RecordedAtTime", "['2024-05-01T06:00:00Z']"), "NotYet"),
     (
-        "{$R,$F:{$I:'T1','x':null,$D:'2024-05-01'},$C,'LineRef':7}",
-        T1_FIRST,
+        ("RecordedAtTime", "{'value':'2024-05-01T06:00:00Z'}"),
+        "NotYet",
+    ),
+    (("FramedVehicleJourneyRef", "null"), "NotYet"),
+    (("FramedVehicleJourneyRef", "'T1'"), "NotYet"),
+    (("FramedVehicleJourneyRef", "[]"), "NotYet"),
+    (("DataFrameRef", ""), "NotYet"),
+    (("DataFrameRef", "null"), "NotYet"),
+    (("DataFrameRef", "20240501"), "NotYet"),
+    (("DataFrameRef", "'20240501'"), "NotYet"),
+    (("DataFrameRef", "'2024-02-30'"), "NotYet"),
+    (("DataFrameRef", "'2024-05-01 '"), "NotYet"),
+    (("DataFrameRef", "''"), "NotYet"),
+    (("DataFrameRef", "'2024-04-30'"), "OutOfWindow"),
+    (("DataFrameRef", "'2024-05-03'"), "OutOfWindow"),
+    (("DataFrameRef", "'9998-12-31'"), "OutOfWindow"),
+    (("DatedVehicleJourneyRef", ""), "NotYet"),
+    (("DatedVehicleJourneyRef", "null"), "NotYet"),
+    (("DatedVehicleJourneyRef", "1"), "NotYet"),
+    (("DatedVehicleJourneyRef", "''"), "NotYet"),
+    (("DatedVehicleJourneyRef", "['T1']"), "NotYet"),
+    (("DatedVehicleJourneyRef", "'NOPE'"), "UnknownJourney"),
+    (("DatedVehicleJourneyRef", "'t1'"), "UnknownJourney"),
+    (("DatedVehicleJourneyRef", "' T1'"), "UnknownJourney"),
+    (("Cancellation", ""), "NotYet"),
+    (("Cancellation", "false"), "NotYet"),
+    (("Cancellation", "null"), "NotYet"),
+    (("Cancellation", "'true'"), "NotYet"),
+    (("Cancellation", "1"), "NotYet"),
+    (("Cancellation", "[true]"), "NotYet"),
+    (("ExtraJourney", "true"), "NotYet"),
+    (("ExtraJourney", "false"), "NotYet"),
+    (("ExtraJourney", "null"), "NotYet"),
+];
+
+// Two such members in one item, with the fault that counts.
+static BOTH: [(Member, Member, &str); 6] = [
+    (
+        ("DataFrameRef", "'2024-05-03'"),
+        ("DatedVehicleJourneyRef", "'NOPE'"),
+        "UnknownJourney",
     ),
     (
-        "{$R,$1,$C,'extraJourney':true,'EstimatedCalls':7}",
-        T1_FIRST,
+        ("RecordedAtTime", "7"),
+        ("DatedVehicleJourneyRef", "'NOPE'"),
+        "NotYet",
     ),
-    ("{$R,$F:{$D:'2024-05-01',$I:'\\u0054\\u0031'},$C}", T1_FIRST),
-    // The last day of the window, and another trip.
-    ("{$R,$F:{$D:'2024-05-02',$I:'T1'},$C}", T1_SECOND),
-    ("{$R,$F:{$D:'2024-05-01',$I:'T2'},$C}", T2_FIRST),
-    // The first and the last moment that there are.
-    ("{'RecordedAtTime':'1970-01-01T00:00:00Z',$1,$C}", T1_OLDEST),
-    ("{'RecordedAtTime':'9998-12-31T23:59:59Z',$1,$C}", T1_NEWEST),
     (
-        "{'RecordedAtTime':'2024-05-01T05:00:00Z',$1,$C}",
-        T1_EARLIER,
+        ("DataFrameRef", "'2024-05-03'"),
+        ("Cancellation", "false"),
+        "NotYet",
     ),
+    (
+        ("DatedVehicleJourneyRef", "'NOPE'"),
+        ("ExtraJourney", "0"),
+        "NotYet",
+    ),
+    (
+        ("DataFrameRef", "'20240501'"),
+        ("DatedVehicleJourneyRef", "'NOPE'"),
+        "NotYet",
+    ),
+    (
+        ("DataFrameRef", "'2024-05-03'"),
+        ("DatedVehicleJourneyRef", "''"),
+        "NotYet",
+    ),
+];
+
+// Members with which an item is taken, each with its entity's bytes.
+static TAKEN: [(Member, &[u8]); 8] = [
+    (("LineRef", "7"), T1_FIRST),
+    (("EstimatedCalls", "7"), T1_FIRST),
+    (("DatedVehicleJourneyRef", "'\\u0054\\u0031'"), T1_FIRST),
+    (("DataFrameRef", "'2024-05-02'"), T1_SECOND),
+    (("DatedVehicleJourneyRef", "'T2'"), T2_FIRST),
+    (("RecordedAtTime", "'1970-01-01T00:00:00Z'"), T1_OLDEST),
+    (("RecordedAtTime", "'9998-12-31T23:59:59Z'"), T1_NEWEST),
+    (("RecordedAtTime", "'2024-05-01T05:00:00Z'"), T1_EARLIER),
+];
+
+// Items that are no object, or have other names.
+static OTHER: [&str; 8] = [
+    "null",
+    "7",
+    "'T1'",
+    "[{$R,$1,$C}]",
+    "{}",
+    "{'recordedAtTime':'2024-05-01T06:00:00Z',$1,$C}",
+    "{$R,$D:'2024-05-01',$I:'T1',$C}",
+    "{$R,$F:[{$D:'2024-05-01',$I:'T1'}],$C}",
 ];
 
 // Deliveries of several items, each with the entities of its feed and its report.
-static SEVERAL: [(&str, &[&[u8]], &str); 9] = [
+static SEVERAL: [(&str, &[&[u8]], &str); 7] = [
     // A repeat.
     (
         "$<{$R,$1,$C},{$R,$1,$C}$>",
@@ -158,16 +148,6 @@ static SEVERAL: [(&str, &[&[u8]], &str); 9] = [
         "$<{$R,$1},{$R,$1,$C,'ExtraJourney':true},{$R,$1,$C}$>",
         &[T1_FIRST],
         "f aside 0 NotYet\nf aside 1 NotYet\nf taken 1 passed 0 aside 2\n",
-    ),
-    (
-        "$<{$R,$F:{$D:'2024-05-01',$I:'NOPE'},$C},{$R,$F:{$D:'2024-05-01',$I:'NOPE'},$C}$>",
-        &[],
-        "f aside 0 UnknownJourney\nf aside 1 UnknownJourney\nf taken 0 passed 0 aside 2\n",
-    ),
-    (
-        "$<{$R,$F:{$D:'2024-05-03',$I:'T1'},$C},{$R,$F:{$D:'2024-05-03',$I:'T1'},$C}$>",
-        &[],
-        "f aside 0 OutOfWindow\nf aside 1 OutOfWindow\nf taken 0 passed 0 aside 2\n",
     ),
     // Another day or another trip is another journey.
     (
@@ -194,31 +174,104 @@ static SEVERAL: [(&str, &[&[u8]], &str); 9] = [
     ),
 ];
 
-// A delivery of one item, which is set aside for that fault.
-fn assert_aside(rt: &impl Abort, alloc: Global, item: &str, fault: &str) {
-    let short = format!(in alloc; "$<{item}$>").expect(rt, "memory");
-    let report = format!(in alloc; "f aside 0 {fault}\nf taken 0 passed 0 aside 1\n");
-    let report = report.expect(rt, "memory");
-    assert_delivery(rt, alloc, short.as_str(), (0, NO_ENTITY, report.as_str()));
+// The text of a member among others, or else the good one.
+fn text_of(others: &[Member], name: &str, good: &'static str) -> &'static str {
+    for (named, text) in others {
+        if *named == name {
+            return text;
+        }
+    }
+    good
 }
 
-// A delivery of one item, which is taken and has that entity.
-fn assert_taken(rt: &impl Abort, alloc: Global, item: &str, entity: &[u8]) {
-    let short = format!(in alloc; "$<{item}$>").expect(rt, "memory");
-    assert_feed(rt, alloc, short.as_str(), &[entity], ONE_TAKEN);
+// Adds a member behind others, if it has a text.
+fn add_member(object: &mut String, name: &str, text: &str) -> Result<(), AllocError> {
+    if text.is_empty() {
+        return Ok(());
+    }
+    if !object.as_str().ends_with('{') {
+        object.push(',')?;
+    }
+    object.push('\'')?;
+    object.push_str(name)?;
+    object.push_str("':")?;
+    object.push_str(text)
+}
+
+// The reference of an item with these members in place of good ones.
+fn reference_of(alloc: Global, others: &[Member]) -> Result<String, AllocError> {
+    let mut object = String::from_str(alloc, "{")?;
+    for (name, good) in REFERENCE.iter() {
+        add_member(&mut object, name, text_of(others, name, good))?;
+    }
+    object.push('}')?;
+    Ok(object)
+}
+
+// Whether a good item has that member.
+fn is_good(name: &str) -> bool {
+    GOOD.iter()
+        .chain(REFERENCE.iter())
+        .any(|member| member.0 == name)
+}
+
+// A delivery of one item with these members in place of good ones, or beside them.
+fn delivery_with(alloc: Global, others: &[Member]) -> Result<String, AllocError> {
+    let mut delivery = String::from_str(alloc, "$<{")?;
+    let reference = reference_of(alloc, others)?;
+    for (name, good) in GOOD.iter() {
+        match text_of(others, name, good) {
+            "" if *name == "FramedVehicleJourneyRef" => {
+                add_member(&mut delivery, name, reference.as_str())?;
+            }
+            text => add_member(&mut delivery, name, text)?,
+        }
+    }
+    for (name, text) in others {
+        if !is_good(name) {
+            add_member(&mut delivery, name, text)?;
+        }
+    }
+    delivery.push_str("}$>")?;
+    Ok(delivery)
+}
+
+// A delivery of one item, which is set aside for that fault.
+fn assert_aside(rt: &impl Abort, alloc: Global, delivery: &str, fault: &str) {
+    let report = format!(in alloc; "f aside 0 {fault}\nf taken 0 passed 0 aside 1\n");
+    let report = report.expect(rt, "memory");
+    assert_delivery(rt, alloc, delivery, (0, NO_ENTITY, report.as_str()));
 }
 
 #[test]
-fn an_item_with_a_fault_is_set_aside(rt: HostRuntime) {
-    for (item, fault) in ASIDE.iter() {
-        assert_aside(&rt, rt.alloc(), item, fault);
+fn an_item_with_a_bad_member_is_set_aside(rt: HostRuntime) {
+    for (member, fault) in BAD.iter() {
+        let delivery = delivery_with(rt.alloc(), &[*member]).expect(&rt, "memory");
+        assert_aside(&rt, rt.alloc(), delivery.as_str(), fault);
     }
 }
 
 #[test]
-fn an_item_without_a_fault_is_taken(rt: HostRuntime) {
-    for (item, entity) in TAKEN.iter() {
-        assert_taken(&rt, rt.alloc(), item, entity);
+fn of_two_bad_members_the_first_in_the_order_counts(rt: HostRuntime) {
+    for (first, second, fault) in BOTH.iter() {
+        let delivery = delivery_with(rt.alloc(), &[*first, *second]).expect(&rt, "memory");
+        assert_aside(&rt, rt.alloc(), delivery.as_str(), fault);
+    }
+}
+
+#[test]
+fn an_item_of_another_form_is_set_aside(rt: HostRuntime) {
+    for item in OTHER.iter() {
+        let delivery = format!(in rt.alloc(); "$<{item}$>").expect(&rt, "memory");
+        assert_aside(&rt, rt.alloc(), delivery.as_str(), "NotYet");
+    }
+}
+
+#[test]
+fn an_item_without_a_bad_member_is_taken(rt: HostRuntime) {
+    for (member, entity) in TAKEN.iter() {
+        let delivery = delivery_with(rt.alloc(), &[*member]).expect(&rt, "memory");
+        assert_feed(&rt, rt.alloc(), delivery.as_str(), &[entity], ONE_TAKEN);
     }
 }
 

@@ -9,8 +9,32 @@ use std::process::Abort;
 pub const WORDS: &str =
     "to-gtfsrt --gtfs g --zone-rule CET-1CEST,M3.5.0,M10.5.0/3 --from 2024-05-01 --days 2 --at 2024-05-01T06:00:00Z --et f";
 
-/// The trips of a folder.
-pub const TRIPS: &[u8] = b"route_id,service_id,trip_id\nR1,D,T1\nR1,D,L1\nR1,N,T2\n";
+/// The files of a run, unless it has others: the sample folder `g`, with a journey of T1 in the delivery `f`.
+pub static SAMPLE: [(&str, &[u8]); 8] = [
+    ("g/agency.txt", b"agency_timezone\nEurope/Paris\n"),
+    ("g/stops.txt", b"stop_id\nA\nB\nC\n"),
+    ("g/routes.txt", b"route_id,route_type\nR1,3\nR2,3\n"),
+    (
+        "g/trips.txt",
+        b"route_id,service_id,trip_id\nR1,D,T1\nR1,D,L1\nR1,D,T2\n",
+    ),
+    (
+        "g/calendar.txt",
+        b"service_id,monday,tuesday,wednesday,thursday,friday,saturday,sunday,start_date,end_date\nD,1,1,1,1,1,1,1,20240301,20240630\n",
+    ),
+    (
+        "g/calendar_dates.txt",
+        b"service_id,date,exception_type\nN,20240502,1\n",
+    ),
+    (
+        "g/stop_times.txt",
+        b"trip_id,arrival_time,departure_time,stop_id,stop_sequence\nT1,08:00:00,08:00:00,A,10\nT1,08:10:00,08:11:00,B,20\nT1,08:20:00,08:20:00,C,30\n",
+    ),
+    (
+        "f",
+        b"{\"ServiceDelivery\":{\"EstimatedTimetableDelivery\":[{\"EstimatedJourneyVersionFrame\":[{\"EstimatedVehicleJourney\":[{\"RecordedAtTime\":\"2024-05-01T06:00:00Z\",\"FramedVehicleJourneyRef\":{\"DataFrameRef\":\"2024-05-01\",\"DatedVehicleJourneyRef\":\"T1\"},\"Cancellation\":true}]}]}]}}",
+    ),
+];
 
 /// A journey of the trip T1 on the first day of the window. The letters are those of `json`.
 pub const JOURNEY: &str = "$<{$R,$1,$C}$>";
@@ -97,6 +121,19 @@ fn numbers(alloc: Global, values: &[u64]) -> Result<List<u64>, AllocError> {
     Ok(list)
 }
 
+/// A file that a run has in place of the sample's of that name, or beside them; None takes it away.
+pub type Other<'a> = (&'a str, Option<&'a [u8]>);
+
+// The other file of that name, if there is one.
+fn other_of<'a>(others: &[Other<'a>], name: &str) -> Option<Option<&'a [u8]>> {
+    for (named, bytes) in others {
+        if *named == name {
+            return Some(*bytes);
+        }
+    }
+    None
+}
+
 // Adds a file, if there is one.
 fn add_file(
     alloc: Global,
@@ -110,16 +147,24 @@ fn add_file(
     Ok(())
 }
 
-/// The files `g/trips.txt` and `f`, where they are there, of which these reads fail.
-pub fn folder(
+/// The sample's files with these in their place, of which these reads fail.
+pub fn files_with(
     alloc: Global,
-    trips: Option<&[u8]>,
-    delivery: Option<&[u8]>,
+    others: &[Other],
     fails: &[u64],
 ) -> Result<MemoryFiles, AllocError> {
     let mut files = List::new(alloc);
-    add_file(alloc, &mut files, "g/trips.txt", trips)?;
-    add_file(alloc, &mut files, "f", delivery)?;
+    for (name, bytes) in SAMPLE.iter() {
+        add_file(
+            alloc,
+            &mut files,
+            name,
+            other_of(others, name).unwrap_or(Some(bytes)),
+        )?;
+    }
+    for (name, bytes) in others {
+        add_file(alloc, &mut files, name, *bytes)?;
+    }
     Ok(MemoryFiles::make(files, numbers(alloc, fails)?))
 }
 
@@ -147,24 +192,12 @@ pub fn run(
     )
 }
 
-/// What a run is given: the words as a text, the trips and the delivery, where they are there, and the
-/// reads that fail.
+/// What a run is given: the words as a text, the files in place of the sample's, and the reads that fail.
 #[derive(Clone, Copy)]
 pub struct Given<'a> {
     pub words: &'a str,
-    pub trips: Option<&'a [u8]>,
-    pub delivery: Option<&'a [u8]>,
+    pub others: &'a [Other<'a>],
     pub fails: &'a [u64],
-}
-
-/// The accepted words with the usual trips and this delivery, where these reads fail.
-pub fn with_trips<'a>(delivery: &'a [u8], fails: &'a [u64]) -> Given<'a> {
-    Given {
-        words: WORDS,
-        trips: Some(TRIPS),
-        delivery: Some(delivery),
-        fails,
-    }
 }
 
 /// A run over these sinks, with its status.
@@ -175,7 +208,7 @@ pub fn run_given(
     err: &mut MemorySink,
 ) -> Result<u8, AllocError> {
     let words = words_of(alloc, given.words)?;
-    let mut files = folder(alloc, given.trips, given.delivery, given.fails)?;
+    let mut files = files_with(alloc, given.others, given.fails)?;
     Ok(run(alloc, words.as_slice(), &mut files, out, err))
 }
 
@@ -210,30 +243,25 @@ pub fn assert_run(
     assert_eq!(rt; left.out.written(), out, "standard output of {name}");
 }
 
-/// The run on a delivery, which is given by its short text, leaves exactly this.
-pub fn assert_delivery(rt: &impl Abort, alloc: Global, short: &str, expected: (u8, &[u8], &str)) {
-    let delivery = json(alloc, short).expect(rt, "memory");
-    assert_run(
-        rt,
-        alloc,
-        short,
-        &with_trips(delivery.as_str().as_bytes(), &[]),
-        expected,
-    );
-}
-
-/// The run with these trips on the journey of T1 leaves exactly this.
-pub fn assert_trips(
+/// The run of the accepted words with another file in place of the sample's leaves exactly this.
+pub fn assert_other(
     rt: &impl Abort,
     alloc: Global,
     name: &str,
-    trips: &[u8],
+    other: Other,
     expected: (u8, &[u8], &str),
 ) {
-    let delivery = json(alloc, JOURNEY).expect(rt, "memory");
     let given = Given {
-        trips: Some(trips),
-        ..with_trips(delivery.as_str().as_bytes(), &[])
+        words: WORDS,
+        others: &[other],
+        fails: &[],
     };
     assert_run(rt, alloc, name, &given, expected);
+}
+
+/// The run on a delivery, which is given by its short text, leaves exactly this.
+pub fn assert_delivery(rt: &impl Abort, alloc: Global, short: &str, expected: (u8, &[u8], &str)) {
+    let delivery = json(alloc, short).expect(rt, "memory");
+    let other = ("f", Some(delivery.as_str().as_bytes()));
+    assert_other(rt, alloc, short, other, expected);
 }

@@ -1,11 +1,11 @@
 //! Words that are no command's, and words that are.
-use super::runs::{Given, WORDS, assert_run, folder, run, sink, words_of, words_with};
+use super::runs::{Given, WORDS, assert_run, files_with, run, sink, words_of, words_with};
 use gw_base::{Bytes, Files, MemorySink, Sink, Text};
 use std::alloc::{AllocError, Global};
 use std::process::Abort;
 
 // Words that are wrong where they stand in the accepted list.
-static WRONG: [(usize, &str); 42] = [
+static WRONG: [(usize, &str); 41] = [
     (0, ""),
     (0, "to-siri"),
     (0, "To-gtfsrt"),
@@ -13,7 +13,6 @@ static WRONG: [(usize, &str); 42] = [
     (1, "--feed"),
     (1, "--zone-rule"),
     (2, ""),
-    (3, "--zone-file"),
     (3, "--gtfs"),
     (4, ""),
     (5, "--days"),
@@ -84,7 +83,7 @@ static LISTS: [(&str, usize); 8] = [
 static RIGHT: [&str; 13] = [
     // Each rule, each number of days.
     "to-gtfsrt --gtfs g --zone-rule CET-1CEST,M3.5.0,M10.5.0/3 --from 2024-05-01 --days 2 --at 2024-05-01T06:00:00Z --et f",
-    "to-gtfsrt --gtfs g --zone-rule - --from 2024-05-01 --days 2 --at 2024-05-01T06:00:00Z --et f",
+    "to-gtfsrt --gtfs g --zone-rule x --from 2024-05-01 --days 2 --at 2024-05-01T06:00:00Z --et f",
     "to-gtfsrt --gtfs g --zone-rule CET-1CEST,M3.5.0,M10.5.0/3 --from 2024-05-01 --days 1 --at 2024-05-01T06:00:00Z --et f",
     "to-gtfsrt --gtfs g --zone-rule CET-1CEST,M3.5.0,M10.5.0/3 --from 2024-05-01 --days 32 --at 2024-05-01T06:00:00Z --et f",
     "to-gtfsrt --gtfs g --zone-rule CET-1CEST,M3.5.0,M10.5.0/3 --from 2024-05-01 --days 02 --at 2024-05-01T06:00:00Z --et f",
@@ -107,7 +106,7 @@ fn run_uncalled(
     words: &[Text],
     err: &mut MemorySink,
 ) -> Result<u8, AllocError> {
-    let mut files = folder(alloc, None, None, &[1])?;
+    let mut files = files_with(alloc, &[], &[1])?;
     let mut out = sink(alloc, 100, &[1])?;
     let status = run(alloc, words, &mut files, &mut out, err);
     let mut into = Bytes::new(alloc);
@@ -178,8 +177,7 @@ fn words_of_a_command_are_accepted(rt: HostRuntime) {
     for words in RIGHT.iter() {
         let given = Given {
             words,
-            trips: None,
-            delivery: None,
+            others: &[("g/trips.txt", None)],
             fails: &[],
         };
         assert_run(

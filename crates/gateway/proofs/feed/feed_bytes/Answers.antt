@@ -20,6 +20,6 @@ loop-journey-preserved c =
     let so_far = c.loop-journey.invariant in
     record {
       bytes = bytes_more c.args.table.now.trips journeys c.loop-journey.journey-index c.journey-item.result _ _ _ c.loop-journey-test.true c.journey-item.is so_far.bytes c.in_ok-add_entity.ensures.bytes;
-      means = subst (MeansFeed c.add_entity.new.feed.items) (feed_more c.args.at c.args.table.now.trips journeys c.loop-journey.journey-index c.journey-item.result c.loop-journey-test.true c.journey-item.is)
+      means = subst (MeansFeed c.add_entity.new.feed) (feed_more c.args.at c.args.table.now.trips journeys c.loop-journey.journey-index c.journey-item.result c.loop-journey-test.true c.journey-item.is)
           (c.in_ok-add_entity.ensures.means _ so_far.means);
     }

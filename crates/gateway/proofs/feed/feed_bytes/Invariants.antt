@@ -9,7 +9,7 @@ use Rattle.gateway.proofs.feed.feed_bytes.Given as goal
 abbrev pub invariant-loop-journey : goal.invariant-loop-journey
 invariant-loop-journey l = record {
   bytes :
-      l.feed.items ++ flat_map (entity_of l.table.trips) (drop l.journey-index l.journey-items)
+      l.feed ++ flat_map (entity_of l.table.trips) (drop l.journey-index l.journey-items)
       ≡ header l.fn.at ++ flat_map (entity_of l.table.trips) l.journey-items;
-  means : MeansFeed l.feed.items (feed_of l.fn.at l.table.trips (take l.journey-index l.journey-items));
+  means : MeansFeed l.feed (feed_of l.fn.at l.table.trips (take l.journey-index l.journey-items));
 }

@@ -1,42 +1,36 @@
--- Refused words end in status 2, a device that failed raised its count, and what is done publishes.
-use Rattle.std.proofs.Common.{◌≡◌, ap, sym, refl, ◌∙◌, inl, inr}
-use Rattle.gateway.specs.Stops.{stop_outcome, done_outcome}
-use Rattle.gateway.specs.declared.outcome.Stop.{Stop}
-use Rattle.gateway.specs.declared.outcome.Stop.TheVariants.{BadWord}
-use Rattle.gateway.proofs.EndingLemmas.{ends_failed, ends_early}
+-- The window of accepted words, what is published, and how a run ends whose streams failed.
+use Rattle.std.proofs.Common.{Ok, refl, inl, inr}
+use Rattle.gw_base.proofs.CountLemmas.{rose-before, rose-after}
+use Rattle.gw_base.proofs.ToldLemmas.{puts_wider}
+use Rattle.gateway.specs.Works.{command_of}
 use Rattle.gateway.proofs.PublishedLemmas.{publishes}
-use Rattle.gateway.proofs.SinkLemmas.{rose-before, rose-after, puts_wider}
+use Rattle.gateway.proofs.WordLemmas.{has_window}
 use Rattle.gateway.proofs.top.gateway.Goals as goal
 
-pub returns-in-Ok-written-clause-bad_words : goal.returns-in-Ok-written-clause-bad_words
-returns-in-Ok-written-clause-bad_words g c = λ at refused. let e = c.outcome.ensures.bad_words at refused in absurd (cc)
-
-pub returns-in-Ok-clause-bad_words : goal.returns-in-Ok-clause-bad_words
-returns-in-Ok-clause-bad_words g c = λ at refused. let e = c.outcome.ensures.bad_words at refused in absurd (cc)
-
-pub returns-in-Ok-clause-failed : goal.returns-in-Ok-clause-failed
-returns-in-Ok-clause-failed g c = λ _.
-    elim c.in-Err-written.ensures.cause [
-      | inl out ↦ inr (inl out)
-      | inr err ↦ inr (inr (rose-before _ _ _ err c.stopped.ensures.never_falls))
-    ]
-
-pub returns-clause-bad_words : goal.returns-clause-bad_words
-returns-clause-bad_words g c = λ at refused.
-    let e = c.outcome.ensures.bad_words at refused in
-    let same : c.in-Err.stop ≡ BadWord at = cc in
-    c.stopped-in-Err.ensures.status ∙ ap (λ (stop : Stop). (stop_outcome stop).status) same
-
-pub returns-in-Ok-clause-fronts : goal.returns-in-Ok-clause-fronts
-returns-in-Ok-clause-fronts g c = λ _.
-    ends_failed c.args.words.now (g.F.Files.told c.args.files.now) (done_outcome c.in-Ok.done) _ _ _ _ _ _ _
-    c.in-Ok.ensures.told c.written.ensures.out c.written.ensures.err
-    (puts_wider _ _ _ _ _ (rose-after _ _ _ c.written.ensures.never_falls) c.stopped.ensures.front)
-
-pub returns-clause-fronts : goal.returns-clause-fronts
-returns-clause-fronts g c = λ is.
-    ends_early c.args.words.now (g.F.Files.told c.args.files.now) c.in-Err.stop _ _ _ _ _ (sym c.stopped-in-Err.ensures.status ∙ is) c.stopped-in-Err.ensures.front
+pub carried_out-requires-clause-window : goal.carried_out-requires-clause-window
+carried_out-requires-clause-window g c = has_window c.args.words.now (command_of c.in-Ok.work) c.in-Ok.ensures.accepted
 
 pub returns-in-Ok-written-clause-publishes : goal.returns-in-Ok-written-clause-publishes
 returns-in-Ok-written-clause-publishes g c = λ _.
-    publishes c.args.words.now (g.F.Files.told c.args.files.now) (done_outcome c.in-Ok.done) _ _ refl c.in-Ok.ensures.told c.in-Ok-written.ensures.all_out
+    publishes c.args.words.now (g.F.Files.told c.args.files.now) (command_of c.in-Ok.work) c.in-Ok-carried_out.done _ _ c.in-Ok.ensures.accepted
+    (has_window c.args.words.now (command_of c.in-Ok.work) c.in-Ok.ensures.accepted) c.in-Ok-carried_out.ensures.told c.in-Ok-written.ensures.all.0
+
+pub returns-clause-run : goal.returns-clause-run
+returns-clause-run g c = inr (record {
+  command = command_of c.in-Ok.work;
+  accepted = c.in-Ok.ensures.accepted;
+  answer = Ok c.in-Ok-carried_out.done;
+  work = c.in-Ok-carried_out.ensures.told;
+  cause = λ is. absurd cc;
+  ends = inr (record {
+    status_is = c.ended-in-Err-written.ensures.status;
+    cause = elim (c.in-Err-written.ensures.cause refl) [
+      | inl out ↦ inl out
+      | inr err ↦ inr (rose-before _ _ _ err c.ended-in-Err-written.ensures.counts)
+    ];
+    out = c.in-Err-written.ensures.out;
+    reported = c.in-Err-written.ensures.err.0;
+    within = c.in-Err-written.ensures.err.1;
+    err = rw (← c.in-Err-written.ensures.err.2) (puts_wider _ _ _ _ _ (rose-after _ _ _ c.written.ensures.counts.1) c.ended-in-Err-written.ensures.front);
+  });
+})

@@ -1,0 +1,22 @@
+//! The quick reader of feeds: it reads the bytes once, from the front, and keeps of each message what its fields say so
+//! far. A message in one piece is read where it stands; only one in several pieces is put together.
+ghost use Rattle.std.specs.Prelude.{IfOk};
+ghost use Rattle.feed_messages.specs.Partly.{MeansShortFeed};
+
+mod fields;
+mod found;
+mod nested;
+mod tables;
+
+use crate::plain_fault::PlainFault;
+use gw_base::Feed;
+use nested::read_parts;
+use std::alloc::Global;
+use tables::FeedParts;
+
+// The feed that the bytes mean, if no entity is too long. Where it answers `Meaningless`, the bytes have a fault.
+pub fn quick_feed(alloc: Global, bytes: &[u8]) -> Result<Feed, PlainFault>
+    ensures { IfOk result (λ feed. MeansShortFeed bytes.now feed) }
+{
+    read_parts::<FeedParts<'_>>(alloc, bytes)
+}

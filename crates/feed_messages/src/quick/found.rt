@@ -1,0 +1,67 @@
+//! The bodies of a message that is read from all its pieces together.
+ghost use Rattle.std.specs.Prelude.{◌≡◌, ℕ, List, [], ◌∷◌, ◌++◌, IfOk, OnOk};
+ghost use Rattle.wire_fields.specs.Grammar.{WireField};
+ghost use Rattle.wire_fields.specs.Seen.{field_of};
+ghost use Rattle.feed_messages.specs.Partly.{Goes, IsFoundIn, IsFound, AreJoined};
+
+use crate::plain::kinds::body_in;
+use crate::plain_fault::PlainFault;
+use crate::whole::check_fields;
+use gw_base::{Bytes, List};
+use std::alloc::Global;
+use wire_fields::Field;
+
+// The bodies that were found so far: none; one, which stands where it was read; or several, which are put together.
+#[derive(Drop)]
+pub enum Found<'a> {
+    Nothing,
+    One(&'a [u8]),
+    Joined(Bytes),
+}
+
+// Two bodies, of which each has to be a list of fields by itself.
+fn joined(alloc: Global, first: &[u8], second: &[u8]) -> Result<Bytes, PlainFault>
+    ensures { IfOk result (AreJoined first.now second.now) }
+{
+    check_fields(first)?;
+    check_fields(second)?;
+    let mut bytes = List::new(alloc);
+    bytes.extend(first)?;
+    bytes.extend(second)?;
+    Ok(bytes)
+}
+
+// These bodies and one more.
+fn with_body<'a>(alloc: Global, found: Found<'a>, body: &'a [u8]) -> Result<Found<'a>, PlainFault>
+    ensures { IfOk result (λ more. (bodies : List (List ℕ)) → IsFoundIn bodies found.entry → IsFoundIn (bodies ++ body.now ∷ []) more) }
+{
+    match found {
+        Found::Nothing => Ok(Found::One(body)),
+        Found::One(first) => Ok(Found::Joined(joined(alloc, first, body)?)),
+        Found::Joined(bytes) => {
+            check_fields(body)?;
+            let mut bytes = bytes;
+            bytes.extend(body)?;
+            Ok(Found::Joined(bytes))
+        }
+    }
+}
+
+// Adds the body of a field, if it has this number.
+pub fn add_body<'a>(
+    alloc: Global,
+    number: u32,
+    field: &Field<'a>,
+    found: &mut Found<'a>,
+) -> Result<(), PlainFault>
+    ensures { OnOk result (Goes (IsFound number) (field_of field.now) found.old found.new) }
+{
+    match body_in(field, number) {
+        Some(body) => {
+            let before = std::mem::replace(found, Found::Nothing);
+            *found = with_body(alloc, before, body)?;
+            Ok(())
+        }
+        None => Ok(()),
+    }
+}

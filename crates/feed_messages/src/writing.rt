@@ -1,0 +1,27 @@
+//! Entities as they are written: `specs/Written.antt`.
+ghost use Rattle.std.specs.Prelude.{◌≡◌, IfOk};
+ghost use Rattle.feed_messages.specs.Written.{written};
+ghost use Rattle.feed_messages.specs.Tables.{MeansEntity};
+
+mod fields;
+mod messages;
+mod nested;
+
+use gw_base::{Buf, Bytes, Entity};
+use nested::{message_size, put_message};
+use std::alloc::{AllocError, Global};
+
+/// The entity as a field of its feed, tag and length included (GTFS Realtime, FeedEntity). Its length is measured first,
+/// and the bytes are written into one buffer. Want of memory comes also where it has more bytes than a buffer can have.
+pub fn entity_bytes(alloc: Global, entity: &Entity) -> Result<Bytes, AllocError>
+    ensures written { IfOk result (λ bytes. bytes ≡ written entity.now) }
+    ensures means { IfOk result (λ bytes. MeansEntity bytes entity.now) }
+{
+    let size = message_size(2, entity);
+    if size == u64::MAX {
+        return Err(AllocError);
+    }
+    let mut buf = Buf::with_room(alloc, size as usize)?;
+    put_message(&mut buf, 2, entity);
+    Ok(buf.into_bytes())
+}

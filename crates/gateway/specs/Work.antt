@@ -1,0 +1,120 @@
+-- The order of work of the commands: the timetable, the zone, the window, each further file and its content. Each step finds
+-- something or ends the work, and the first end counts.
+use Rattle.std.specs.Prelude.{◌≡◌, ℕ, ℤ, List, [], ◌++◌, codes, length, nat_le, if◌then◌else◌, Option, Some, None, Result, Ok, Err, slice_index_or}
+use Rattle.gw_base.specs.Directory.{bytes_of}
+use Rattle.gw_base.specs.Steps.{◌>>=◌}
+use Rattle.serde_json.specs.Data.{Data}
+use Rattle.service_day.specs.Windows.{DayStarts, IsWindow}
+use Rattle.service_day.specs.Zones.{IsRuleZone, IsBadRule, IsTableZone, IsBadTable}
+use Rattle.service_day.specs.declared.zones.Rules.{Rules}
+use Rattle.stop_schedule.specs.Table.{Table}
+use Rattle.stop_schedule.specs.Timetable.{timetable, path_of, file_name}
+use Rattle.stop_schedule.specs.declared.table_fault.TableFault.{TableFault}
+use Rattle.stop_schedule.specs.declared.table_fault.TableFault.TheVariants as fault
+use Rattle.gateway.specs.Exits.{missing}
+use Rattle.gateway.specs.Feeds.{IsFeed}
+use Rattle.gateway.specs.Frame.{journeys_of}
+use Rattle.gateway.specs.Items.{sorted}
+use Rattle.gateway.specs.Reports.{report_text}
+use Rattle.gateway.specs.Words.{ToGtfsrt, NamedZone, by_rule, by_file}
+use Rattle.gateway.specs.declared.delivery.Delivery.{Delivery}
+use Rattle.gateway.specs.declared.exit.Exit.{Exit}
+use Rattle.gateway.specs.declared.exit.Exit.TheVariants.{Refused, Failed, Memory}
+use Rattle.gateway.specs.declared.work.Done.{Done}
+use Rattle.gateway.specs.declared.setting.Setting.{Setting}
+
+-- files by name, of which the first with a name counts
+abbrev pub Directory : Type 0
+Directory = List (List ℕ × List ℕ)
+
+-- the timetable of a folder, or the end that its fault is
+abbrev pub folder : List ℕ → Result Table TableFault → Result Table Exit
+folder dir (Ok table) = Ok table
+folder dir (Err (fault.Missing file)) = Err (missing (path_of dir file))
+folder dir (Err (fault.BadTable file)) = Err (Refused (codes "BadTable " ++ file_name file))
+folder dir (Err (fault.Failed file)) = Err Failed
+folder dir (Err fault.Memory) = Err Memory
+
+abbrev pub Folder : List ℕ → Directory → Result Table Exit → Type 0
+Folder dir files answer = answer ≡ folder dir (timetable files dir)
+
+-- the most bytes of a zone file, and of a delivery or a feed
+abbrev pub zone_limit : ℕ
+zone_limit = 1048576
+
+abbrev pub body_limit : ℕ
+body_limit = 16777216
+
+-- the bytes of a further file, which may be missing or too long
+abbrev pub further : ℕ → List ℕ → Option (List ℕ) → Result (List ℕ) Exit
+further limit name None = Err (missing name)
+further limit name (Some bytes) = if nat_le (length bytes) limit then Ok bytes else Err (Refused (codes "TooLong " ++ name))
+
+abbrev pub FurtherFile : ℕ → List ℕ → Directory → Result (List ℕ) Exit → Type 0
+FurtherFile limit name files answer = answer ≡ further limit name (bytes_of files name)
+
+-- the window of so many days from the first on
+abbrev pub Window : Rules → ℤ → ℕ → Result DayStarts Exit → Type 0
+Window zone first days (Ok window) = IsWindow zone first days window
+Window zone first days (Err end) = ⊥
+
+-- the zone of a POSIX rule
+abbrev pub RuleZone : List ℕ → Result Rules Exit → Type 0
+RuleZone text (Ok zone) = IsRuleZone text zone
+RuleZone text (Err end) = IsBadRule text × (end ≡ Refused (codes "zone refused"))
+
+-- the zone of the bytes of a TZif file
+abbrev pub TableZone : List ℕ → Result Rules Exit → Type 0
+TableZone bytes (Ok zone) = IsTableZone bytes zone
+TableZone bytes (Err end) = IsBadTable bytes × (end ≡ Refused (codes "zone refused"))
+
+-- the zone that is named
+abbrev pub Zone : NamedZone → Directory → Result Rules Exit → Type 0
+Zone (by_rule text) files = RuleZone text
+Zone (by_file path) files = do
+  bytes ← FurtherFile zone_limit path files
+  TableZone bytes
+
+-- a step that finds this
+abbrev pub Found : {A : Type 0} → A → Result A Exit → Type 0
+Found found answer = answer ≡ Ok found
+
+-- what a command works over
+abbrev pub SettingOf : List ℕ → NamedZone → ℤ → ℕ → Directory → Result Setting Exit → Type 0
+SettingOf dir named first days files = do
+  table ← Folder dir files
+  zone ← Zone named files
+  window ← Window zone first days
+  Found (record { table = table; zone = zone; window = window })
+
+-- the journeys of a delivery, each taken or set aside; a body without the frame is refused, with the file's name
+abbrev pub delivery : Setting → List ℕ → Option (List Data) → Result Delivery Exit
+delivery setting name None = Err (Refused (name ++ codes " BadDelivery"))
+delivery setting name (Some items) = Ok (sorted setting items)
+
+abbrev pub DeliveryOf : Setting → List ℕ → List ℕ → Result Delivery Exit → Type 0
+DeliveryOf setting name body answer = answer ≡ delivery setting name (journeys_of body)
+
+-- the feed of the journeys that are taken, made at that moment, and the report on all
+abbrev pub Converted : ℤ → Setting → List ℕ → Delivery → Result Done Exit → Type 0
+Converted at setting name delivery (Ok done) =
+    IsFeed at setting.table.trips delivery.taken done.out
+    × (done.err ≡ report_text name delivery.taken delivery.aside)
+Converted at setting name delivery (Err end) = ⊥
+
+-- the conversion of a file's delivery
+abbrev pub Conversion : ℤ → Setting → List ℕ → Directory → Result Done Exit → Type 0
+Conversion at setting name files = do
+  body ← FurtherFile body_limit name files
+  delivery ← DeliveryOf setting name body
+  Converted at setting name delivery
+
+-- the file of the delivery
+abbrev pub delivery_file : ToGtfsrt → List ℕ
+delivery_file command = slice_index_or command.more 1 []
+
+-- the work of `to-gtfsrt`
+abbrev pub ToGtfsrtWork : ToGtfsrt → Directory → Result Done Exit → Type 0
+ToGtfsrtWork command files = do
+  setting ← SettingOf command.gtfs command.zone command.from command.days files
+  Conversion command.at setting (delivery_file command) files

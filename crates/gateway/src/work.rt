@@ -1,0 +1,273 @@
+//! The work of the commands, step by step in the order of `specs/Work.antt`. Nothing is written here.
+ghost use Rattle.std.specs.Prelude.{◌≡◌, ◌++◌, ◌<◌, IfOk, IfSome, IsErrOf, length, Ok, Err};
+ghost use Rattle.std.specs.List.{AllByRecursion};
+ghost use Rattle.gw_base.specs.Answers.{UnlessFree};
+ghost use Rattle.gw_base.specs.Count.{Counts};
+ghost use Rattle.gateway.specs.Exits.{is_free};
+ghost use Rattle.gateway.specs.Work as steps;
+ghost use Rattle.gateway.specs.Windowed.{HasWindow};
+ghost use Rattle.gateway.specs.Words.{ToGtfsrt, by_file};
+ghost use Rattle.gateway.specs.Works.{command_of, zone_of, Says};
+
+use crate::delivery::{Delivery, DeliveryFault, read_delivery};
+use crate::exit::Exit;
+use crate::feed::feed_bytes;
+use crate::report::report;
+use crate::setting::Setting;
+use crate::words::{Work, ZoneWord};
+use gw_base::{Bytes, FileFault, Files, Got, Moment, Text};
+use service_day::{Day, Window, Zone, ZoneFault};
+use std::alloc::{AllocError, Global};
+use stop_schedule::{TableFault, Timetable, read_timetable};
+
+/// What a command writes.
+#[derive(Debug, Drop)]
+pub struct Done {
+    /// For standard output.
+    pub out: Bytes,
+    /// For standard error, afterwards.
+    pub err: Bytes,
+}
+
+/// The most bytes that a delivery may have.
+const BODY_LIMIT: u64 = 16_777_216;
+
+/// The most bytes that a zone file may have.
+const ZONE_LIMIT: u64 = 1_048_576;
+
+// The words that say what a command works over.
+#[derive(Clone, Copy)]
+struct SettingWords<'a> {
+    gtfs: &'a Text,
+    zone: &'a ZoneWord<'a>,
+    first: Day,
+    days: u8,
+}
+
+// Two texts, one behind the other.
+fn joined(alloc: Global, first: &str, second: &str) -> Result<Text, AllocError>
+    ensures { IfOk result (λ text. text ≡ first.now ++ second.now) }
+{
+    let mut text = Text::copied(alloc, first)?;
+    text.push(second)?;
+    Ok(text)
+}
+
+// The end that a fault of the folder is.
+fn folder_end(alloc: Global, dir: &str, fault: &TableFault) -> Result<Exit, AllocError>
+    ensures { IfOk result (λ end. Err end ≡ steps.folder dir.now (Err fault.now)) }
+{
+    match fault {
+        TableFault::Missing(file) => {
+            let mut path = joined(alloc, "Missing ", dir)?;
+            path.push("/")?;
+            path.push(file.name())?;
+            Ok(Exit::Missing(path))
+        }
+        TableFault::BadTable(file) => {
+            Ok(Exit::Refused(joined(alloc, "BadTable ", file.name())?))
+        }
+        TableFault::Failed(_) => Ok(Exit::Failed),
+        TableFault::Memory => Ok(Exit::Memory),
+    }
+}
+
+// The timetable of a folder.
+fn folder<F: Files>(alloc: Global, files: &mut F, dir: &str) -> Result<Timetable, Exit>
+    ensures told { IfSome (F.told files.old) (λ told. UnlessFree is_free result (steps.Folder dir.now told)) }
+    ensures counts { Counts (IsErrOf result Exit.Failed) (F.faults files.old) (F.faults files.new) }
+    ensures same { F.told files.new ≡ F.told files.old }
+{
+    match read_timetable(alloc, files, dir) {
+        Ok(table) => Ok(table),
+        Err(fault) => Err(folder_end(alloc, dir, &fault)?),
+    }
+}
+
+// The bytes of a further file.
+fn further_file<F: Files>(
+    alloc: Global,
+    files: &mut F,
+    name: &str,
+    limit: u64,
+) -> Result<Bytes, Exit>
+    ensures told { IfSome (F.told files.old) (λ told. UnlessFree is_free result (steps.FurtherFile limit name.now told)) }
+    ensures counts { Counts (IsErrOf result Exit.Failed) (F.faults files.old) (F.faults files.new) }
+    ensures same { F.told files.new ≡ F.told files.old }
+{
+    let mut bytes = Bytes::new(alloc);
+    match files.read_file(name, limit, &mut bytes) {
+        Ok(Got::Whole) => Ok(bytes),
+        Ok(Got::Missing) => Err(Exit::Missing(joined(alloc, "Missing ", name)?)),
+        Ok(Got::TooLong) => Err(Exit::Refused(joined(alloc, "TooLong ", name)?)),
+        Err(FileFault::Failed) => Err(Exit::Failed),
+        Err(FileFault::Memory) => Err(Exit::Memory),
+    }
+}
+
+// The zone of a POSIX rule.
+fn rule_zone(alloc: Global, rule: &str) -> Result<Zone, Exit>
+    ensures told { UnlessFree is_free result (steps.RuleZone rule.now) }
+    ensures calm { ¬ IsErrOf result Exit.Failed }
+{
+    match Zone::from_rule(rule) {
+        Ok(zone) => Ok(zone),
+        Err(ZoneFault::Refused) => Err(Exit::Refused(Text::copied(alloc, "zone refused")?)),
+        Err(ZoneFault::Memory) => Err(Exit::Memory),
+    }
+}
+
+// The zone of the bytes of a TZif file.
+fn table_zone(alloc: Global, bytes: &[u8]) -> Result<Zone, Exit>
+    ensures told { UnlessFree is_free result (steps.TableZone bytes.now) }
+    ensures calm { ¬ IsErrOf result Exit.Failed }
+{
+    match Zone::from_file(alloc, bytes) {
+        Ok(zone) => Ok(zone),
+        Err(ZoneFault::Refused) => Err(Exit::Refused(Text::copied(alloc, "zone refused")?)),
+        Err(ZoneFault::Memory) => Err(Exit::Memory),
+    }
+}
+
+// The zone of a TZif file.
+fn file_zone<F: Files>(alloc: Global, files: &mut F, path: &str) -> Result<Zone, Exit>
+    ensures told { IfSome (F.told files.old) (λ told. UnlessFree is_free result (steps.Zone (by_file path.now) told)) }
+    ensures counts { Counts (IsErrOf result Exit.Failed) (F.faults files.old) (F.faults files.new) }
+    ensures same { F.told files.new ≡ F.told files.old }
+{
+    let bytes = further_file(alloc, files, path, ZONE_LIMIT)?;
+    table_zone(alloc, bytes.as_slice())
+}
+
+// The zone that the words name.
+fn zone<F: Files>(alloc: Global, files: &mut F, word: &ZoneWord<'_>) -> Result<Zone, Exit>
+    ensures told { IfSome (F.told files.old) (λ told. UnlessFree is_free result (steps.Zone (zone_of word.now) told)) }
+    ensures counts { Counts (IsErrOf result Exit.Failed) (F.faults files.old) (F.faults files.new) }
+    ensures same { F.told files.new ≡ F.told files.old }
+{
+    match word {
+        ZoneWord::Rule(rule) => rule_zone(alloc, rule.as_str()),
+        ZoneWord::File(path) => file_zone(alloc, files, path.as_str()),
+    }
+}
+
+// What a command works over.
+fn setting<F: Files>(
+    alloc: Global,
+    files: &mut F,
+    words: &SettingWords<'_>,
+) -> Result<Setting, Exit>
+    requires { HasWindow words.now.first words.now.days }
+    ensures told { IfSome (F.told files.old) (λ told. UnlessFree is_free result
+        (steps.SettingOf words.now.gtfs.now (zone_of words.now.zone.now) words.now.first words.now.days told)) }
+    ensures counts { Counts (IsErrOf result Exit.Failed) (F.faults files.old) (F.faults files.new) }
+    ensures same { F.told files.new ≡ F.told files.old }
+{
+    let table = folder(alloc, files, words.gtfs.as_str())?;
+    let zone = zone(alloc, files, words.zone)?;
+    let window = Window::make(&zone, words.first, words.days)?;
+    Ok(Setting {
+        table,
+        zone,
+        window,
+    })
+}
+
+// The journeys of a delivery, each taken or set aside.
+fn delivery(alloc: Global, body: &[u8], name: &str, setting: &Setting) -> Result<Delivery, Exit>
+    ensures told { UnlessFree is_free result (steps.DeliveryOf setting.now name.now body.now) }
+    ensures calm { ¬ IsErrOf result Exit.Failed }
+    ensures trips { IfOk result (λ delivery.
+        AllByRecursion (λ journey. journey.trip.0 < length setting.now.table.trips) delivery.taken) }
+{
+    match read_delivery(alloc, body, setting) {
+        Ok(delivery) => Ok(delivery),
+        Err(DeliveryFault::BadDelivery) => {
+            Err(Exit::Refused(joined(alloc, name, " BadDelivery")?))
+        }
+        Err(DeliveryFault::Memory) => Err(Exit::Memory),
+    }
+}
+
+// The feed and the report of a delivery.
+fn converted(
+    alloc: Global,
+    at: Moment,
+    setting: &Setting,
+    name: &str,
+    delivery: &Delivery,
+) -> Result<Done, AllocError>
+    requires { AllByRecursion (λ journey. journey.trip.0 < length setting.now.table.trips) delivery.now.taken }
+    ensures { IfOk result (λ done. steps.Converted at setting.now name.now delivery.now (Ok done)) }
+{
+    Ok(Done {
+        out: feed_bytes(alloc, at, &setting.table, delivery.taken.as_slice())?,
+        err: report(alloc, name, delivery)?,
+    })
+}
+
+// The conversion of a file's delivery.
+fn conversion<F: Files>(
+    alloc: Global,
+    files: &mut F,
+    at: Moment,
+    setting: &Setting,
+    name: &str,
+) -> Result<Done, Exit>
+    ensures told { IfSome (F.told files.old) (λ told. UnlessFree is_free result
+        (steps.Conversion at setting.now name.now told)) }
+    ensures counts { Counts (IsErrOf result Exit.Failed) (F.faults files.old) (F.faults files.new) }
+    ensures same { F.told files.new ≡ F.told files.old }
+{
+    let body = further_file(alloc, files, name, BODY_LIMIT)?;
+    let delivery = delivery(alloc, body.as_slice(), name, setting)?;
+    Ok(converted(alloc, at, setting, name, &delivery)?)
+}
+
+// The work of `to-gtfsrt`.
+fn to_gtfsrt<F: Files>(
+    alloc: Global,
+    files: &mut F,
+    words: &SettingWords<'_>,
+    at: Moment,
+    more: &[Text],
+) -> Result<Done, Exit>
+    requires file { length more.now ≡ 2 }
+    requires window { HasWindow words.now.first words.now.days }
+    ensures told { (command : ToGtfsrt) → Says command words.now at more.now
+        → IfSome (F.told files.old) (λ told. UnlessFree is_free result (steps.ToGtfsrtWork command told)) }
+    ensures counts { Counts (IsErrOf result Exit.Failed) (F.faults files.old) (F.faults files.new) }
+    ensures same { F.told files.new ≡ F.told files.old }
+{
+    let setting = setting(alloc, files, words)?;
+    conversion(alloc, files, at, &setting, more[1].as_str())
+}
+
+/// The work of a command over the files: what it writes, or how it ends.
+pub fn carried_out<F: Files>(alloc: Global, work: &Work<'_>, files: &mut F) -> Result<Done, Exit>
+    requires file { length (command_of work.now).more ≡ 2 }
+    requires window { HasWindow (command_of work.now).from (command_of work.now).days }
+    ensures told { IfSome (F.told files.old) (λ told. UnlessFree is_free result
+        (steps.ToGtfsrtWork (command_of work.now) told)) }
+    ensures counts { Counts (IsErrOf result Exit.Failed) (F.faults files.old) (F.faults files.new) }
+    ensures same { F.told files.new ≡ F.told files.old }
+{
+    match work {
+        Work::ToGtfsrt {
+            gtfs,
+            zone,
+            from,
+            days,
+            at,
+            more,
+        } => {
+            let words = SettingWords {
+                gtfs,
+                zone,
+                first: *from,
+                days: *days,
+            };
+            to_gtfsrt(alloc, files, &words, *at, more)
+        }
+    }
+}
