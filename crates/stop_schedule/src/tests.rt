@@ -1,4 +1,4 @@
-use crate::{StopRow, TableFault, TableFile, Timetable, TripNo, read_timetable};
+use crate::{StopRow, TableFault, TableFile, TripNo, read_timetable};
 use gw_base::{List, MemoryFiles, Text};
 use std::alloc::{AllocError, Global};
 use std::test::Fail;
@@ -39,18 +39,10 @@ fn files(alloc: Global, case: &[(&str, &[u8])]) -> Result<MemoryFiles, AllocErro
 }
 
 // A stop with its times in one line.
-fn push_stop(
-    alloc: Global,
-    text: &mut String,
-    table: &Timetable,
-    stop: &StopRow,
-) -> Result<(), AllocError> {
+fn push_stop(alloc: Global, text: &mut String, stop: &StopRow) -> Result<(), AllocError> {
     let line = format!(in alloc;
         " {} {} {} {}",
-        stop.sequence,
-        table.stop_id(stop.stop),
-        stop.arrival,
-        stop.departure
+        stop.sequence, stop.stop.0, stop.arrival, stop.departure
     )?;
     text.push_str(line.as_str())
 }
@@ -68,7 +60,7 @@ fn read(alloc: Global, case: &[(&str, &[u8])]) -> Result<String, AllocError> {
         let line = format!(in alloc; "|{} {}", table.trip_id(trip), table.route_of(trip))?;
         text.push_str(line.as_str())?;
         for stop in table.stops_of(trip) {
-            push_stop(alloc, &mut text, &table, stop)?;
+            push_stop(alloc, &mut text, stop)?;
         }
     }
     Ok(text)
@@ -79,7 +71,7 @@ static CASES: [(&str, &[u8], &str); 41] = [
     (
         "g/x.txt",
         b"",
-        "|T1 R1 10 A 28800 28800 20 B 29000 29000 30 C 29200 29200 40 D 29400 29400|T2 R2",
+        "|T1 R1 10 0 28800 28800 20 1 29000 29000 30 2 29200 29200 40 3 29400 29400|T2 R2",
     ),
     ("g/agency.txt", b"", "NoColumn(Agency, AgencyTimezone)"),
     ("g/agency.txt", b"agency_timezone\nA\nA\nB\n", "Zones(3)"),
@@ -118,7 +110,7 @@ static CASES: [(&str, &[u8], &str); 41] = [
     (
         "g/trips.txt",
         b"route_id,service_id,trip_id,route_id\nR1,D,T1,R9\nR1,X,T3,\n",
-        "|T1 R1 10 A 28800 28800 20 B 29000 29000 30 C 29200 29200 40 D 29400 29400|T3 R1",
+        "|T1 R1 10 0 28800 28800 20 1 29000 29000 30 2 29200 29200 40 3 29400 29400|T3 R1",
     ),
     (
         "g/calendar.txt",
@@ -153,7 +145,7 @@ static CASES: [(&str, &[u8], &str); 41] = [
     (
         "g/frequencies.txt",
         b"trip_id\nT2\nT2\n",
-        "|T1 R1 10 A 28800 28800 20 B 29000 29000 30 C 29200 29200 40 D 29400 29400",
+        "|T1 R1 10 0 28800 28800 20 1 29000 29000 30 2 29200 29200 40 3 29400 29400",
     ),
     ("g/frequencies.txt", b"trip_id\nT1\n", "|T2 R2"),
     (
@@ -189,7 +181,7 @@ static CASES: [(&str, &[u8], &str); 41] = [
     (
         "g/stop_times.txt",
         b"trip_id,arrival_time,departure_time,stop_id,stop_sequence\nT1,,99:59:59,A,4294967295\n",
-        "|T1 R1 4294967295 A 359999 359999|T2 R2",
+        "|T1 R1 4294967295 0 359999 359999|T2 R2",
     ),
     (
         "g/stop_times.txt",
@@ -209,7 +201,7 @@ static CASES: [(&str, &[u8], &str); 41] = [
     (
         "g/stop_times.txt",
         b"trip_id,arrival_time,departure_time,stop_id,stop_sequence\nT1, 24:00:00\t,48:59:59,A,0\n",
-        "|T1 R1 0 A 86400 176399|T2 R2",
+        "|T1 R1 0 0 86400 176399|T2 R2",
     ),
     (
         "g/stop_times.txt",
@@ -239,7 +231,7 @@ static CASES: [(&str, &[u8], &str); 41] = [
     (
         "g/stop_times.txt",
         b"trip_id,arrival_time,departure_time,stop_id,stop_sequence\nT1,9:00:00,,A,1\nT1,,,B,2\nT1,8:00:00,,C,3\n",
-        "|T1 R1 1 A 32400 32400 2 B 32400 32400 3 C 28800 28800|T2 R2",
+        "|T1 R1 1 0 32400 32400 2 1 32400 32400 3 2 28800 28800|T2 R2",
     ),
     (
         "g/stop_times.txt",
@@ -249,17 +241,17 @@ static CASES: [(&str, &[u8], &str); 41] = [
     (
         "g/stop_times.txt",
         b"\xef\xbb\xbftrip_id,arrival_time,departure_time,stop_id,stop_sequence\n\"T1\",8:00:00,,\"A\",1",
-        "|T1 R1 1 A 28800 28800|T2 R2",
+        "|T1 R1 1 0 28800 28800|T2 R2",
     ),
     (
         "g/stops.txt",
         b"stop_id,x\n\"A\nB\",1\nA,2\nB,3\nC,4\nD,5\n",
-        "|T1 R1 10 A 28800 28800 20 B 29000 29000 30 C 29200 29200 40 D 29400 29400|T2 R2",
+        "|T1 R1 10 1 28800 28800 20 2 29000 29000 30 3 29200 29200 40 4 29400 29400|T2 R2",
     ),
     (
         "g/routes.txt",
         b"route_id\r\nR1\r\n\r\nR2\r\n",
-        "|T1 R1 10 A 28800 28800 20 B 29000 29000 30 C 29200 29200 40 D 29400 29400|T2 R2",
+        "|T1 R1 10 0 28800 28800 20 1 29000 29000 30 2 29200 29200 40 3 29400 29400|T2 R2",
     ),
 ];
 
