@@ -77,7 +77,6 @@ module _ {V : Type 0} (services : List (List ℕ)) (id : List ℕ) (number : ℕ
     (inside : (n : ℕ) (service : List ℕ) → slice_get services n ≡ Some service → at n ≡ of service)
     (outside : (n : ℕ) → length services ≤ n → at n ≡ None)
     (lacking : has_id id services ≡ false → of id ≡ None) where
-
   now-by : (b : Bool) → has_id id services ≡ b → slice_get (cond b services (services ++ id ∷ [])) number ≡ Some id → are_distinct (cond b services (services ++ id ∷ [])) ≡ true → at number ≡ of id
   now-by true e numbered' distinct' = inside number id numbered'
   now-by false e numbered' distinct' =

@@ -107,7 +107,6 @@ extends-more start services id extends n other at = extends-with services id n o
 
 module _ (start services : List (List ℕ)) (number : ℕ) (before : List Row) (row : Row) (distinct : are_distinct (with_id (nth 0 row) services) ≡ true)
     (numbered : slice_get (with_id (nth 0 row) services) number ≡ Some (nth 0 row)) where
-
   known-all : list_all (λ other. has_id (nth 0 other) services) before ≡ true → list_all (λ other. has_id (nth 0 other) (with_id (nth 0 row) services)) (before ++ row ∷ []) ≡ true
   known-all known =
       list_all-append (λ other. has_id (nth 0 other) (with_id (nth 0 row) services)) before (row ∷ [])
@@ -127,18 +126,20 @@ module _ (start services : List (List ℕ)) (number : ℕ) (before : List Row) (
         let lacks : has_id (nth 0 row) (map (nth 0) before) ≡ false = sym (find-has (nth 0 row) before) ∙ none-passes (is_of (nth 0 row)) calendar_of before none in
         let same : nat_eq number number ≡ true = grind (arith, nat_tests) in
         let now : calendar_at after number ≡ calendar_in (before ++ row ∷ []) (nth 0 row) =
-                changed number ∙ ap (λ b. cond b (Some (calendar_of row)) (calendar_at calendars number)) same
-                ∙ sym (find-last (is_of (nth 0 row)) calendar_of before row none (bytes_eq-refl (nth 0 row))) in
+        changed number ∙ ap (λ b. cond b (Some (calendar_of row)) (calendar_at calendars number)) same
+        ∙ sym (find-last (is_of (nth 0 row)) calendar_of before row none (bytes_eq-refl (nth 0 row))) in
         let others = λ (n : ℕ) (apart : nat_eq number n ≡ false). changed n ∙ ap (λ b. cond b (Some (calendar_of row)) (calendar_at calendars n)) apart in
-        let names = λ (service : List ℕ) (apart : bytes_eq service (nth 0 row) ≡ false). find-other (is_of service) calendar_of before row apart in
-        (rw lacks refl, record {
-          inside = agree services (nth 0 row) number distinct numbered (calendar_at calendars) (calendar_in before) holds.inside holds.outside lacking-calendar
-              (calendar_at after) (calendar_in (before ++ row ∷ [])) now others names;
-          extends = extends-more start services (nth 0 row) holds.extends;
-          outside = still-outside services (nth 0 row) number distinct numbered (calendar_at calendars) (calendar_in before) holds.inside holds.outside lacking-calendar
-              (calendar_at after) (calendar_in (before ++ row ∷ [])) now others names;
-          known = known-all holds.known;
-        })
+        let names = λ (service : List ℕ) (apart : bytes_eq service (nth 0 row) ≡ false). find-other (is_of service) calendar_of before row apart in (
+          rw lacks refl,
+          record {
+            inside = agree services (nth 0 row) number distinct numbered (calendar_at calendars) (calendar_in before) holds.inside holds.outside lacking-calendar
+                (calendar_at after) (calendar_in (before ++ row ∷ [])) now others names;
+            extends = extends-more start services (nth 0 row) holds.extends;
+            outside = still-outside services (nth 0 row) number distinct numbered (calendar_at calendars) (calendar_in before) holds.inside holds.outside lacking-calendar
+                (calendar_at after) (calendar_in (before ++ row ∷ [])) now others names;
+            known = known-all holds.known;
+          },
+        )
 
   module _ (calendars : Calendars) (holds : HoldsCalendars start services calendars before) where
     pub calendars-twice : (old : Calendar) → calendar_at calendars number ≡ Some old → calendar_fault before row ≡ Some (Duplicate File.Calendar (length before + 1))
@@ -156,7 +157,6 @@ module _ (start services : List (List ℕ)) (number : ℕ) (before : List Row) (
 
 module _ (start services : List (List ℕ)) (number : ℕ) (before : List Row) (row : Row) (distinct : are_distinct (with_id (nth 0 row) services) ≡ true)
     (numbered : slice_get (with_id (nth 0 row) services) number ≡ Some (nth 0 row)) (exceptions : Exceptions) (holds : HoldsDates start services exceptions before) where
-
   lacking-date : (day : ℤ) → has_id (nth 0 row) services ≡ false → exception_in before (nth 0 row) day ≡ None
   lacking-date day lacks =
       ap (option_map (is_one 2)) (none-of services (nth 0 row) (is_exception (nth 0 row) day) (λ other passes. and-left (bytes_eq (nth 0 row) (nth 0 other)) _ passes) before holds.known lacks)
@@ -178,13 +178,12 @@ module _ (start services : List (List ℕ)) (number : ℕ) (before : List Row) (
   dates-twice old stands =
       let some : exception_in before (nth 0 row) (day_of_row row) ≡ Some old = sym (date-now (day_of_row row)) ∙ stands in
       let has : list_any (is_exception (nth 0 row) (day_of_row row)) before ≡ true =
-              sym (any-find (is_exception (nth 0 row) (day_of_row row)) before) ∙ some-passes (is_exception (nth 0 row) (day_of_row row)) (is_one 2) before old some in
+      sym (any-find (is_exception (nth 0 row) (day_of_row row)) before) ∙ some-passes (is_exception (nth 0 row) (day_of_row row)) (is_one 2) before old some in
       rw has refl
 
   module _ (after : Exceptions)
       (changed : (n : ℕ) (day : ℤ) → exception_at after n day ≡ cond (nat_eq number n && int_eq (day_of_row row) day) (Some (is_one 2 row)) (exception_at exceptions n day))
       (fresh : exception_at exceptions number (day_of_row row) ≡ None) where
-
     now-on : (day : ℤ) (b : Bool) → int_eq (day_of_row row) day ≡ b → exception_at after number day ≡ exception_in (before ++ row ∷ []) (nth 0 row) day
     now-on day true e =
         let same : day_of_row row ≡ day = (Decides-int_eq (day_of_row row) day).0 e in
@@ -211,14 +210,16 @@ module _ (start services : List (List ℕ)) (number : ℕ) (before : List Row) (
     dates-step =
         let none : exception_in before (nth 0 row) (day_of_row row) ≡ None = sym (date-now (day_of_row row)) ∙ fresh in
         let lacks : list_any (is_exception (nth 0 row) (day_of_row row)) before ≡ false =
-                sym (any-find (is_exception (nth 0 row) (day_of_row row)) before) ∙ none-passes (is_exception (nth 0 row) (day_of_row row)) (is_one 2) before none in
-        (rw lacks refl, record {
-          inside = λ n service day at. agree services (nth 0 row) number distinct numbered (λ m. exception_at exceptions m day) (λ s. exception_in before s day)
-              (λ m s found. holds.inside m s day found) (λ m past. holds.outside m day past) (lacking-date day)
-              (λ m. exception_at after m day) (λ s. exception_in (before ++ row ∷ []) s day) (now-on day _ refl) (others-on day) (names-on day) n service at;
-          extends = extends-more start services (nth 0 row) holds.extends;
-          outside = λ n day past. still-outside services (nth 0 row) number distinct numbered (λ m. exception_at exceptions m day) (λ s. exception_in before s day)
-              (λ m s found. holds.inside m s day found) (λ m gone. holds.outside m day gone) (lacking-date day)
-              (λ m. exception_at after m day) (λ s. exception_in (before ++ row ∷ []) s day) (now-on day _ refl) (others-on day) (names-on day) n past;
-          known = known-all start services number before row distinct numbered holds.known;
-        })
+        sym (any-find (is_exception (nth 0 row) (day_of_row row)) before) ∙ none-passes (is_exception (nth 0 row) (day_of_row row)) (is_one 2) before none in (
+          rw lacks refl,
+          record {
+            inside = λ n service day at. agree services (nth 0 row) number distinct numbered (λ m. exception_at exceptions m day) (λ s. exception_in before s day)
+                (λ m s found. holds.inside m s day found) (λ m past. holds.outside m day past) (lacking-date day)
+                (λ m. exception_at after m day) (λ s. exception_in (before ++ row ∷ []) s day) (now-on day _ refl) (others-on day) (names-on day) n service at;
+            extends = extends-more start services (nth 0 row) holds.extends;
+            outside = λ n day past. still-outside services (nth 0 row) number distinct numbered (λ m. exception_at exceptions m day) (λ s. exception_in before s day)
+                (λ m s found. holds.inside m s day found) (λ m gone. holds.outside m day gone) (lacking-date day)
+                (λ m. exception_at after m day) (λ s. exception_in (before ++ row ∷ []) s day) (now-on day _ refl) (others-on day) (names-on day) n past;
+            known = known-all start services number before row distinct numbered holds.known;
+          },
+        )

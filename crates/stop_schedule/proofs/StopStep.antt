@@ -78,7 +78,7 @@ stops-self : (stops : List (List ℕ)) (rows : List Row) (row : Row) → has_seq
     → stops_in stops (rows ++ row ∷ []) (nth 0 row) ≡ placed (loaded stops (length rows + 1, row)) (stops_in stops rows (nth 0 row))
 stops-self stops rows row none =
     let lacks : has_sequence (sequence_of row) (held stops (nth 0 row) (enumerate_from 1 rows)) ≡ false =
-            sym (any-in_sequence (λ stop. sequence_of row == stop.sequence) (held stops (nth 0 row) (enumerate_from 1 rows))) ∙ none in
+    sym (any-in_sequence (λ stop. sequence_of row == stop.sequence) (held stops (nth 0 row) (enumerate_from 1 rows))) ∙ none in
     ap in_sequence (held-behind stops (nth 0 row) rows row true (bytes_eq-refl (nth 0 row)))
     ∙ in_sequence-behind (held stops (nth 0 row) (enumerate_from 1 rows)) (loaded stops (length rows + 1, row)) lacks
 

@@ -1,6 +1,7 @@
 -- What reading a file of a folder answers.
-use Rattle.std.specs.Prelude.{◌≡◌, Bool, List, Option, None, Some, Result, Ok, Err, is_some, ⊤}
-use Rattle.stop_schedule.specs.Answers.{Finds}
+use Rattle.std.specs.Prelude.{◌≡◌, ◌⊎◌, Bool, List, Option, None, Some, Result, Ok, Err, is_some, ⊤}
+use Rattle.std.specs.Bool.{MatchBool}
+use Rattle.stop_schedule.specs.Answers.{Finds, is_free}
 use Rattle.stop_schedule.specs.Faults.{optional_fault, needed_fault}
 use Rattle.stop_schedule.specs.Sheet.{Row, rows_in}
 use Rattle.stop_schedule.specs.Timetable.{Sheets, files_fault, ids_in}
@@ -38,23 +39,10 @@ IsAssembled (Failed file) = ⊥
 IsAssembled (UntimedEnd row) = ⊤
 IsAssembled Memory = ⊤
 
--- a fault as it comes from the files: their first, or none where an end has no times; a free fault says nothing
-abbrev pub TellsFault : Option TableFault → TableFault → Type 0
-TellsFault first (Missing file) = first ≡ Some (Missing file)
-TellsFault first (TooLong file) = first ≡ Some (TooLong file)
-TellsFault first (NoColumn file column) = first ≡ Some (NoColumn file column)
-TellsFault first (NotUtf8 file row) = first ≡ Some (NotUtf8 file row)
-TellsFault first (BadField file row column) = first ≡ Some (BadField file row column)
-TellsFault first (Limit file row) = first ≡ Some (Limit file row)
-TellsFault first (Zones row) = first ≡ Some (Zones row)
-TellsFault first (Unknown file row column) = first ≡ Some (Unknown file row column)
-TellsFault first (Duplicate file row) = first ≡ Some (Duplicate file row)
-TellsFault first (UntimedEnd row) = first ≡ None
-TellsFault first (Failed file) = ⊤
-TellsFault first Memory = ⊤
-
--- where there is a timetable no file has a fault, and the ids of stops and routes are those of their files
+-- where there is a timetable no file has a fault, and the ids of stops and routes are those of their files; a fault is
+-- the first of the files, or comes after all files, where they have none; a free fault says nothing
 abbrev pub TellsFiles : Sheets → Result Timetable TableFault → Type 0
 TellsFiles sheets (Ok table) =
     (files_fault sheets ≡ None) × (table.stops ≡ ids_in sheets Stops) × (table.routes ≡ ids_in sheets Routes)
-TellsFiles sheets (Err fault) = TellsFault (files_fault sheets) fault
+TellsFiles sheets (Err fault) =
+    MatchBool (is_free fault) ⊤ ((files_fault sheets ≡ Some fault) ⊎ ((files_fault sheets ≡ None) × IsAssembled fault))

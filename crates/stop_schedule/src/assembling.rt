@@ -158,6 +158,8 @@ pub fn read_timetable<F: Files>(
     ensures counts { Counts (HasFailed result) (F.faults files.old) (F.faults files.new) }
     ensures same { F.told files.new ≡ F.told files.old }
 {
-    let folder = read_folder(alloc, files, dir)?;
-    assemble(alloc, folder)
+    match read_folder(alloc, files, dir) {
+        Ok(folder) => assemble(alloc, folder),
+        Err(fault) => Err(fault),
+    }
 }

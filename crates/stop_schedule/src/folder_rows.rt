@@ -11,7 +11,8 @@ ghost use Rattle.stop_schedule.specs.declared.table_file.TableFile.TheVariants a
 
 use crate::ids::Ids;
 use crate::loading::{
-    Services, Trips, read_frequencies, read_ids, read_services, read_stop_times, read_trips, read_zones,
+    Services, Trips, read_frequencies, read_ids, read_services, read_stop_times, read_trips,
+    read_zones,
 };
 use crate::stop_times::LoadedStop;
 use crate::table_fault::TableFault;

@@ -36,3 +36,5 @@ pub use table_fault::TableFault;
 pub use table_file::TableFile;
 pub use timetable::Timetable;
 
+#[cfg(test)]
+mod tests;

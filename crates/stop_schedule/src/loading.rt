@@ -13,9 +13,9 @@ ghost use Rattle.stop_schedule.specs.Sheet.{nth, rows_in};
 ghost use Rattle.stop_schedule.specs.Trips.{is_carried};
 ghost use Rattle.stop_schedule.specs.declared.table_file.TableFile.TheVariants as File;
 
+use crate::frequency_rows::FrequencyRows;
 use crate::id_rows::IdRows;
 use crate::ids::Ids;
-use crate::frequency_rows::FrequencyRows;
 use crate::service_rows::{Calendar, CalendarRows, DateRows};
 use crate::stop_time_rows::StopTimeRows;
 use crate::stop_times::LoadedStop;

@@ -143,7 +143,9 @@ impl Calendar {
         ensures { result ≡ spec.has_day self.now day }
     {
         match self.weekdays.as_slice().get(day.weekday() as usize) {
-            Some(runs) => self.start.number() <= day.number() && day.number() <= self.end.number() && *runs,
+            Some(runs) => self.start.number() <= day.number()
+                && day.number() <= self.end.number()
+                && *runs,
             None => false,
         }
     }

@@ -83,10 +83,7 @@ fn nearest_before(stops: &[LoadedStop]) -> Option<(usize, (u32, u32))>
 }
 
 // The time between two stops with times, in proportion to the places.
-fn time_between(
-    before: Option<(usize, (u32, u32))>,
-    after: Option<(usize, (u32, u32))>,
-) -> u32
+fn time_between(before: Option<(usize, (u32, u32))>, after: Option<(usize, (u32, u32))>) -> u32
     ensures { result ≡ spec.time_between before after }
 {
     let (Some((back, (_, from))), Some((ahead, (to, _)))) = (before, after) else {

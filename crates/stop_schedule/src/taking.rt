@@ -76,11 +76,7 @@ fn take_rows<T: TakesRows>(
 }
 
 // Takes all rows by the bytes of a file, up to its first fault.
-fn take_bytes<T: TakesRows>(
-    alloc: Global,
-    bytes: &[u8],
-    taker: &mut T,
-) -> Result<(), TableFault>
+fn take_bytes<T: TakesRows>(alloc: Global, bytes: &[u8], taker: &mut T) -> Result<(), TableFault>
     ensures takes { T.Holds taker.old taker.old []
         → Finds (fault_in (T.file_of taker.old) (T.fault taker.old) (sheet_of (T.file_of taker.old) (rows bytes.now)))
         (λ _. T.Holds taker.old taker.new (rows_in (Some (sheet_of (T.file_of taker.old) (rows bytes.now))))) result }

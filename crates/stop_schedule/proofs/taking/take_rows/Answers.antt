@@ -22,15 +22,17 @@ loop-number-preserved g c =
     let within : number + 1 ≤ row_limit file = fits.counted in
     let counted : number + 1 ≡ length (inv.0 ++ row ∷ []) = rw (length-append inv.0 (row ∷ []), ← inv.1.number) refl in
     let fault_is = inv.1.same_fault in
-    let takes = rw fault_is at (c.in_default-take.ensures.takes start inv.0) in
-    (inv.0 ++ row ∷ [], record {
-      number = counted;
-      few = omega (arith, few, within);
-      same_fault = c.in_default-take.ensures.same_fault ∙ inv.1.same_fault;
-      same_file = c.in_default-take.ensures.same_file ∙ inv.1.same_file;
-      so_far = λ holds. taken g.T.TakesRows.Holds file (g.T.TakesRows.fault start) start c.loop-number.taker c.take.new.self c.args.sheet.now.left inv.0
-          c.loop-number.sheet.left left row number (inv.1.so_far holds) is inv.1.number none takes;
-    })
+    let takes = rw fault_is at (c.in_default-take.ensures.takes start inv.0) in (
+      inv.0 ++ row ∷ [],
+      record {
+        number = counted;
+        few = omega (arith, few, within);
+        same_fault = c.in_default-take.ensures.same_fault ∙ inv.1.same_fault;
+        same_file = c.in_default-take.ensures.same_file ∙ inv.1.same_file;
+        so_far = λ holds. taken g.T.TakesRows.Holds file (g.T.TakesRows.fault start) start c.loop-number.taker c.take.new.self c.args.sheet.now.left inv.0
+            c.loop-number.sheet.left left row number (inv.1.so_far holds) is inv.1.number none takes;
+      },
+    )
 
 pub returns-in-Err-clause-takes : goal.returns-in-Err-clause-takes
 returns-in-Err-clause-takes g c = λ holds.

@@ -14,7 +14,11 @@ returns-in-Some-get_mut-clause-takes c = λ start before kept counted.
     let trips = c.args.self.now.trips.now in
     let trip = nth 0 row in
     let text : is_utf8 trip ≡ true = and-left (is_utf8 trip) true c.requires.texts in
-    let at = id-of-place trips c.in-Some.trip trip (sym (c.in-Some.ensures.place text)) in
-    (rw (← c.in-Some.ensures.found text) refl,
-    (kept.0, ap (λ items. set items c.in-Some.trip false) holds
-    ∙ set-one (is_carried before) (is_carried (before ++ row ∷ [])) trip (carried-other before row) trips c.in-Some.trip false (and-right _ _ c.in-Some.ensures.ids) at (carried-not before row)))
+    let at = id-of-place trips c.in-Some.trip trip (sym (c.in-Some.ensures.place text)) in (
+      rw (← c.in-Some.ensures.found text) refl,
+      (
+        kept.0,
+        ap (λ items. set items c.in-Some.trip false) holds
+            ∙ set-one (is_carried before) (is_carried (before ++ row ∷ [])) trip (carried-other before row) trips c.in-Some.trip false (and-right _ _ c.in-Some.ensures.ids) at (carried-not before row),
+      ),
+    )

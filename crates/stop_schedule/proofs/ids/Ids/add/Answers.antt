@@ -9,9 +9,10 @@ returns-in_default-clause-added c = no-text-no-id c.args.id.now (not (has_id c.a
 pub invariant_of-self-2 : goal.invariant_of-self-2
 invariant_of-self-2 c =
     let sound = id-from-text c.args.id.now (sym c.if-not-has_id_len.ensures) c.in-Ok.ensures.cases.1 in
-    let same = c.in_ok-from_str.ensures.ok ∙ c.in-Ok.ensures.cases.0 in
-    (rw c.in_ok-added.ensures.keys (are_ids-insert c.in_ok-from_str.field-0 c.self.inside.ids.keys c.self.invariant.0 (rw same sound)),
-    one-more _ _ c.in_ok-added.added c.in_ok-added.ensures.len (omega arith))
+    let same = c.in_ok-from_str.ensures.ok ∙ c.in-Ok.ensures.cases.0 in (
+      rw c.in_ok-added.ensures.keys (are_ids-insert c.in_ok-from_str.field-0 c.self.inside.ids.keys c.self.invariant.0 (rw same sound)),
+      one-more _ _ c.in_ok-added.added c.in_ok-added.ensures.len (omega arith),
+    )
 
 pub returns-clause-added : goal.returns-clause-added
 returns-clause-added c =

@@ -50,8 +50,8 @@ returns-then-len-ge-MAX_STOPS-clause-takes c = λ start before kept counted.
     let by_trip = map items_of c.args.self.now.by_trip.items in
     let there : c.in-Some.trip < length c.args.self.now.by_trip.items = omega (arith, c.in-Some-get_mut.ensures.variant.0 refl) in
     let stands : slice_get by_trip c.in-Some.trip ≡ Some (items_of c.in-Some-get_mut.held.now) =
-            slice_get-map items_of c.args.self.now.by_trip.items c.in-Some.trip
-            ∙ ap (option_map items_of) (slice_get-get_or c.args.self.now.by_trip.items c.in-Some.trip c.in-Some-get_mut.held.now there ∙ ap Some (sym c.in-Some-get_mut.ensures.value)) in
+    slice_get-map items_of c.args.self.now.by_trip.items c.in-Some.trip
+    ∙ ap (option_map items_of) (slice_get-get_or c.args.self.now.by_trip.items c.in-Some.trip c.in-Some-get_mut.held.now there ∙ ap Some (sym c.in-Some-get_mut.ensures.value)) in
     let held_is = held-at trips stops by_trip before holds c.in-Some.trip (nth 0 row) (items_of c.in-Some-get_mut.held.now) at stands in
     let many : 250 ≤ length (stops_in stops before (nth 0 row)) = rw (← held_is) (omega (arith, c.len.ensures, c.if-len-ge-MAX_STOPS.true)) in
     rw counted (too-many trips stops before row many)
@@ -68,8 +68,8 @@ returns-in_default-find_in-clause-takes c = λ start before kept counted.
     let by_trip = map items_of c.args.self.now.by_trip.items in
     let there : c.in-Some.trip < length c.args.self.now.by_trip.items = omega (arith, c.in-Some-get_mut.ensures.variant.0 refl) in
     let stands : slice_get by_trip c.in-Some.trip ≡ Some (items_of c.in-Some-get_mut.held.now) =
-            slice_get-map items_of c.args.self.now.by_trip.items c.in-Some.trip
-            ∙ ap (option_map items_of) (slice_get-get_or c.args.self.now.by_trip.items c.in-Some.trip c.in-Some-get_mut.held.now there ∙ ap Some (sym c.in-Some-get_mut.ensures.value)) in
+    slice_get-map items_of c.args.self.now.by_trip.items c.in-Some.trip
+    ∙ ap (option_map items_of) (slice_get-get_or c.args.self.now.by_trip.items c.in-Some.trip c.in-Some-get_mut.held.now there ∙ ap Some (sym c.in-Some-get_mut.ensures.value)) in
     let held_is = held-at trips stops by_trip before holds c.in-Some.trip (nth 0 row) (items_of c.in-Some-get_mut.held.now) at stands in
     let few : length (stops_in stops before (nth 0 row)) < 250 = rw (← held_is) (omega arith) in
     let stop_text : is_utf8 (nth 2 row) ≡ true = and-left (is_utf8 (nth 2 row)) _ (and-right (is_utf8 (nth 1 row)) _ (and-right (is_utf8 (nth 0 row)) _ c.requires.texts)) in
@@ -87,8 +87,8 @@ returns-in_default-place_of-clause-takes c = λ start before kept counted.
     let by_trip = map items_of c.args.self.now.by_trip.items in
     let there : c.in-Some.trip < length c.args.self.now.by_trip.items = omega (arith, c.in-Some-get_mut.ensures.variant.0 refl) in
     let stands : slice_get by_trip c.in-Some.trip ≡ Some (items_of c.in-Some-get_mut.held.now) =
-            slice_get-map items_of c.args.self.now.by_trip.items c.in-Some.trip
-            ∙ ap (option_map items_of) (slice_get-get_or c.args.self.now.by_trip.items c.in-Some.trip c.in-Some-get_mut.held.now there ∙ ap Some (sym c.in-Some-get_mut.ensures.value)) in
+    slice_get-map items_of c.args.self.now.by_trip.items c.in-Some.trip
+    ∙ ap (option_map items_of) (slice_get-get_or c.args.self.now.by_trip.items c.in-Some.trip c.in-Some-get_mut.held.now there ∙ ap Some (sym c.in-Some-get_mut.ensures.value)) in
     let held_is = held-at trips stops by_trip before holds c.in-Some.trip (nth 0 row) (items_of c.in-Some-get_mut.held.now) at stands in
     let stop_text : is_utf8 (nth 2 row) ≡ true = and-left (is_utf8 (nth 2 row)) _ (and-right (is_utf8 (nth 1 row)) _ (and-right (is_utf8 (nth 0 row)) _ c.requires.texts)) in
     let few : length (stops_in stops before (nth 0 row)) < 250 = rw (← held_is) (omega arith) in
@@ -113,8 +113,8 @@ returns-in-Ok-clause-takes c = λ start before kept counted.
     let by_trip = map items_of c.args.self.now.by_trip.items in
     let there : c.in-Some.trip < length c.args.self.now.by_trip.items = omega (arith, c.in-Some-get_mut.ensures.variant.0 refl) in
     let stands : slice_get by_trip c.in-Some.trip ≡ Some (items_of c.in-Some-get_mut.held.now) =
-            slice_get-map items_of c.args.self.now.by_trip.items c.in-Some.trip
-            ∙ ap (option_map items_of) (slice_get-get_or c.args.self.now.by_trip.items c.in-Some.trip c.in-Some-get_mut.held.now there ∙ ap Some (sym c.in-Some-get_mut.ensures.value)) in
+    slice_get-map items_of c.args.self.now.by_trip.items c.in-Some.trip
+    ∙ ap (option_map items_of) (slice_get-get_or c.args.self.now.by_trip.items c.in-Some.trip c.in-Some-get_mut.held.now there ∙ ap Some (sym c.in-Some-get_mut.ensures.value)) in
     let held_is = held-at trips stops by_trip before holds c.in-Some.trip (nth 0 row) (items_of c.in-Some-get_mut.held.now) at stands in
     let stop_text : is_utf8 (nth 2 row) ≡ true = and-left (is_utf8 (nth 2 row)) _ (and-right (is_utf8 (nth 1 row)) _ (and-right (is_utf8 (nth 0 row)) _ c.requires.texts)) in
     let few : length (stops_in stops before (nth 0 row)) < 250 = rw (← held_is) (omega arith) in
@@ -130,9 +130,14 @@ returns-in-Ok-clause-takes c = λ start before kept counted.
     let stop_is : Some c.in-Some-find_in.stop ≡ position (bytes_eq (nth 2 row)) stops = c.in-Some-find_in.ensures.place stop_text in
     let loaded_is = loaded-row stops row (length before + 1) c.args.number c.in-Some-sequence.sequence c.in-Some-find_in.stop c.times.result counted read stop_is c.times.ensures in
     let value : items_of c.insert.new.self ≡ placed (loaded stops (length before + 1, row)) (stops_in stops before (nth 0 row)) =
-            c.in-Ok.ensures.items ∙ ap (λ stop. insert c.in-Some-get_mut.held.now.items place stop) loaded_is
-            ∙ ap (λ items. insert items place (loaded stops (length before + 1, row))) held_is
-            ∙ placed-at (stops_in stops before (nth 0 row)) (loaded stops (length before + 1, row)) place between in
-    (no-fault trips stops before row few of_trip of_stop none,
-    (kept.0, kept.1, rw (map-set items_of c.args.self.now.by_trip.items c.in-Some.trip c.insert.new.self)
-    (stops-step trips stops by_trip before holds row c.in-Some.trip (items_of c.insert.new.self) (and-right _ _ c.in-Some.ensures.ids) at rising none of_trip value)))
+    c.in-Ok.ensures.items ∙ ap (λ stop. insert c.in-Some-get_mut.held.now.items place stop) loaded_is
+    ∙ ap (λ items. insert items place (loaded stops (length before + 1, row))) held_is
+    ∙ placed-at (stops_in stops before (nth 0 row)) (loaded stops (length before + 1, row)) place between in (
+      no-fault trips stops before row few of_trip of_stop none,
+      (
+        kept.0,
+        kept.1,
+        rw (map-set items_of c.args.self.now.by_trip.items c.in-Some.trip c.insert.new.self)
+            (stops-step trips stops by_trip before holds row c.in-Some.trip (items_of c.insert.new.self) (and-right _ _ c.in-Some.ensures.ids) at rising none of_trip value),
+      ),
+    )
