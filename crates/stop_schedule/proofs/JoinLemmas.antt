@@ -7,9 +7,6 @@ use Rattle.stop_schedule.specs.Faults.{optional_fault}
 use Rattle.stop_schedule.specs.Sheet.{Row}
 use Rattle.stop_schedule.specs.Timetable.{Sheets, dates_fault, files_fault, ids_in}
 use Rattle.stop_schedule.specs.Answers.{is_free}
-use Rattle.stop_schedule.specs.Reading.{IsAssembled, TellsFiles}
-use Rattle.std.specs.Bool.{MatchBool}
-use Rattle.stop_schedule.specs.declared.timetable.Timetable.{Timetable}
 use Rattle.stop_schedule.specs.declared.table_file.TableFile.TheVariants as File
 use Rattle.stop_schedule.specs.declared.table_fault.TableFault.{TableFault}
 use Rattle.std.proofs.lemmas.Bool.{false≢true}
@@ -25,14 +22,3 @@ dates-none None None a b one two (inr some) none = absurd (false≢true (sym two
 dates-none (Some calendar) None a b one two some none = refl
 dates-none None (Some dates) a b one two some none = none
 dates-none (Some calendar) (Some dates) a b one two some none = none
-
--- what is said of the answer that comes after all files
-pub tells-files : (sheets : Sheets) (answer : Result Timetable TableFault) (stops routes : List (List ℕ)) → files_fault sheets ≡ None
-    → IfOk answer (λ table. (table.stops ≡ stops) × (table.routes ≡ routes)) → IfErr answer IsAssembled → stops ≡ ids_in sheets File.Stops → routes ≡ ids_in sheets File.Routes
-    → TellsFiles sheets answer
-tells-files sheets (Ok table) stops routes none is faults one two = (none, is.0 ∙ one, is.1 ∙ two)
-tells-files sheets (Err fault) stops routes none is faults one two = by (is_free fault)
-  where
-    by : (free : Bool) → MatchBool free ⊤ ((files_fault sheets ≡ Some fault) ⊎ ((files_fault sheets ≡ None) × IsAssembled fault))
-    by true = tt
-    by false = inr (none, faults)

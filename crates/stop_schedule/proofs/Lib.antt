@@ -1,6 +1,8 @@
+pub mod CarryingLemmas
 pub mod FaultLemmas
 pub mod FieldLemmas
 pub mod FillLemmas
+pub mod FolderLemmas
 pub mod FormLemmas
 pub mod IdLemmas
 pub mod JoinLemmas

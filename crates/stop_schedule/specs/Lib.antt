@@ -1,4 +1,5 @@
 pub mod Answers
+pub mod Carrying
 pub mod Causes
 pub mod Columns
 pub mod Faults

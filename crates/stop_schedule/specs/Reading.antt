@@ -1,12 +1,13 @@
 -- What reading a file of a folder answers.
-use Rattle.std.specs.Prelude.{◌≡◌, ◌⊎◌, Bool, List, Option, None, Some, Result, Ok, Err, is_some, ⊤}
+use Rattle.std.specs.Prelude.{◌≡◌, Bool, List, Option, None, Some, Result, Ok, Err, is_some, option_map, ⊤}
 use Rattle.std.specs.Bool.{MatchBool}
 use Rattle.stop_schedule.specs.Answers.{Finds, is_free}
 use Rattle.stop_schedule.specs.Faults.{optional_fault, needed_fault}
 use Rattle.stop_schedule.specs.Sheet.{Row, rows_in}
-use Rattle.stop_schedule.specs.Timetable.{Sheets, files_fault, ids_in}
+use Rattle.stop_schedule.specs.Seen.{seen}
+use Rattle.stop_schedule.specs.Table.{Table}
+use Rattle.stop_schedule.specs.Timetable.{Sheets, table_of, untimed_in}
 use Rattle.stop_schedule.specs.declared.timetable.Timetable.{Timetable}
-use Rattle.stop_schedule.specs.declared.table_file.TableFile.TheVariants.{Stops, Routes}
 use Rattle.stop_schedule.specs.declared.table_fault.TableFault.TheVariants.{Missing, TooLong, NoColumn, NotUtf8, BadField, Limit, Zones, Unknown, Duplicate, UntimedEnd, Failed, Memory}
 use Rattle.stop_schedule.specs.declared.table_file.TableFile.{TableFile}
 use Rattle.stop_schedule.specs.declared.table_fault.TableFault.{TableFault}
@@ -39,10 +40,13 @@ IsAssembled (Failed file) = ⊥
 IsAssembled (UntimedEnd row) = ⊤
 IsAssembled Memory = ⊤
 
--- where there is a timetable no file has a fault, and the ids of stops and routes are those of their files; a fault is
--- the first of the files, or comes after all files, where they have none; a free fault says nothing
-abbrev pub TellsFiles : Sheets → Result Timetable TableFault → Type 0
-TellsFiles sheets (Ok table) =
-    (files_fault sheets ≡ None) × (table.stops ≡ ids_in sheets Stops) × (table.routes ≡ ids_in sheets Routes)
-TellsFiles sheets (Err fault) =
-    MatchBool (is_free fault) ⊤ ((files_fault sheets ≡ Some fault) ⊎ ((files_fault sheets ≡ None) × IsAssembled fault))
+-- what comes after all files: the timetable where each end has times, or else the least row of an end without; want of
+-- memory says nothing
+abbrev pub Assembles : Sheets → Result Timetable TableFault → Type 0
+Assembles sheets (Ok table) = (untimed_in sheets ≡ None) × (seen table ≡ table_of sheets)
+Assembles sheets (Err fault) = MatchBool (is_free fault) ⊤ (option_map UntimedEnd (untimed_in sheets) ≡ Some fault)
+
+-- an answer says what a folder means: its timetable, or its first fault; a free fault says nothing
+abbrev pub Reads : Result Table TableFault → Result Timetable TableFault → Type 0
+Reads meaning (Ok table) = meaning ≡ Ok (seen table)
+Reads meaning (Err fault) = MatchBool (is_free fault) ⊤ (meaning ≡ Err fault)

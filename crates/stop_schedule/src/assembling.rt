@@ -1,11 +1,14 @@
 //! The timetable of what was read of a folder. The functions meet `specs/Timetable.antt`.
-ghost use Rattle.std.specs.Prelude.{◌≡◌, ◌<◌, length, IfOk, IfErr, IfSome};
+ghost use Rattle.std.specs.Prelude.{◌≡◌, false, [], length, map, slice_index_or, IfErr, IfOk, IfSome, OnOk};
 ghost use Rattle.std.specs.List.{list_all};
 ghost use Rattle.gw_base.specs.Count.{Counts};
 ghost use Rattle.stop_schedule.specs.Answers.{HasFailed};
 ghost use Rattle.stop_schedule.specs.Held.{is_in_range as in_range_of, are_in_range as all_in_range_of};
-ghost use Rattle.stop_schedule.specs.Reading.{IsAssembled, TellsFiles};
-ghost use Rattle.stop_schedule.specs.Timetable.{files_fault, sheets_in};
+ghost use Rattle.stop_schedule.specs.Carrying.{Adds, Carries, carried_to};
+ghost use Rattle.stop_schedule.specs.Folder.{HoldsRest};
+ghost use Rattle.stop_schedule.specs.Reading.{Assembles, IsAssembled, Reads};
+ghost use Rattle.stop_schedule.specs.Timetable.{Sheets, ids_in, timetable as timetable_of};
+ghost use Rattle.stop_schedule.specs.declared.table_file.TableFile.TheVariants as File;
 
 use crate::carried::CarriedTrip;
 use crate::folder_rows::{FolderRows, read_folder};
@@ -30,34 +33,55 @@ struct Assembled {
     untimed: Option<u32>,
 }
 
-// Adds the trip at a place of `trips.txt`.
+// Adds a trip. Its id is one and is new, since each stands in `trips.txt` once.
 fn add_trip(
     alloc: Global,
     all: &mut Assembled,
-    trips: &Trips,
-    place: usize,
+    id: &str,
+    route: u32,
+    service: u32,
     stops: &[LoadedStop],
 ) -> Result<(), AllocError>
-    requires { place < length trips.now.ids }
+    ensures { OnOk result (Adds all.old all.new (record { id = id.now; route = route; service = service; stops = stops.now })) }
 {
-    let (Some(route), Some(service)) = (
-        trips.routes.as_slice().get(place).copied(),
-        trips.services.as_slice().get(place).copied(),
-    ) else {
-        return Ok(());
-    };
-    let _ = trips.ids.len();
-    all.trips.add(alloc, trips.ids.at(place as u32).as_bytes())?;
-    let first = all.stop_rows.len();
+    if !all.trips.add(alloc, id.as_bytes())? {
+        return Err(AllocError);
+    }
+    let first = all.stop_rows.as_slice().len();
     push_filled(stops, &mut all.stop_rows)?;
+    let end = all.stop_rows.as_slice().len();
     all.carried.push(CarriedTrip {
         route,
         service,
         first,
-        end: all.stop_rows.len(),
+        end,
     })?;
     all.untimed = lesser(all.untimed, untimed_end(stops));
     Ok(())
+}
+
+// The number at a place.
+fn number_at(numbers: &[u32], place: usize) -> u32
+    ensures { result ≡ slice_index_or numbers.now place 0 }
+{
+    numbers.get(place).copied().unwrap_or(0)
+}
+
+// Whether the trip at a place is carried.
+fn is_carried_at(carried: &[bool], place: usize) -> bool
+    ensures { result ≡ slice_index_or carried.now place false }
+{
+    carried.get(place).copied().unwrap_or(false)
+}
+
+// The stops of the trip at a place.
+fn stops_at(by_trip: &[Vec<LoadedStop>], place: usize) -> &[LoadedStop]
+    ensures { result.now ≡ slice_index_or (map (λ held. held.items) by_trip.now) place [] }
+{
+    match by_trip.get(place) {
+        Some(stops) => stops.as_slice(),
+        None => &[],
+    }
 }
 
 // The trips that are carried, with their stops.
@@ -66,7 +90,10 @@ fn carried_trips(
     trips: &Trips,
     carried: &[bool],
     by_trip: &[Vec<LoadedStop>],
-) -> Result<Assembled, AllocError> {
+) -> Result<Assembled, AllocError>
+    ensures { IfOk result (λ all. Carries all (carried_to (record { ids = trips.now.ids; routes = trips.now.routes.items;
+        services = trips.now.services.items; carried = carried.now; by_trip = map (λ held. held.items) by_trip.now }) (length trips.now.ids))) }
+{
     let mut all = Assembled {
         trips: Ids::new(alloc),
         carried: Vec::new(alloc),
@@ -74,8 +101,11 @@ fn carried_trips(
         untimed: None,
     };
     for place in 0..trips.ids.len() {
-        if let (Some(true), Some(stops)) = (carried.get(place).copied(), by_trip.get(place)) {
-            add_trip(alloc, &mut all, trips, place, stops.as_slice())?;
+        if is_carried_at(carried, place) {
+            let route = number_at(trips.routes.as_slice(), place);
+            let service = number_at(trips.services.as_slice(), place);
+            let stops = stops_at(by_trip, place);
+            add_trip(alloc, &mut all, trips.ids.at(place as u32), route, service, stops)?;
         }
     }
     Ok(all)
@@ -110,7 +140,8 @@ fn are_in_range(all: &Assembled, routes: &Ids) -> bool
 
 // The timetable of what was read.
 fn assemble(alloc: Global, folder: FolderRows) -> Result<Timetable, TableFault>
-    ensures ids { IfOk result (λ table. (table.stops ≡ folder.stops) × (table.routes ≡ folder.routes)) }
+    ensures exact { (sheets : Sheets) → HoldsRest (ids_in sheets File.Stops) (ids_in sheets File.Routes) folder sheets
+        → Assembles sheets result }
     ensures faults { IfErr result IsAssembled }
 {
     let FolderRows {
@@ -147,14 +178,14 @@ fn assemble(alloc: Global, folder: FolderRows) -> Result<Timetable, TableFault>
 /// Reads the timetable of the folder `dir` (GTFS Schedule reference): `agency.txt`, `stops.txt`, `routes.txt`,
 /// `trips.txt`, `calendar.txt`, `calendar_dates.txt`, `frequencies.txt` and `stop_times.txt`, in this order.
 ///
-/// A fault of a file comes exactly where it is the first of the folder; `UntimedEnd` comes only where no file
-/// has a fault. `Failed` comes only where the files met a fault in this call.
+/// A fault comes exactly where it is the first of the folder. `Failed` comes only where the files met a fault in
+/// this call.
 pub fn read_timetable<F: Files>(
     alloc: Global,
     files: &mut F,
     dir: &str,
 ) -> Result<Timetable, TableFault>
-    ensures files { IfSome (F.told files.old) (λ told. TellsFiles (sheets_in told dir.now) result) }
+    ensures exact { IfSome (F.told files.old) (λ told. Reads (timetable_of told dir.now) result) }
     ensures counts { Counts (HasFailed result) (F.faults files.old) (F.faults files.new) }
     ensures same { F.told files.new ≡ F.told files.old }
 {

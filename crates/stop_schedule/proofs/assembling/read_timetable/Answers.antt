@@ -1,17 +1,14 @@
-use Rattle.std.proofs.Common.{◌≡◌, ◌⊎◌, None, Some, inl}
+-- What the files answered is what the folder means.
 use Rattle.std.proofs.lemmas.Option.{IfSome_then}
-use Rattle.stop_schedule.specs.Answers.{is_free}
 use Rattle.stop_schedule.specs.Timetable.{sheets_in}
-use Rattle.stop_schedule.proofs.FaultLemmas.{said-of}
-use Rattle.stop_schedule.proofs.JoinLemmas.{tells-files}
+use Rattle.stop_schedule.proofs.FolderLemmas.{reads_fault, reads_of}
 use Rattle.stop_schedule.proofs.assembling.read_timetable.Goals as goal
 
-pub returns-in-Ok-clause-files : goal.returns-in-Ok-clause-files
-returns-in-Ok-clause-files g c =
+pub returns-in-Ok-clause-exact : goal.returns-in-Ok-clause-exact
+returns-in-Ok-clause-exact g c =
     IfSome_then (g.F.Files.told c.args.files.now) c.in-Ok.ensures.exact
-    (λ told held. tells-files (sheets_in told c.args.dir.now) c.assemble.result c.in-Ok.folder.stops c.in-Ok.folder.routes held.0 c.assemble.ensures.ids c.assemble.ensures.faults
-    held.1.stops_are held.1.routes_are)
+    (λ told held. reads_of (sheets_in told c.args.dir.now) c.assemble.result held.0 (c.assemble.ensures.exact (sheets_in told c.args.dir.now) held.1))
 
-pub returns-in-Err-clause-files : goal.returns-in-Err-clause-files
-returns-in-Err-clause-files g c =
-    IfSome_then (g.F.Files.told c.args.files.now) c.in-Err.ensures.exact (λ told said. said-of (is_free c.in-Err.fault) _ _ (λ here. inl here) said)
+pub returns-in-Err-clause-exact : goal.returns-in-Err-clause-exact
+returns-in-Err-clause-exact g c =
+    IfSome_then (g.F.Files.told c.args.files.now) c.in-Err.ensures.exact (λ told said. reads_fault (sheets_in told c.args.dir.now) c.in-Err.fault said)

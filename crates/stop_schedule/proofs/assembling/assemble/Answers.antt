@@ -1,0 +1,19 @@
+-- What was read of all files is the timetable.
+use Rattle.std.proofs.Common.{◌≡◌, ◌∙◌, ap, sym}
+use Rattle.std.specs.Prelude.{option_map}
+use Rattle.stop_schedule.specs.declared.table_fault.TableFault.TheVariants.{UntimedEnd}
+use Rattle.stop_schedule.proofs.FolderLemmas.{shown_of, untimed_of}
+use Rattle.stop_schedule.proofs.assembling.assemble.Goals as goal
+
+pub returns-in-Some-clause-exact : goal.returns-in-Some-clause-exact
+returns-in-Some-clause-exact c sheets held =
+    let carries = rw (c.as_slice.ensures.value, c.as_slice-2.ensures.value) at c.in_ok-all.ensures in
+    ap (option_map UntimedEnd) (sym (untimed_of sheets c.args.folder c.in_ok-all.all held carries) ∙ c.in-Some.is)
+
+pub returns-clause-exact : goal.returns-clause-exact
+returns-clause-exact c sheets held =
+    let carries = rw (c.as_slice.ensures.value, c.as_slice-2.ensures.value) at c.in_ok-all.ensures in
+    (
+      sym (untimed_of sheets c.args.folder c.in_ok-all.all held carries) ∙ c.in_default.is,
+      shown_of sheets c.args.folder c.in_ok-all.all held carries,
+    )
