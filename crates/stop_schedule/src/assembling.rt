@@ -91,8 +91,13 @@ fn carried_trips(
     carried: &[bool],
     by_trip: &[Vec<LoadedStop>],
 ) -> Result<Assembled, AllocError>
-    ensures { IfOk result (λ all. Carries all (carried_to (record { ids = trips.now.ids; routes = trips.now.routes.items;
-        services = trips.now.services.items; carried = carried.now; by_trip = map (λ held. held.items) by_trip.now }) (length trips.now.ids))) }
+    ensures { IfOk result (λ all. Carries all (carried_to (record {
+      ids = trips.now.ids;
+      routes = trips.now.routes.items;
+      services = trips.now.services.items;
+      carried = carried.now;
+      by_trip = map (λ held. held.items) by_trip.now;
+    }) (length trips.now.ids))) }
 {
     let mut all = Assembled {
         trips: Ids::new(alloc),
@@ -105,7 +110,14 @@ fn carried_trips(
             let route = number_at(trips.routes.as_slice(), place);
             let service = number_at(trips.services.as_slice(), place);
             let stops = stops_at(by_trip, place);
-            add_trip(alloc, &mut all, trips.ids.at(place as u32), route, service, stops)?;
+            add_trip(
+                alloc,
+                &mut all,
+                trips.ids.at(place as u32),
+                route,
+                service,
+                stops,
+            )?;
         }
     }
     Ok(all)
