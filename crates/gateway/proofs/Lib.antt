@@ -4,5 +4,6 @@ mod FrameLemmas
 mod JourneyLemmas
 mod PublishedLemmas
 mod ReadingLemmas
+pub mod StepLemmas
 mod TableLemmas
 mod WordLemmas

@@ -6,6 +6,7 @@ use Rattle.gw_base.specs.Told.{with_bytes}
 use Rattle.serde_json.specs.Data.{Data}
 use Rattle.service_day.specs.Windows.{IsWindow}
 use Rattle.service_day.specs.declared.zones.Rules.{Rules}
+use Rattle.stop_schedule.specs.Seen.{seen}
 use Rattle.stop_schedule.specs.Table.{Table}
 use Rattle.stop_schedule.specs.Timetable.{timetable}
 use Rattle.stop_schedule.specs.declared.table_fault.TableFault.{TableFault}
@@ -64,7 +65,7 @@ of_work words files command done before now accepted has (setting, (table, folde
       items = items.0;
       read = record {
         accepted = accepted;
-        folder = found_table command.gtfs (timetable files command.gtfs) setting.table (rw same folder_is);
+        folder = subst (λ (s : Setting). timetable files command.gtfs ≡ Ok (seen s.table)) (sym same) (found_table command.gtfs (timetable files command.gtfs) (seen table) folder_is);
         zone = zone;
         zone_is = found_zone command.zone files zone zone_is;
         window = window;

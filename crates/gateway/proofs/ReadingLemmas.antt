@@ -18,6 +18,7 @@ use Rattle.service_day.specs.Utc.{utc_of}
 use Rattle.service_day.specs.Windows.{IsWindow}
 use Rattle.service_day.specs.declared.zones.Rules.{Rules}
 use Rattle.service_day.proofs.DayTextLemmas.{compact_day-compact_text}
+use Rattle.stop_schedule.specs.Seen.{seen}
 use Rattle.gateway.specs.Feeds.{id_of, message_of, feed_of}
 use Rattle.gateway.specs.Journeys.{Spelt, text_under, is_cancelled, is_extra, recorded_at, day_at, trip_at, in_window, dated, judged, verdict, spelt, behind, verdicts, verdicts_behind, taken, same_journey}
 use Rattle.gateway.specs.Windowed.{HasWindow}
@@ -35,7 +36,7 @@ pub record IsReadable (setting : Setting) (journey : Cancelled) : Type 0 where
   pub trip : position (bytes_eq (id_of setting.table.trips journey.trip.0)) setting.table.trips ≡ Some journey.trip.0
   pub day : IsDay journey.day
   pub within : in_window setting journey.day ≡ true
-  pub runs : setting.table.runs journey.trip.0 journey.day ≡ true
+  pub runs : (seen setting.table).runs journey.trip.0 journey.day ≡ true
   pub moment : IsMoment journey.recorded
 
 moment_is : (moment : ℤ) → IsMoment moment → moment_in (Some (unsigned_abs moment)) ≡ Some moment
@@ -106,11 +107,11 @@ dated_readable setting said None journey w m found e = absurd (cc)
 dated_readable setting said (Some trip) journey w m found e = by (in_window setting said.day) refl e
   where
     by : (b : Bool) → in_window setting said.day ≡ b
-        → ◌≡◌ {A = Result Cancelled Aside} (if b then (if setting.table.runs trip said.day then Ok (record { day = said.day; trip = record { 0 = trip }; recorded = said.recorded }) else Err NotRunning) else Err OutOfWindow) (Ok journey)
+        → ◌≡◌ {A = Result Cancelled Aside} (if b then (if (seen setting.table).runs trip said.day then Ok (record { day = said.day; trip = record { 0 = trip }; recorded = said.recorded }) else Err NotRunning) else Err OutOfWindow) (Ok journey)
         → IsReadable setting journey
-    by true within e = running (setting.table.runs trip said.day) refl e
+    by true within e = running ((seen setting.table).runs trip said.day) refl e
       where
-        running : (b : Bool) → setting.table.runs trip said.day ≡ b
+        running : (b : Bool) → (seen setting.table).runs trip said.day ≡ b
             → ◌≡◌ {A = Result Cancelled Aside} (if b then Ok (record { day = said.day; trip = record { 0 = trip }; recorded = said.recorded }) else Err NotRunning) (Ok journey) → IsReadable setting journey
         running true runs e =
             subst (IsReadable setting) (same_Ok _ _ e) (record { trip = same_id setting.table.trips said.trip_id trip found; day = in_days setting said.day w within; within = within; runs = runs; moment = m })

@@ -10,6 +10,7 @@ use Rattle.service_day.specs.DayTexts.{day_of}
 use Rattle.service_day.specs.Utc.{utc_of}
 use Rattle.service_day.specs.Windows.{start_in}
 use Rattle.service_day.specs.declared.days.DayForm.TheVariants.{Dashed}
+use Rattle.stop_schedule.specs.Seen.{seen}
 use Rattle.gateway.specs.declared.item.Aside.{Aside}
 use Rattle.gateway.specs.declared.item.Aside.TheVariants.{NotYet, UnknownJourney, OutOfWindow, NotRunning}
 use Rattle.gateway.specs.declared.item.Cancelled.{Cancelled}
@@ -65,7 +66,7 @@ abbrev pub dated : Setting → Spelt → Option ℕ → Result Cancelled Aside
 dated setting journey None = Err UnknownJourney
 dated setting journey (Some trip) =
     if in_window setting journey.day
-    then (if setting.table.runs trip journey.day
+    then (if (seen setting.table).runs trip journey.day
     then Ok (record { day = journey.day; trip = record { 0 = trip }; recorded = journey.recorded })
     else Err NotRunning)
     else Err OutOfWindow

@@ -8,6 +8,7 @@ use Rattle.serde_json.specs.Data.{Data}
 use Rattle.service_day.specs.Windows.{IsWindow}
 use Rattle.service_day.specs.Zones.{IsRuleZone, IsTableZone}
 use Rattle.service_day.specs.declared.zones.Rules.{Rules}
+use Rattle.stop_schedule.specs.Seen.{seen}
 use Rattle.stop_schedule.specs.Timetable.{timetable}
 use Rattle.feed_messages.specs.Tables.{MeansFeed}
 use Rattle.gateway.specs.Feeds.{journey_cmp, feed_of}
@@ -27,7 +28,7 @@ IsZone (by_file path) files zone = (bytes : List ℕ) × (bytes_of files path �
 -- the words are a command, the folder has a timetable, the zone and the days make a window, and the delivery has journeys
 pub record IsRead (words : List (List ℕ)) (files : Directory) (command : ToGtfsrt) (setting : Setting) (items : List Data) : Type 0 where
   pub accepted : IsToGtfsrt words command
-  pub folder : timetable files command.gtfs ≡ Ok setting.table
+  pub folder : timetable files command.gtfs ≡ Ok (seen setting.table)
   pub zone : Rules
   pub zone_is : IsZone command.zone files zone
   pub window : IsWindow zone command.from command.days setting.window

@@ -9,6 +9,7 @@ use Rattle.gw_base.specs.declared.messages.TripDescriptor.{TripDescriptor}
 use Rattle.gw_base.specs.declared.messages.TripUpdate.{TripUpdate}
 use Rattle.service_day.specs.DayTexts.{day_of}
 use Rattle.service_day.specs.declared.days.DayForm.TheVariants.{Compact}
+use Rattle.stop_schedule.specs.Seen.{seen}
 use Rattle.gateway.specs.Journeys.{in_window}
 use Rattle.gateway.specs.declared.item.Cancelled.{Cancelled}
 use Rattle.gateway.specs.declared.setting.Setting.{Setting}
@@ -42,7 +43,7 @@ abbrev pub cancelled_in : Setting → Feed → TripUpdate → Option Reading
 cancelled_in setting feed update =
     if int_eq update.trip.relation (pos 3)
     then option_and_then (λ trip. option_and_then (λ day.
-    if setting.table.runs trip day
+    if (seen setting.table).runs trip day
     then Some (record { day = day; trip = trip; recorded = recorded_in (moment_in update.timestamp) (moment_in feed.timestamp) })
     else None) (day_in setting update.trip)) (trip_in setting update.trip)
     else None

@@ -7,9 +7,11 @@ use Rattle.serde_json.specs.Data.{Data}
 use Rattle.service_day.specs.Windows.{DayStarts, IsWindow}
 use Rattle.service_day.specs.Zones.{IsRuleZone, IsBadRule, IsTableZone, IsBadTable}
 use Rattle.service_day.specs.declared.zones.Rules.{Rules}
+use Rattle.stop_schedule.specs.Seen.{seen}
 use Rattle.stop_schedule.specs.Table.{Table}
 use Rattle.stop_schedule.specs.Timetable.{timetable}
 use Rattle.stop_schedule.specs.declared.table_fault.TableFault.{TableFault}
+use Rattle.stop_schedule.specs.declared.timetable.Timetable.{Timetable}
 use Rattle.gateway.specs.Exits.{missing}
 use Rattle.gateway.specs.FolderTexts.{folder_end}
 use Rattle.gateway.specs.Feeds.{IsFeed}
@@ -32,8 +34,13 @@ abbrev pub folder : List ℕ → Result Table TableFault → Result Table Exit
 folder dir (Ok table) = Ok table
 folder dir (Err fault) = Err (folder_end dir fault)
 
-abbrev pub Folder : List ℕ → Directory → Result Table Exit → Type 0
-Folder dir files answer = answer ≡ folder dir (timetable files dir)
+-- what an answer shows
+abbrev pub shown : Result Timetable Exit → Result Table Exit
+shown (Ok table) = Ok (seen table)
+shown (Err end) = Err end
+
+abbrev pub Folder : List ℕ → Directory → Result Timetable Exit → Type 0
+Folder dir files answer = shown answer ≡ folder dir (timetable files dir)
 
 -- the most bytes of a zone file, and of a delivery or a feed
 abbrev pub zone_limit : ℕ
@@ -76,13 +83,18 @@ Zone (by_file path) files = do
 abbrev pub Found : {A : Type 0} → A → Result A Exit → Type 0
 Found found answer = answer ≡ Ok found
 
+-- the zone and the window behind a timetable
+abbrev pub Over : Timetable → NamedZone → ℤ → ℕ → Directory → Result Setting Exit → Type 0
+Over table named first days files = do
+  zone ← Zone named files
+  window ← Window zone first days
+  Found (record { table = table; zone = zone; window = window })
+
 -- what a command works over
 abbrev pub SettingOf : List ℕ → NamedZone → ℤ → ℕ → Directory → Result Setting Exit → Type 0
 SettingOf dir named first days files = do
   table ← Folder dir files
-  zone ← Zone named files
-  window ← Window zone first days
-  Found (record { table = table; zone = zone; window = window })
+  Over table named first days files
 
 -- the journeys of a delivery, each taken or set aside; a body without the frame is refused, with the file's name
 abbrev pub delivery : Setting → List ℕ → Option (List Data) → Result Delivery Exit

@@ -66,12 +66,7 @@ fn of_row(alloc: Global, name: &str, row: u64) -> Result<Text, AllocError>
 }
 
 // A fault's name with the file and the column.
-fn of_column(
-    alloc: Global,
-    name: &str,
-    file: TableFile,
-    column: Column,
-) -> Result<Text, AllocError>
+fn of_column(alloc: Global, name: &str, file: TableFile, column: Column) -> Result<Text, AllocError>
     ensures { IfOk result (λ text. text ≡ name.now ++ file_name file ++ column_text column) }
 {
     let mut text = named(alloc, name, file)?;

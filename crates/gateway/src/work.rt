@@ -133,6 +133,28 @@ fn zone<F: Files>(alloc: Global, files: &mut F, word: &ZoneWord<'_>) -> Result<Z
     }
 }
 
+// The zone and the window behind a timetable.
+fn over<F: Files>(
+    alloc: Global,
+    files: &mut F,
+    words: &SettingWords<'_>,
+    table: Timetable,
+) -> Result<Setting, Exit>
+    requires { HasWindow words.now.first words.now.days }
+    ensures told { IfSome (F.told files.old) (λ told. UnlessFree is_free result
+        (steps.Over table (zone_of words.now.zone.now) words.now.first words.now.days told)) }
+    ensures counts { Counts (IsErrOf result Exit.Failed) (F.faults files.old) (F.faults files.new) }
+    ensures same { F.told files.new ≡ F.told files.old }
+{
+    let zone = zone(alloc, files, words.zone)?;
+    let window = Window::make(&zone, words.first, words.days)?;
+    Ok(Setting {
+        table,
+        zone,
+        window,
+    })
+}
+
 // What a command works over.
 fn setting<F: Files>(
     alloc: Global,
@@ -145,14 +167,10 @@ fn setting<F: Files>(
     ensures counts { Counts (IsErrOf result Exit.Failed) (F.faults files.old) (F.faults files.new) }
     ensures same { F.told files.new ≡ F.told files.old }
 {
-    let table = folder(alloc, files, words.gtfs.as_str())?;
-    let zone = zone(alloc, files, words.zone)?;
-    let window = Window::make(&zone, words.first, words.days)?;
-    Ok(Setting {
-        table,
-        zone,
-        window,
-    })
+    match folder(alloc, files, words.gtfs.as_str()) {
+        Ok(table) => over(alloc, files, words, table),
+        Err(end) => Err(end),
+    }
 }
 
 // The journeys of a delivery, each taken or set aside.
@@ -221,8 +239,10 @@ fn to_gtfsrt<F: Files>(
     ensures counts { Counts (IsErrOf result Exit.Failed) (F.faults files.old) (F.faults files.new) }
     ensures same { F.told files.new ≡ F.told files.old }
 {
-    let setting = setting(alloc, files, words)?;
-    conversion(alloc, files, at, &setting, more[1].as_str())
+    match setting(alloc, files, words) {
+        Ok(setting) => conversion(alloc, files, at, &setting, more[1].as_str()),
+        Err(end) => Err(end),
+    }
 }
 
 /// The work of a command over the files: what it writes, or how it ends.

@@ -5,19 +5,108 @@ use std::process::Abort;
 
 // A file in place of the sample's, each with the status and the text of the run.
 static REFUSED: [(&str, Other, u8, &str); 14] = [
-    ("no trips", ("g/trips.txt", None), 66, "gateway: Missing g/trips.txt\n"),
-    ("no agency", ("g/agency.txt", None), 66, "gateway: Missing g/agency.txt\n"),
-    ("no byte", ("g/trips.txt", Some(b"")), 65, "gateway: NoColumn trips.txt trip_id\n"),
-    ("no column of stops", ("g/stops.txt", Some(b"stop\nA\n")), 65, "gateway: NoColumn stops.txt stop_id\n"),
-    ("an id that is no text", ("g/stops.txt", Some(b"stop_id\nA\n\xff\n")), 65, "gateway: NotUtf8 stops.txt 2\n"),
-    ("an empty id", ("g/routes.txt", Some(b"route_id,x\nR1,1\n,1\n")), 65, "gateway: BadField routes.txt 2 route_id\n"),
-    ("a route twice", ("g/routes.txt", Some(b"route_id\nR1\nR1\n")), 65, "gateway: Duplicate routes.txt 2\n"),
-    ("two zones", ("g/agency.txt", Some(b"agency_timezone\nEurope/Paris\nUTC\n")), 65, "gateway: Zones 2\n"),
-    ("a route that isn't there", ("g/trips.txt", Some(b"route_id,service_id,trip_id\nR9,D,T1\n")), 65, "gateway: Unknown trips.txt 1 route_id\n"),
-    ("a date that isn't there", ("g/calendar_dates.txt", Some(b"service_id,date,exception_type\nN,20240230,1\n")), 65, "gateway: BadField calendar_dates.txt 1 date\n"),
-    ("a time of one digit of minutes", ("g/stop_times.txt", Some(b"trip_id,arrival_time,departure_time,stop_id,stop_sequence\nT1,08:00:00,08:00:00,A,1\nT1,8:1:00,8:10:00,B,2\n")), 65, "gateway: BadField stop_times.txt 2 arrival_time\n"),
-    ("a last stop without a time", ("g/stop_times.txt", Some(b"trip_id,arrival_time,departure_time,stop_id,stop_sequence\nT1,08:00:00,,A,1\nT1,,,B,2\nT1,08:10:00,,C,3\nT1,,,A,4\n")), 65, "gateway: UntimedEnd 4\n"),
-    ("a sequence twice by number", ("g/stop_times.txt", Some(b"trip_id,arrival_time,departure_time,stop_id,stop_sequence\nT1,08:00:00,,A,7\nT1,08:10:00,,B,007\n")), 65, "gateway: Duplicate stop_times.txt 2\n"),
+    (
+        "no trips",
+        ("g/trips.txt", None),
+        66,
+        "gateway: Missing g/trips.txt\n",
+    ),
+    (
+        "no agency",
+        ("g/agency.txt", None),
+        66,
+        "gateway: Missing g/agency.txt\n",
+    ),
+    (
+        "no byte",
+        ("g/trips.txt", Some(b"")),
+        65,
+        "gateway: NoColumn trips.txt trip_id\n",
+    ),
+    (
+        "no column of stops",
+        ("g/stops.txt", Some(b"stop\nA\n")),
+        65,
+        "gateway: NoColumn stops.txt stop_id\n",
+    ),
+    (
+        "an id that is no text",
+        ("g/stops.txt", Some(b"stop_id\nA\n\xff\n")),
+        65,
+        "gateway: NotUtf8 stops.txt 2\n",
+    ),
+    (
+        "an empty id",
+        ("g/routes.txt", Some(b"route_id,x\nR1,1\n,1\n")),
+        65,
+        "gateway: BadField routes.txt 2 route_id\n",
+    ),
+    (
+        "a route twice",
+        ("g/routes.txt", Some(b"route_id\nR1\nR1\n")),
+        65,
+        "gateway: Duplicate routes.txt 2\n",
+    ),
+    (
+        "two zones",
+        (
+            "g/agency.txt",
+            Some(b"agency_timezone\nEurope/Paris\nUTC\n"),
+        ),
+        65,
+        "gateway: Zones 2\n",
+    ),
+    (
+        "a route that isn't there",
+        (
+            "g/trips.txt",
+            Some(b"route_id,service_id,trip_id\nR9,D,T1\n"),
+        ),
+        65,
+        "gateway: Unknown trips.txt 1 route_id\n",
+    ),
+    (
+        "a date that isn't there",
+        (
+            "g/calendar_dates.txt",
+            Some(b"service_id,date,exception_type\nN,20240230,1\n"),
+        ),
+        65,
+        "gateway: BadField calendar_dates.txt 1 date\n",
+    ),
+    (
+        "a time of one digit of minutes",
+        (
+            "g/stop_times.txt",
+            Some(
+                b"trip_id,arrival_time,departure_time,stop_id,stop_sequence\nT1,08:00:00,08:00:00,A,1\nT1,8:1:00,8:10:00,B,2\n",
+            ),
+        ),
+        65,
+        "gateway: BadField stop_times.txt 2 arrival_time\n",
+    ),
+    (
+        "a last stop without a time",
+        (
+            "g/stop_times.txt",
+            Some(
+                b"trip_id,arrival_time,departure_time,stop_id,stop_sequence\nT1,08:00:00,,A,1\nT1,,,B,2\nT1,08:10:00,,C,3\nT1,,,A,4\n",
+            ),
+        ),
+        65,
+        "gateway: UntimedEnd 4\n",
+    ),
+    (
+        "a sequence twice by number",
+        (
+            "g/stop_times.txt",
+            Some(
+                b"trip_id,arrival_time,departure_time,stop_id,stop_sequence\nT1,08:00:00,,A,7\nT1,08:10:00,,B,007\n",
+            ),
+        ),
+        65,
+        "gateway: Duplicate stop_times.txt 2\n",
+    ),
     ("no delivery", ("f", None), 66, "gateway: Missing f\n"),
 ];
 
