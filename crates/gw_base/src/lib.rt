@@ -8,6 +8,7 @@ mod clock;
 mod door;
 mod files;
 mod list;
+mod member;
 mod memory_files;
 mod memory_sink;
 mod messages;
@@ -26,6 +27,7 @@ pub use clock::Clock;
 pub use door::{Door, Entry, Mark};
 pub use files::{FileFault, Files, Got};
 pub use list::{Bytes, List};
+pub use member::Member;
 pub use memory_files::MemoryFiles;
 pub use memory_sink::MemorySink;
 pub use messages::{
