@@ -1,6 +1,6 @@
 //! A service day: a date of the years 0001 to 9999, held as its number of days since 1970-01-01.
 //! The calendar is `jiff`'s.
-ghost use Rattle.std.specs.Prelude.{◌≡◌, ◌/◌, ◌<◌, ◌≤ℤ◌, ◌+ℤ◌, pos, unsigned_abs};
+ghost use Rattle.std.specs.Prelude.{◌≡◌, ◌↔◌, ◌/◌, ◌<◌, ◌≤ℤ◌, ◌+ℤ◌, pos, unsigned_abs, IsSome, IfSome};
 ghost use Rattle.jiff_core.specs.Calendar.{weekday_number};
 ghost use Rattle.jiff_core.specs.Date.{epoch_day};
 ghost use Rattle.service_day.specs.Days.{IsDay, date_number, year_of, month_of, day_of_month};
@@ -8,6 +8,12 @@ ghost use Rattle.service_day.specs.Utc.{IsMoment};
 
 use jiff_core::civil::Date;
 use std::marker::Model;
+
+/// 0001-01-01.
+const FIRST_DAY: i64 = -719_162;
+
+/// 9999-12-31.
+const LAST_DAY: i64 = 2_932_896;
 
 /// A date of the years 0001 to 9999. A contract sees its number of days since 1970-01-01.
 #[derive(Clone, Copy, Debug, PartialEq, Eq, PartialOrd, Ord)]
@@ -53,6 +59,21 @@ impl Day {
         ensures { result ≡ weekday_number self.now }
     {
         (self.number + 3).rem_euclid(7) as u8
+    }
+
+    /// The day that many days later, or earlier where the number is negative. None exactly where it isn't one of
+    /// the years 0001 to 9999.
+    pub fn plus(&self, days: i32) -> Option<Day>
+        ensures exactly { IsSome result ↔ IsDay (self.now +ℤ days) }
+        ensures value { IfSome result (λ day. day ≡ self.now +ℤ days) }
+    {
+        let number = self.number as i64 + days as i64;
+        if number < FIRST_DAY || number > LAST_DAY {
+            return None;
+        }
+        Some(Day {
+            number: number as i32,
+        })
     }
 
     /// The day with this year, month and day of the month, if the calendar has it in 0001 to 9999.

@@ -40,6 +40,24 @@ fn days_are_read_and_written(rt: HostRuntime) -> Result<(), Fail> {
     Ok(())
 }
 
+// A day of the table, how many days later, and the day there, if there is one.
+const LATER: [(i32, Option<i32>); 6] = [
+    (0, Some(19_844)),
+    (-1, Some(19_843)),
+    (2_913_052, Some(2_932_896)),
+    (2_913_053, None),
+    (-739_006, Some(-719_162)),
+    (-739_007, None),
+];
+
+#[test]
+fn days_later_and_earlier(rt: HostRuntime) {
+    let day = read_day("20240501", DayForm::Compact).expect(&rt, "a day");
+    for (days, number) in LATER {
+        assert!(rt; day.plus(days).map(|later| later.number()) == number);
+    }
+}
+
 // Texts that are no date in any form.
 const NO_DAYS: [&str; 69] = [
     "",
