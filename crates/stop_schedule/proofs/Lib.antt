@@ -15,6 +15,7 @@ pub mod ServiceStep
 pub mod StartLemmas
 pub mod StepLemmas
 pub mod StopStep
+pub mod StopsLemmas
 pub mod TakingLemmas
 pub mod TextLemmas
 pub mod TripStep

@@ -3,6 +3,7 @@ use Rattle.std.specs.Prelude.{◌≡◌, ◌≤◌, ◌<◌, ◌&&◌, ◌==◌,
 use Rattle.std.specs.List.{list_all}
 use Rattle.stop_schedule.specs.Holding.{Calendars, Exceptions, calendar_at, exception_at}
 use Rattle.stop_schedule.specs.Services.{runs_by}
+use Rattle.stop_schedule.specs.Stops.{are_stops_of}
 use Rattle.stop_schedule.specs.declared.stop_times.StopRow.{StopRow}
 use Rattle.stop_schedule.specs.declared.carried.CarriedTrip.{CarriedTrip}
 
@@ -18,11 +19,14 @@ abbrev pub runs_held : Calendars → Exceptions → Option CarriedTrip → ℤ �
 runs_held calendars exceptions None day = false
 runs_held calendars exceptions (Some trip) day = runs_by (exception_at exceptions trip.service day) (calendar_at calendars trip.service) day
 
--- a trip's numbers and places are in range
-abbrev pub is_in_range : ℕ → ℕ → CarriedTrip → Bool
-is_in_range routes rows trip = nat_lt trip.route routes && (nat_le trip.first trip.end && nat_le trip.end rows)
+-- a trip's numbers and places are in range, and its stops are those of a trip
+abbrev pub is_in_range : ℕ → ℕ → List StopRow → CarriedTrip → Bool
+is_in_range routes stops rows trip =
+    nat_lt trip.route routes && (nat_le trip.first trip.end && (nat_le trip.end (length rows)
+    && are_stops_of stops (drop trip.first (take trip.end rows))))
 
--- each trip has its numbers and places, and there are at most 200,000
-abbrev pub are_in_range : List (List ℕ) → List (List ℕ) → List CarriedTrip → List StopRow → Bool
-are_in_range trips routes carried rows =
-    (length carried == length trips) && (nat_le (length trips) 200000 && list_all (is_in_range (length routes) (length rows)) carried)
+-- each trip has its numbers, places and stops, and there are at most 200,000
+abbrev pub are_in_range : List (List ℕ) → List (List ℕ) → List (List ℕ) → List CarriedTrip → List StopRow → Bool
+are_in_range trips routes stops carried rows =
+    (length carried == length trips) && (nat_le (length trips) 200000
+    && list_all (is_in_range (length routes) (length stops) rows) carried)

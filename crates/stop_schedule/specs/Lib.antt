@@ -10,6 +10,7 @@ pub mod Held
 pub mod Holding
 pub mod Ids
 pub mod Layout
+pub mod Planned
 pub mod Reading
 pub mod Rising
 pub mod RowReader
@@ -17,6 +18,7 @@ pub mod Rows
 pub mod Seen
 pub mod Services
 pub mod Sheet
+pub mod Stops
 pub mod StopTimes
 pub mod Table
 pub mod Timetable

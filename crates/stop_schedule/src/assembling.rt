@@ -14,6 +14,7 @@ use crate::carried::CarriedTrip;
 use crate::folder_rows::{FolderRows, read_folder};
 use crate::ids::Ids;
 use crate::loading::Trips;
+use crate::stop_checks::are_stops_of;
 use crate::stop_times::{LoadedStop, StopRow, lesser, push_filled, untimed_end};
 use crate::table_fault::TableFault;
 use crate::timetable::Timetable;
@@ -123,30 +124,38 @@ fn carried_trips(
     Ok(all)
 }
 
-// Whether a trip's numbers and places are in range.
-fn is_in_range(trip: &CarriedTrip, routes: usize, rows: usize) -> bool
-    ensures { result ≡ in_range_of routes rows trip.now }
+// Whether a trip's numbers and places are in range, and its stops are those of a trip.
+fn is_in_range(trip: &CarriedTrip, routes: usize, stops: usize, rows: &[StopRow]) -> bool
+    ensures { result ≡ in_range_of routes stops rows.now trip.now }
 {
-    (trip.route as usize) < routes && trip.first <= trip.end && trip.end <= rows
+    if trip.route as usize >= routes || trip.first > trip.end || trip.end > rows.len() {
+        return false;
+    }
+    let (front, _) = rows.split_at(trip.end);
+    let (_, held) = front.split_at(trip.first);
+    are_stops_of(held, stops)
 }
 
 // Whether that holds of each trip.
-fn each_in_range(trips: &[CarriedTrip], routes: usize, rows: usize) -> bool
-    ensures { result ≡ list_all (in_range_of routes rows) trips.now }
+fn each_in_range(trips: &[CarriedTrip], routes: usize, stops: usize, rows: &[StopRow]) -> bool
+    ensures { result ≡ list_all (in_range_of routes stops rows.now) trips.now }
 {
-    trips.iter().all(|trip| is_in_range(trip, routes, rows))
+    trips
+        .iter()
+        .all(|trip| is_in_range(trip, routes, stops, rows))
 }
 
-// Whether each trip's numbers and places are in range, and there are not too many.
-fn are_in_range(all: &Assembled, routes: &Ids) -> bool
-    ensures { result ≡ all_in_range_of all.now.trips routes.now all.now.carried.items all.now.stop_rows.items }
+// Whether each trip's numbers, places and stops are in range, and there are not too many.
+fn are_in_range(all: &Assembled, routes: &Ids, stops: &Ids) -> bool
+    ensures { result ≡ all_in_range_of all.now.trips routes.now stops.now all.now.carried.items all.now.stop_rows.items }
 {
     all.carried.as_slice().len() == all.trips.len()
         && all.trips.len() <= MAX_TRIPS
         && each_in_range(
             all.carried.as_slice(),
             routes.len(),
-            all.stop_rows.as_slice().len(),
+            stops.len(),
+            all.stop_rows.as_slice(),
         )
 }
 
@@ -168,7 +177,7 @@ fn assemble(alloc: Global, folder: FolderRows) -> Result<Timetable, TableFault>
     if let Some(row) = all.untimed {
         return Err(TableFault::UntimedEnd(row as u64));
     }
-    if !are_in_range(&all, &routes) {
+    if !are_in_range(&all, &routes, &stops) {
         return Err(TableFault::Memory);
     }
     let Assembled {

@@ -7,14 +7,11 @@ use crate::forms::{seconds, sequence};
 use crate::ids::{Ids, find_in};
 use crate::numbers::StopNo;
 use crate::sheet::Sheet;
-use crate::stop_times::{LoadedStop, place_of};
+use crate::stop_times::{LoadedStop, MAX_STOPS, place_of};
 use crate::table_fault::TableFault;
 use crate::table_file::TableFile;
 use crate::taking::TakesRows;
 use std::alloc::Global;
-
-// The rows that a trip has at most.
-const MAX_STOPS: usize = 250;
 
 /// The stops of each trip of `trips.txt`, in rising sequence.
 #[derive(Drop)]

@@ -9,6 +9,9 @@ ghost use Rattle.stop_schedule.specs.StopTimes as spec;
 use crate::numbers::StopNo;
 use std::alloc::{AllocError, Global};
 
+/// The stops that a trip has at most.
+pub(crate) const MAX_STOPS: usize = 250;
+
 /// A stop of a trip, with its times in seconds from the start of the service day (GTFS Schedule reference,
 /// stop_times.txt).
 #[derive(Clone, Copy, Debug, PartialEq, Eq)]

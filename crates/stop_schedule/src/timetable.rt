@@ -3,6 +3,7 @@ ghost use Rattle.std.specs.Prelude.{◌≡◌, ◌≤◌, ◌<◌, true, Some, l
 ghost use Rattle.std.specs.Str.{bytes_eq};
 ghost use Rattle.stop_schedule.specs.Held.{are_in_range};
 ghost use Rattle.stop_schedule.specs.Ids.{are_distinct};
+ghost use Rattle.stop_schedule.specs.Stops.{are_known, are_rising};
 
 use crate::carried::CarriedTrip;
 use crate::ids::Ids;
@@ -21,7 +22,7 @@ pub struct Timetable {
     pub(crate) carried: Vec<CarriedTrip>,
     pub(crate) stop_rows: Vec<StopRow>,
     pub(crate) services: Services,
-    pub(crate) ghost in_range: { are_in_range trips routes carried.items stop_rows.items ≡ true },
+    pub(crate) ghost in_range: { are_in_range trips routes stops carried.items stop_rows.items ≡ true },
 }
 
 impl Timetable {
@@ -63,7 +64,9 @@ impl Timetable {
     /// The id of a trip's route.
     pub fn route_of(&self, trip: TripNo) -> &str
         requires { trip.0 < length self.now.trips }
-        ensures { result.now ≡ (seen self.now).route_of trip.0 }
+        ensures value { result.now ≡ (seen self.now).route_of trip.0 }
+        ensures shortest { 1 ≤ length result.now }
+        ensures longest { length result.now ≤ 200 }
     {
         let carried = &self.carried[trip.0 as usize];
         self.routes.at(carried.route)
@@ -113,10 +116,13 @@ impl Timetable {
         self.routes.at(route.0)
     }
 
-    /// The stops of a trip, in rising sequence.
+    /// The stops of a trip, in rising sequence: at most 250.
     pub fn stops_of(&self, trip: TripNo) -> &[StopRow]
         requires { trip.0 < length self.now.trips }
-        ensures { result.now ≡ (seen self.now).stops_of trip.0 }
+        ensures value { result.now ≡ (seen self.now).stops_of trip.0 }
+        ensures rising { are_rising result.now ≡ true }
+        ensures known { are_known (length self.now.stops) result.now ≡ true }
+        ensures few { length result.now ≤ 250 }
     {
         let carried = &self.carried[trip.0 as usize];
         let (front, _) = self.stop_rows.as_slice().split_at(carried.end);

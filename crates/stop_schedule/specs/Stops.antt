@@ -1,0 +1,17 @@
+-- The stops of a trip among themselves (GTFS Schedule reference, stop_times.txt).
+use Rattle.std.specs.Prelude.{◌&&◌, ℕ, Bool, true, nat_le, nat_lt, List, [], ◌∷◌, length}
+use Rattle.std.specs.List.{list_all}
+use Rattle.stop_schedule.specs.declared.stop_times.StopRow.{StopRow}
+
+-- each stop has a greater sequence than those before it
+abbrev pub are_rising : List StopRow → Bool
+are_rising [] = true
+are_rising (row ∷ rows) = list_all (λ other. nat_lt row.sequence other.sequence) rows && are_rising rows
+
+-- the numbers of the stops are of this many stops
+abbrev pub are_known : ℕ → List StopRow → Bool
+are_known stops rows = list_all (λ row. nat_lt row.stop.0 stops) rows
+
+-- they are at most 250, rise in sequence, and are of this many stops
+abbrev pub are_stops_of : ℕ → List StopRow → Bool
+are_stops_of stops rows = nat_le (length rows) 250 && (are_rising rows && are_known stops rows)
