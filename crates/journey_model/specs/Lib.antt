@@ -1,0 +1,12 @@
+pub mod Chains
+pub mod Dated
+pub mod FaultTexts
+pub mod FeedReadings
+pub mod Matching
+pub mod Propagation
+pub mod Readings
+pub mod Records
+pub mod Runs
+pub mod Schedules
+pub mod Times
+pub mod Updates

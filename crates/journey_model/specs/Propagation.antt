@@ -1,0 +1,53 @@
+-- What a list of updates says of each stop (GTFS Realtime reference, StopTimeUpdate: a delay is propagated to the stops
+-- behind; SKIPPED; NO_DATA).
+use Rattle.std.specs.Prelude.{◌==◌, ◌&&◌, ℕ, ℤ, ◌+ℤ◌, ◌-ℤ◌, nat_le, Bool, not, List, [], ◌∷◌, length, map, Option, Some, None, if◌then◌else◌}
+use Rattle.std.specs.List.{list_any, range_with_len, zip}
+use Rattle.std.specs.Option.{option_or}
+use Rattle.gw_base.specs.declared.messages.StopUpdate.{StopUpdate}
+use Rattle.journey_model.specs.Runs.{Run, planned_at}
+use Rattle.journey_model.specs.Updates.{is_no_data, is_skipped, times}
+use Rattle.journey_model.specs.declared.readings.StopReading.{StopReading}
+use Rattle.journey_model.specs.declared.readings.StopReading.TheVariants.{Absent, Skipped, Timed}
+
+-- a SKIPPED update stands at the stop
+abbrev pub skips_at : ℕ → List (ℕ × StopUpdate) → Bool
+skips_at place placed = list_any (λ one. (one.0 == place) && is_skipped one.1) placed
+
+-- an update isn't SKIPPED and stands at or before the stop
+abbrev pub supplies : ℕ → ℕ × StopUpdate → Bool
+supplies place one = nat_le one.0 place && not (is_skipped one.1)
+
+-- of the updates that aren't SKIPPED, the one of the greatest place at or before the stop: places rise, so it is the last
+abbrev pub supplier : ℕ → List (ℕ × StopUpdate) → Option (ℕ × StopUpdate)
+supplier place [] = None
+supplier place (one ∷ others) = option_or (supplier place others) (if supplies place one then Some one else None)
+
+-- a stop at the times, if there are any
+abbrev pub timed : Option (ℤ × ℤ) → StopReading
+timed None = Absent
+timed (Some both) = Timed both.0 both.1
+
+-- both planned times, later by the delay of a departure at another place
+abbrev pub later_by : ℤ × ℤ → ℤ → StopReading
+later_by planned delay = Timed (planned.0 +ℤ delay) (planned.1 +ℤ delay)
+
+abbrev pub carried : ℤ × ℤ → ℤ × ℤ → Option (ℤ × ℤ) → StopReading
+carried planned before None = Absent
+carried planned before (Some both) = later_by planned (both.1 -ℤ before.1)
+
+-- what the update at a place supplies to a stop at or behind it: nothing for NO_DATA; its own times at its place; behind it
+-- the planned times and the delay of its departure
+abbrev pub supplied : Run → ℕ → Option (ℕ × StopUpdate) → StopReading
+supplied run place None = Absent
+supplied run place (Some one) =
+    if is_no_data one.1 then Absent else
+    (if one.0 == place then timed (times (planned_at run place) one.1)
+    else carried (planned_at run place) (planned_at run one.0) (times (planned_at run one.0) one.1))
+
+-- the propagation: what placed updates say of the stop at a place
+abbrev pub prop : Run → List (ℕ × StopUpdate) → ℕ → StopReading
+prop run placed place = if skips_at place placed then Skipped else supplied run place (supplier place placed)
+
+-- what updates at these places say of every stop
+abbrev pub propagated : Run → List ℕ → List StopUpdate → List StopReading
+propagated run places updates = map (prop run (zip places updates)) (range_with_len 0 (length run.stops))

@@ -1,0 +1,28 @@
+-- Readings that can be served over a trip.
+use Rattle.std.specs.Prelude.{◌≡◌, ◌&&◌, ◌==◌, ℕ, ℤ, ◌-ℤ◌, Bool, true, false, List, [], ◌∷◌, length}
+use Rattle.journey_model.specs.Runs.{Run, planned_at}
+use Rattle.journey_model.specs.Times.{is_delay}
+use Rattle.stop_schedule.specs.Planned.{planned}
+use Rattle.stop_schedule.specs.declared.stop_times.StopRow.{StopRow}
+use Rattle.journey_model.specs.declared.readings.StopReading.{StopReading}
+use Rattle.journey_model.specs.declared.readings.StopReading.TheVariants.{Absent, Skipped, Timed}
+use Rattle.journey_model.specs.declared.readings.JourneyReading.{JourneyReading}
+use Rattle.journey_model.specs.declared.readings.JourneyReading.TheVariants.{Cancelled, Stops}
+
+-- the times of a stop are at most a week from the planned ones
+abbrev pub is_near : ℤ × ℤ → StopReading → Bool
+is_near planned Absent = true
+is_near planned Skipped = true
+is_near planned (Timed arrival departure) = is_delay (arrival -ℤ planned.0) && is_delay (departure -ℤ planned.1)
+
+-- one reading for each of the stops, at most a week from their planned times
+abbrev pub are_near : ℤ → List StopRow → List StopReading → Bool
+are_near start [] [] = true
+are_near start [] (reading ∷ readings) = false
+are_near start (row ∷ rows) [] = false
+are_near start (row ∷ rows) (reading ∷ readings) = is_near (planned start row) reading && are_near start rows readings
+
+-- a journey's reading fits a trip with these stops: it is cancelled, or has one such reading for each stop
+abbrev pub fits_trip : ℤ → List StopRow → JourneyReading → Bool
+fits_trip start rows Cancelled = true
+fits_trip start rows (Stops readings) = are_near start rows readings

@@ -1,0 +1,16 @@
+-- A trip on a day, as updates and calls are read over it.
+use Rattle.std.specs.Prelude.{ℕ, ℤ, pos, List, slice_get}
+use Rattle.std.specs.Option.{option_map_or}
+use Rattle.stop_schedule.specs.Planned.{planned}
+use Rattle.stop_schedule.specs.declared.stop_times.StopRow.{StopRow}
+
+-- the ids of the timetable's stops, by which they are numbered; the second at which the service day starts; and the stops of
+-- the trip with their planned times
+pub record Run : Type 0 where
+  pub ids : List (List ℕ)
+  pub start : ℤ
+  pub stops : List StopRow
+
+-- the planned arrival and departure at a place
+abbrev pub planned_at : Run → ℕ → ℤ × ℤ
+planned_at run place = option_map_or (planned run.start) (slice_get run.stops place) (pos 0, pos 0)

@@ -1,0 +1,29 @@
+-- What journeys are read over.
+use Rattle.std.specs.Prelude.{ℕ, ℤ, List, Bool, Option, Some, None, option_map, is_some}
+use Rattle.service_day.specs.Windows.{DayStarts, start_in}
+use Rattle.service_day.specs.declared.zones.Rules.{Rules}
+use Rattle.stop_schedule.specs.Seen.{seen}
+use Rattle.stop_schedule.specs.Table.{Table}
+use Rattle.journey_model.specs.Runs.{Run}
+use Rattle.journey_model.specs.declared.context.Context.{Context}
+
+-- the timetable, the zone of its times, and the window of service days
+pub record Schedule : Type 0 where
+  pub table : Table
+  pub zone : Rules
+  pub window : DayStarts
+
+-- what a context shows
+abbrev pub schedule_of : Context → Schedule
+schedule_of context = record { table = seen context.table.now; zone = context.zone.now; window = context.window.now }
+
+-- a trip on a day that starts at that second
+abbrev pub run_from : Table → ℕ → ℤ → Run
+run_from table trip start = record { ids = table.stops; start = start; stops = table.stops_of trip }
+
+-- a trip on a day, if the day is in the window
+abbrev pub run_on : Schedule → ℕ → ℤ → Option Run
+run_on schedule trip day = option_map (run_from schedule.table trip) (start_in schedule.window day)
+
+abbrev pub in_window : Schedule → ℤ → Bool
+in_window schedule day = is_some (start_in schedule.window day)

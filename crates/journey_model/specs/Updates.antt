@@ -1,0 +1,104 @@
+-- The updates of a trip: their places, and their times there (GTFS Realtime reference, StopTimeUpdate, StopTimeEvent).
+use Rattle.std.specs.Prelude.{◌||◌, ◌+◌, ℕ, ℤ, pos, ◌+ℤ◌, Bool, List, [], ◌∷◌, position, Option, Some, None, option_map, option_and_then, Result, Ok, Err, if◌then◌else◌}
+use Rattle.std.specs.Option.{option_or}
+use Rattle.std.specs.Ordering.{int_eq}
+use Rattle.std.specs.Str.{bytes_eq}
+use Rattle.gw_base.specs.declared.messages.Event.{Event}
+use Rattle.gw_base.specs.declared.messages.StopUpdate.{StopUpdate}
+use Rattle.journey_model.specs.Chains.{◌>>=◌}
+use Rattle.journey_model.specs.Matching.{update_place}
+use Rattle.journey_model.specs.Runs.{Run, planned_at}
+use Rattle.journey_model.specs.Times.{both_times, delay_fault}
+use Rattle.journey_model.specs.declared.fault.Fault.{Fault}
+use Rattle.journey_model.specs.declared.fault.Fault.TheVariants.{UnknownStop, StopMismatch, OutOfOrder, NoTime, OtherRelation}
+use Rattle.journey_model.specs.declared.matching.MatchFault.{MatchFault}
+use Rattle.journey_model.specs.declared.matching.MatchFault.TheVariants as match
+use Rattle.journey_model.specs.declared.matching.NamedStop.{NamedStop}
+use Rattle.journey_model.specs.declared.matching.NamedStop.TheVariants.{Missing, Unknown, Known}
+
+-- the schedule_relationship of an update: SCHEDULED, SKIPPED or NO_DATA
+abbrev pub is_scheduled : StopUpdate → Bool
+is_scheduled update = int_eq update.relation (pos 0)
+
+abbrev pub is_skipped : StopUpdate → Bool
+is_skipped update = int_eq update.relation (pos 1)
+
+abbrev pub is_no_data : StopUpdate → Bool
+is_no_data update = int_eq update.relation (pos 2)
+
+-- a text that isn't empty: an empty one counts as missing
+abbrev pub filled_text : Option (List ℕ) → Option (List ℕ)
+filled_text None = None
+filled_text (Some []) = None
+filled_text (Some (byte ∷ bytes)) = Some (byte ∷ bytes)
+
+-- the stop that an id names, among the ids of the timetable's stops
+abbrev pub known_stop : Option ℕ → NamedStop
+known_stop None = Unknown
+known_stop (Some place) = Known (record { 0 = place })
+
+abbrev pub named_by : List (List ℕ) → Option (List ℕ) → NamedStop
+named_by ids None = Missing
+named_by ids (Some id) = known_stop (position (bytes_eq id) ids)
+
+abbrev pub named_stop : List (List ℕ) → StopUpdate → NamedStop
+named_stop ids update = named_by ids (filled_text update.stop_id)
+
+-- the time of an event: its `time`, else the planned time and its `delay`; with neither it counts as missing
+abbrev pub event_time : ℤ → Option Event → Option ℤ
+event_time planned None = None
+event_time planned (Some event) = option_or event.time (option_map (λ delay. planned +ℤ delay) event.delay)
+
+-- the times of the events of an update, by the planned ones at its place
+abbrev pub arrival_time : ℤ × ℤ → StopUpdate → Option ℤ
+arrival_time planned update = event_time planned.0 update.arrival
+
+abbrev pub departure_time : ℤ × ℤ → StopUpdate → Option ℤ
+departure_time planned update = event_time planned.1 update.departure
+
+-- an update's own times at its place
+abbrev pub times : ℤ × ℤ → StopUpdate → Option (ℤ × ℤ)
+times planned update = both_times planned (arrival_time planned update) (departure_time planned update)
+
+-- the fault of the update of that number without a place
+abbrev pub match_fault : ℕ → MatchFault → Fault
+match_fault number match.UnknownStop = UnknownStop number
+match_fault number match.StopMismatch = StopMismatch number
+match_fault number match.OutOfOrder = OutOfOrder number
+
+-- the fault of the times of a SCHEDULED update: it has none, or a delay is over a week
+abbrev pub times_fault : ℕ → ℤ × ℤ → StopUpdate → Option Fault
+times_fault number planned update =
+    if is_scheduled update then untimed (times planned update) else None
+  where
+    untimed : Option (ℤ × ℤ) → Option Fault
+    untimed None = Some (NoTime number)
+    untimed (Some both) = delay_fault number planned (arrival_time planned update) (departure_time planned update)
+
+-- the place, unless there is a fault
+abbrev pub place_unless : Option Fault → ℕ → Result ℕ Fault
+place_unless None place = Ok place
+place_unless (Some fault) place = Err fault
+
+abbrev pub place_timed : Run → ℕ → StopUpdate → Result ℕ MatchFault → Result ℕ Fault
+place_timed run number update (Err fault) = Err (match_fault number fault)
+place_timed run number update (Ok place) = place_unless (times_fault number (planned_at run place) update) place
+
+-- the place of the update of that number behind the one before, or its first fault
+abbrev pub place_of : Run → ℕ → Option ℕ → StopUpdate → Result ℕ Fault
+place_of run number after update =
+    if is_scheduled update || (is_skipped update || is_no_data update)
+    then place_timed run number update (update_place run.stops after update.sequence (named_stop run.ids update))
+    else Err (OtherRelation update.relation)
+
+-- the places of updates numbered from that number on, behind the place before, or the fault of the first that has one
+abbrev pub places_from : Run → ℕ → Option ℕ → List StopUpdate → Result (List ℕ) Fault
+places_from run number after [] = Ok []
+places_from run number after (update ∷ updates) = do
+  place ← place_of run number after update
+  others ← places_from run (number + 1) (Some place) updates
+  Ok (place ∷ others)
+
+-- the places of the updates of a trip, or the first fault
+abbrev pub places : Run → List StopUpdate → Result (List ℕ) Fault
+places run updates = places_from run 0 None updates

@@ -1,0 +1,56 @@
+//! What journeys are read over, and a trip on a day. The functions meet `specs/Schedules.antt`.
+ghost use Rattle.std.specs.Prelude.{◌≡◌, ◌<◌, ◌≤◌, length, true, option_map, IfSome};
+ghost use Rattle.service_day.specs.Utc.{IsMoment};
+ghost use Rattle.stop_schedule.specs.Stops.{are_rising};
+
+use service_day::{Day, Window, Zone};
+use stop_schedule::{StopRow, Timetable, TripNo};
+
+/// What journeys are read over: a timetable, the zone of its times, and a window made with that zone.
+#[derive(Clone, Copy)]
+pub struct Context<'a> {
+    /// What the GTFS Schedule folder says.
+    pub table: &'a Timetable,
+    /// The zone of the timetable's times.
+    pub zone: &'a Zone,
+    /// The service days, with their starts in the zone.
+    pub window: &'a Window,
+}
+
+/// A trip on a day.
+#[derive(Clone, Copy)]
+pub struct DatedTrip<'a> {
+    /// The trip.
+    pub trip: TripNo,
+    /// The service day.
+    pub day: Day,
+    /// The start of the service day, in seconds since 1970.
+    pub start: i64,
+    /// The trip's stops, in rising sequence.
+    pub stops: &'a [StopRow],
+    pub ghost rising: { are_rising stops.now ≡ true },
+    pub ghost few: { length stops.now ≤ 250 },
+    pub ghost start_in: { IsMoment start },
+}
+
+impl<'a> Context<'a> {
+    ghost use Rattle.journey_model.specs.Schedules.{run_on, schedule_of};
+    ghost use Rattle.journey_model.specs.Dated.{run_of};
+
+    /// A trip on a day; None exactly where the day isn't in the window.
+    pub fn dated(&self, trip: TripNo, day: Day) -> Option<DatedTrip<'a>>
+        requires { trip.0 < length self.now.table.now.trips }
+        ensures value { option_map (run_of self.now.table.now.stops) result ≡ run_on (schedule_of self.now) trip.0 day }
+        ensures names { IfSome result (λ dated. (dated.trip ≡ trip) × (dated.day ≡ day)) }
+    {
+        match self.window.start_of(day) {
+            Some(start) => Some(DatedTrip {
+                trip,
+                day,
+                start,
+                stops: self.table.stops_of(trip),
+            }),
+            None => None,
+        }
+    }
+}

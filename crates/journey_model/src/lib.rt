@@ -1,0 +1,18 @@
+//! What journeys read as: the readings of stops and journeys, how calls and updates are matched to the stops of a
+//! trip, the faults for which an item is set aside, and reports. The definitions of propagation and of what a feed
+//! says stand here, since several layers cite them. Nothing in this crate takes memory.
+#![tactic(auto)]
+
+mod context;
+mod fault;
+mod matching;
+mod readings;
+mod report;
+#[cfg(test)]
+mod tests;
+
+pub use context::{Context, DatedTrip};
+pub use fault::{Fault, FaultText, fault_text};
+pub use matching::{MatchFault, NamedStop, match_call, match_update};
+pub use readings::{DatedReading, JourneyReading, JourneyRecord, StopReading};
+pub use report::Report;

@@ -1,0 +1,193 @@
+//! Which stop of a trip a call or an update is of. The functions meet `specs/Matching.antt`.
+ghost use Rattle.std.specs.Prelude.{◌≡◌, ◌<◌, ◌≤◌, length, position, true, IfSome, IfOk};
+ghost use Rattle.std.specs.List.{list_any};
+ghost use Rattle.journey_model.specs.Matching as spec;
+
+use crate::context::DatedTrip;
+use stop_schedule::{StopNo, StopRow};
+
+/// The stop that an update names by its `stop_id`.
+#[derive(Clone, Copy, Debug, PartialEq, Eq)]
+pub enum NamedStop {
+    /// It names none.
+    Missing,
+    /// It names one that isn't in the timetable.
+    Unknown,
+    /// It names this one.
+    Known(StopNo),
+}
+
+/// Why an update is of no stop of its trip.
+#[derive(Clone, Copy, Debug, PartialEq, Eq)]
+pub enum MatchFault {
+    /// No stop of the trip has the sequence, or without one the id; or both are missing.
+    UnknownStop,
+    /// The stop of the sequence has another id.
+    StopMismatch,
+    /// The stop isn't behind the one before.
+    OutOfOrder,
+}
+
+// The place from which on a stop lies behind the one before.
+fn place_behind(after: Option<u32>) -> usize
+    ensures { result ≡ spec.place_behind after }
+{
+    match after {
+        Some(place) => place as usize + 1,
+        None => 0,
+    }
+}
+
+// Whether the stop at a place is that one.
+fn is_stop_at(stops: &[StopRow], place: usize, stop: StopNo) -> bool
+    ensures { result ≡ spec.stands_at (spec.is_of_stop stop.0) place stops.now }
+{
+    match stops.get(place) {
+        Some(row) => row.stop.0 == stop.0,
+        None => false,
+    }
+}
+
+// The first place of that stop among stops.
+fn position_of(stops: &[StopRow], stop: StopNo) -> Option<usize>
+    ensures value { result ≡ position (spec.is_of_stop stop.0) stops.now }
+    ensures within { IfSome result (λ place. place < length stops.now) }
+{
+    stops.iter().position(|row| row.stop.0 == stop.0)
+}
+
+// The first place of that stop from a place on.
+fn first_place(stops: &[StopRow], from: usize, stop: StopNo) -> Option<usize>
+    ensures value { result ≡ spec.first_place stop.0 from stops.now }
+    ensures within { IfSome result (λ place. place < length stops.now) }
+{
+    if from > stops.len() {
+        return None;
+    }
+    let (_, rest) = stops.split_at(from);
+    match position_of(rest, stop) {
+        Some(place) => Some(place + from),
+        None => None,
+    }
+}
+
+// Whether the stop of that order, counted from 1, is that one and lies from a place on.
+fn fits_order(stops: &[StopRow], from: usize, order: u64, stop: StopNo) -> bool
+    ensures value { result ≡ spec.fits_order stop.0 from order stops.now }
+    ensures within { result ≡ true → order ≤ length stops.now }
+{
+    1 <= order && from as u64 <= order - 1 && is_stop_at(stops, (order - 1) as usize, stop)
+}
+
+/// The place of the stop that a call is of, behind the one of the call before (SIRI 2.0, EstimatedCall with
+/// StopPointRef and Order): by its order, counted from 1, where the stop of that order is its stop and lies behind;
+/// else the first place of its stop behind. Places count from 0. None exactly where there is none.
+pub fn match_call(
+    dated: &DatedTrip<'_>,
+    after: Option<u32>,
+    stop: StopNo,
+    order: Option<u64>,
+) -> Option<u32>
+    ensures value { result ≡ spec.call_place dated.now.stops.now after stop.0 order }
+    ensures within { IfSome result (λ place. place < length dated.now.stops.now) }
+{
+    let stops = dated.stops;
+    let from = place_behind(after);
+    if let Some(order) = order {
+        if fits_order(stops, from, order, stop) {
+            return Some((order - 1) as u32);
+        }
+    }
+    match first_place(stops, from, stop) {
+        Some(place) => Some(place as u32),
+        None => None,
+    }
+}
+
+// The place of the stop of that sequence.
+fn place_of_sequence(stops: &[StopRow], sequence: u32) -> Option<usize>
+    ensures value { result ≡ position (spec.has_sequence sequence) stops.now }
+    ensures within { IfSome result (λ place. place < length stops.now) }
+{
+    stops.iter().position(|row| row.sequence == sequence)
+}
+
+// Whether the stop at a place agrees with the one that is named.
+fn agrees_at(stops: &[StopRow], place: usize, named: NamedStop) -> bool
+    ensures { result ≡ spec.stands_at (spec.agrees named) place stops.now }
+{
+    match (stops.get(place), named) {
+        (None, _) => false,
+        (Some(_), NamedStop::Missing) => true,
+        (Some(_), NamedStop::Unknown) => false,
+        (Some(row), NamedStop::Known(stop)) => row.stop.0 == stop.0,
+    }
+}
+
+// The place of an update that has a sequence.
+fn place_by_sequence(
+    stops: &[StopRow],
+    from: usize,
+    sequence: u32,
+    named: NamedStop,
+) -> Result<usize, MatchFault>
+    ensures value { result
+        ≡ spec.place_by_sequence stops.now from named (position (spec.has_sequence sequence) stops.now) }
+    ensures within { IfOk result (λ place. place < length stops.now) }
+{
+    let Some(place) = place_of_sequence(stops, sequence) else {
+        return Err(MatchFault::UnknownStop);
+    };
+    if !agrees_at(stops, place, named) {
+        return Err(MatchFault::StopMismatch);
+    }
+    if from <= place {
+        Ok(place)
+    } else {
+        Err(MatchFault::OutOfOrder)
+    }
+}
+
+// Whether a trip has that stop.
+fn has_stop(stops: &[StopRow], stop: StopNo) -> bool
+    ensures { result ≡ list_any (spec.is_of_stop stop.0) stops.now }
+{
+    stops.iter().any(|row| row.stop.0 == stop.0)
+}
+
+// The place of an update that has a stop alone.
+fn place_by_stop(stops: &[StopRow], from: usize, named: NamedStop) -> Result<usize, MatchFault>
+    ensures value { result ≡ spec.place_by_stop stops.now from named }
+    ensures within { IfOk result (λ place. place < length stops.now) }
+{
+    let NamedStop::Known(stop) = named else {
+        return Err(MatchFault::UnknownStop);
+    };
+    if !has_stop(stops, stop) {
+        return Err(MatchFault::UnknownStop);
+    }
+    match first_place(stops, from, stop) {
+        Some(place) => Ok(place),
+        None => Err(MatchFault::OutOfOrder),
+    }
+}
+
+/// The place of the stop that an update is of, behind the one of the update before (GTFS Realtime reference,
+/// StopTimeUpdate with stop_sequence and stop_id): by its sequence, where the stop that it names agrees; without a
+/// sequence the first place of its stop behind. Places count from 0.
+pub fn match_update(
+    dated: &DatedTrip<'_>,
+    after: Option<u32>,
+    sequence: Option<u32>,
+    stop: NamedStop,
+) -> Result<u32, MatchFault>
+    ensures value { result ≡ spec.update_place dated.now.stops.now after sequence stop }
+    ensures within { IfOk result (λ place. place < length dated.now.stops.now) }
+{
+    let from = place_behind(after);
+    let place = match sequence {
+        Some(sequence) => place_by_sequence(dated.stops, from, sequence, stop)?,
+        None => place_by_stop(dated.stops, from, stop)?,
+    };
+    Ok(place as u32)
+}

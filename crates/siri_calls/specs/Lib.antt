@@ -1,0 +1,6 @@
+pub mod Calls
+pub mod Deliveries
+pub mod Fields
+pub mod Forms
+pub mod Frame
+pub mod Verdicts
