@@ -1,11 +1,13 @@
 -- What journeys are read over.
-use Rattle.std.specs.Prelude.{ℕ, ℤ, List, Bool, Option, Some, None, option_map, is_some}
+use Rattle.std.specs.Prelude.{◌≡◌, ◌<◌, ℕ, ℤ, Bool, true, length, Option, Some, option_map, is_some}
 use Rattle.service_day.specs.Windows.{DayStarts, start_in}
 use Rattle.service_day.specs.declared.zones.Rules.{Rules}
 use Rattle.stop_schedule.specs.Seen.{seen}
 use Rattle.stop_schedule.specs.Table.{Table}
+use Rattle.journey_model.specs.Readings.{fits_trip}
 use Rattle.journey_model.specs.Runs.{Run}
 use Rattle.journey_model.specs.declared.context.Context.{Context}
+use Rattle.journey_model.specs.declared.readings.JourneyReading.{JourneyReading}
 
 -- the timetable, the zone of its times, and the window of service days
 pub record Schedule : Type 0 where
@@ -27,3 +29,12 @@ run_on schedule trip day = option_map (run_from schedule.table trip) (start_in s
 
 abbrev pub in_window : Schedule → ℤ → Bool
 in_window schedule day = is_some (start_in schedule.window day)
+
+-- a reading of a trip on a day can be served: the trip is there and runs on the day, the day is in the window, and there is
+-- one reading for each stop, at most a week from the planned times
+pub record IsServable (schedule : Schedule) (trip : ℕ) (day : ℤ) (reading : JourneyReading) : Type 0 where
+  pub trip_in : trip < length schedule.table.trips
+  pub runs : schedule.table.runs trip day ≡ true
+  pub run : Run
+  pub on_day : run_on schedule trip day ≡ Some run
+  pub fits : fits_trip run.start run.stops reading ≡ true
