@@ -1,0 +1,74 @@
+-- The entity of a record (GTFS Realtime reference, FeedEntity, TripUpdate, TripDescriptor).
+use Rattle.std.specs.Prelude.{ℕ, ℤ, pos, Bool, true, false, List, [], ◌∷◌, ◌++◌, codes, slice_index_or, unsigned_abs, Option, Some, None, if◌then◌else◌}
+use Rattle.std.specs.List.{list_all}
+use Rattle.gw_base.specs.declared.messages.Entity.{Entity}
+use Rattle.gw_base.specs.declared.messages.TripDescriptor.{TripDescriptor}
+use Rattle.gw_base.specs.declared.messages.TripUpdate.{TripUpdate}
+use Rattle.service_day.specs.DayTexts.{compact_text}
+use Rattle.feed_messages.specs.Written.{written}
+use Rattle.sparse_planner.specs.Shortest.{shortest}
+use Rattle.journey_model.specs.Records.{Recorded}
+use Rattle.journey_model.specs.Runs.{Run}
+use Rattle.journey_model.specs.Schedules.{Schedule, run_on}
+use Rattle.journey_model.specs.declared.readings.JourneyReading.{JourneyReading}
+use Rattle.journey_model.specs.declared.readings.JourneyReading.TheVariants.{Cancelled, Stops}
+use Rattle.journey_model.specs.declared.readings.StopReading.{StopReading}
+use Rattle.journey_model.specs.declared.readings.StopReading.TheVariants.{Absent, Skipped, Timed}
+
+-- the id of a trip
+abbrev pub id_of : List (List ℕ) → ℕ → List ℕ
+id_of trips trip = slice_index_or trips trip []
+
+-- the id of a journey's entity: the service day and the trip, joined by a colon
+abbrev pub journey_id : List ℕ → List ℕ → List ℕ
+journey_id date trip_id = date ++ codes ":" ++ trip_id
+
+-- the schedule_relationship of a journey: CANCELED, or SCHEDULED
+abbrev pub relation_of : JourneyReading → ℤ
+relation_of Cancelled = pos 3
+relation_of (Stops readings) = pos 0
+
+-- the trip on that day
+abbrev pub descriptor : List ℕ → List ℕ → JourneyReading → TripDescriptor
+descriptor date trip_id reading = record { trip_id = Some trip_id; start_date = Some date; relation = relation_of reading; route_id = None }
+
+-- what its entity says: the trip on its day, the shortest updates of its reading, and the second of recording
+abbrev pub message : List ℕ → Run → Recorded → Entity
+message trip_id run one = record {
+  id = journey_id (compact_text one.day) trip_id;
+  deleted = false;
+  trip_update = Some (record {
+    trip = descriptor (compact_text one.day) trip_id one.reading;
+    updates = shortest run.start run.stops one.reading;
+    timestamp = Some (unsigned_abs one.at.0);
+  });
+  alert = None;
+}
+
+-- nothing is known of any stop of a journey: it has no entity. A cancelled journey has one even where it has no stops
+abbrev pub is_absent : StopReading → Bool
+is_absent Absent = true
+is_absent Skipped = false
+is_absent (Timed arrival departure) = false
+
+abbrev pub is_silent : JourneyReading → Bool
+is_silent Cancelled = false
+is_silent (Stops readings) = list_all is_absent readings
+
+-- the messages of a record over a schedule: one, or none where nothing is known or its day isn't in the window
+abbrev pub messages_on : Schedule → Recorded → Option Run → List Entity
+messages_on schedule one None = []
+messages_on schedule one (Some run) =
+    if is_silent one.reading then [] else message (id_of schedule.table.trips one.trip) run one ∷ []
+
+abbrev pub messages : Schedule → Recorded → List Entity
+messages schedule one = messages_on schedule one (run_on schedule one.trip one.day)
+
+-- the bytes of messages, each as a field of its feed
+abbrev pub all_written : List Entity → List ℕ
+all_written [] = []
+all_written (entity ∷ entities) = written entity ++ all_written entities
+
+-- the entity of a record: its bytes in a feed, none where nothing is known
+abbrev pub entity : Schedule → Recorded → List ℕ
+entity schedule one = all_written (messages schedule one)

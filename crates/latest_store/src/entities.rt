@@ -1,0 +1,86 @@
+//! The entity of a record. The functions meet `specs/Entities.antt`.
+ghost use Rattle.std.specs.Prelude.{◌≡◌, IfOk, All};
+ghost use Rattle.std.specs.Char.{IsAsciiDigit};
+ghost use Rattle.std.specs.List.{list_all};
+ghost use Rattle.journey_model.specs.Schedules.{IsServable};
+ghost use Rattle.latest_store.specs.Entities as spec;
+
+use gw_base::{Entity, List, StopUpdate, Text, TripDescriptor, TripUpdate};
+use journey_model::{JourneyReading, StopReading};
+use std::alloc::{AllocError, Global};
+
+// SCHEDULED and CANCELED (GTFS Realtime, TripDescriptor, schedule_relationship).
+const SCHEDULED: i32 = 0;
+const CANCELED: i32 = 3;
+
+// The text of a day's digits.
+pub(crate) fn digits(date: &[u8; 8]) -> &str
+    requires { All IsAsciiDigit date.now }
+    ensures same { result.now ≡ date.now }
+{
+    match str::from_utf8(date) {
+        Ok(text) => text,
+        Err(_) => unreachable!(),
+    }
+}
+
+// The id of a journey's entity.
+pub(crate) fn journey_id(alloc: Global, date: &str, trip_id: &str) -> Result<Text, AllocError>
+    ensures { IfOk result (λ id. id ≡ spec.journey_id date.now trip_id.now) }
+{
+    let mut id = Text::copied(alloc, date)?;
+    id.push(":")?;
+    id.push(trip_id)?;
+    Ok(id)
+}
+
+// The schedule_relationship of a journey.
+fn relation_of(reading: &JourneyReading) -> i32
+    ensures { result ≡ spec.relation_of reading.now }
+{
+    match reading {
+        JourneyReading::Cancelled => CANCELED,
+        JourneyReading::Stops(_) => SCHEDULED,
+    }
+}
+
+// The trip on its day.
+pub(crate) fn descriptor(
+    alloc: Global,
+    date: &str,
+    trip_id: &str,
+    reading: &JourneyReading,
+) -> Result<TripDescriptor, AllocError>
+    ensures { IfOk result (λ trip. trip ≡ spec.descriptor date.now trip_id.now reading.now) }
+{
+    Ok(TripDescriptor {
+        trip_id: Some(Text::copied(alloc, trip_id)?),
+        start_date: Some(Text::copied(alloc, date)?),
+        relation: relation_of(reading),
+        route_id: None,
+    })
+}
+
+// Whether nothing is known of a stop.
+fn is_absent(reading: &StopReading) -> bool
+    ensures { result ≡ spec.is_absent reading.now }
+{
+    matches!(reading, StopReading::Absent)
+}
+
+// Whether that holds of each stop.
+fn all_absent(readings: &[StopReading]) -> bool
+    ensures { result ≡ list_all spec.is_absent readings.now }
+{
+    readings.iter().all(|reading| is_absent(reading))
+}
+
+/// Whether nothing is known of any stop of a journey, which then has no entity.
+pub(crate) fn is_silent(reading: &JourneyReading) -> bool
+    ensures { result ≡ spec.is_silent reading.now }
+{
+    match reading {
+        JourneyReading::Cancelled => false,
+        JourneyReading::Stops(readings) => all_absent(readings.as_slice()),
+    }
+}

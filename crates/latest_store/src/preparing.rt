@@ -1,0 +1,107 @@
+//! Records that are ready to be served. The functions meet `specs/Entities.antt` and `specs/Reads.antt`.
+ghost use Rattle.std.specs.Prelude.{◌≡◌, ◌<◌, ◌++◌, ℕ, Some, List, length, true, IfOk};
+ghost use Rattle.gw_base.specs.declared.messages.Feed.{Feed};
+ghost use Rattle.service_day.specs.DayTexts.{compact_text, day_of};
+ghost use Rattle.service_day.specs.declared.days.DayForm.TheVariants.{Compact};
+ghost use Rattle.feed_messages.specs.Tables.{MeansFeed};
+ghost use Rattle.journey_model.specs.Readings.{fits_trip};
+ghost use Rattle.journey_model.specs.Records.{recorded};
+ghost use Rattle.journey_model.specs.Schedules.{IsServable, run_on, schedule_of};
+ghost use Rattle.stop_schedule.specs.Seen.{seen};
+ghost use Rattle.journey_model.specs.Dated.{run_of};
+ghost use Rattle.sparse_planner.specs.Means.{Says};
+ghost use Rattle.sparse_planner.specs.Shortest.{shortest};
+ghost use Rattle.latest_store.specs.Entities as spec;
+ghost use Rattle.latest_store.specs.Reads.{SaysItself, with_messages};
+
+use crate::entities::{descriptor, digits, is_silent, journey_id};
+use feed_messages::entity_bytes;
+use gw_base::{Bytes, Entity, TripUpdate};
+use journey_model::{Context, DatedTrip, JourneyRecord};
+use service_day::day_compact;
+use sparse_planner::plan;
+use std::alloc::{AllocError, Global};
+
+/// A record of a journey, and the entity with which it is served.
+#[derive(Debug, Drop)]
+pub struct Prepared {
+    /// The record.
+    pub rec: JourneyRecord,
+    /// The bytes of its entity as a field of a feed; none exactly where nothing is known of any stop.
+    pub entity: Bytes,
+}
+
+// What the entity of a record says.
+fn message(
+    alloc: Global,
+    trip_id: &str,
+    dated: &DatedTrip<'_>,
+    rec: &JourneyRecord,
+) -> Result<Entity, AllocError>
+    requires { fits_trip dated.now.start dated.now.stops.now rec.now.reading ≡ true }
+    ensures message { (ids : List (List ℕ)) → IfOk result (λ entity. entity ≡ spec.message trip_id.now (run_of ids dated.now) (recorded rec.now)) }
+    ensures says { (ids : List (List ℕ)) → IfOk result (λ _. Says (run_of ids dated.now) (shortest dated.now.start dated.now.stops.now rec.now.reading) rec.now.reading) }
+    ensures day { day_of Compact (compact_text rec.now.day) ≡ Some rec.now.day }
+    ensures date { length (compact_text rec.now.day) ≡ 8 }
+{
+    let date = day_compact(rec.day);
+    let date = digits(&date);
+    let updates = plan(alloc, dated, &rec.reading)?;
+    let trip = descriptor(alloc, date, trip_id, &rec.reading)?;
+    let id = journey_id(alloc, date, trip_id)?;
+    Ok(Entity {
+        id,
+        deleted: false,
+        trip_update: Some(TripUpdate {
+            trip,
+            updates,
+            timestamp: Some(rec.at.secs as u64),
+        }),
+        alert: None,
+    })
+}
+
+// The bytes of the entity of a record of a trip on its day.
+fn entity_of(
+    alloc: Global,
+    context: &Context<'_>,
+    dated: &DatedTrip<'_>,
+    rec: &JourneyRecord,
+) -> Result<Bytes, AllocError>
+    requires fits { fits_trip dated.now.start dated.now.stops.now rec.now.reading ≡ true }
+    requires trip { rec.now.trip.0 < length context.now.table.now.trips }
+    requires on_day { run_on (schedule_of context.now) rec.now.trip.0 rec.now.day ≡ Some (run_of context.now.table.now.stops dated.now) }
+    requires runs { (seen context.now.table.now).runs rec.now.trip.0 rec.now.day ≡ true }
+    ensures bytes { IfOk result (λ bytes. bytes ≡ spec.entity (schedule_of context.now) (recorded rec.now)) }
+    ensures means { IfOk result (λ bytes. (before : List ℕ) (feed : Feed) → MeansFeed before feed
+        → MeansFeed (before ++ bytes) (with_messages feed (spec.messages (schedule_of context.now) (recorded rec.now)))) }
+    ensures says { IfOk result (λ _. SaysItself (schedule_of context.now) (recorded rec.now)) }
+{
+    if is_silent(&rec.reading) {
+        return Ok(Bytes::new(alloc));
+    }
+    let entity = message(alloc, context.table.trip_id(rec.trip), dated, rec)?;
+    entity_bytes(alloc, &entity)
+}
+
+/// A record with its entity (GTFS Realtime, FeedEntity): the bytes mean an entity that a reader over the same timetable,
+/// zone and window takes for just this journey with just this reading; there are none exactly where nothing is known of
+/// any stop.
+pub fn prepare_record(
+    alloc: Global,
+    context: &Context<'_>,
+    rec: JourneyRecord,
+) -> Result<Prepared, AllocError>
+    requires { IsServable (schedule_of context.now) rec.trip.0 rec.day rec.reading }
+    ensures rec { IfOk result (λ prepared. prepared.rec ≡ rec) }
+    ensures entity { IfOk result (λ prepared. prepared.entity ≡ spec.entity (schedule_of context.now) (recorded rec)) }
+    ensures means { IfOk result (λ prepared. (before : List ℕ) (feed : Feed) → MeansFeed before feed
+        → MeansFeed (before ++ prepared.entity) (with_messages feed (spec.messages (schedule_of context.now) (recorded rec)))) }
+    ensures says { IfOk result (λ _. SaysItself (schedule_of context.now) (recorded rec)) }
+{
+    let Some(dated) = context.dated(rec.trip, rec.day) else {
+        unreachable!();
+    };
+    let entity = entity_of(alloc, context, &dated, &rec)?;
+    Ok(Prepared { rec, entity })
+}
