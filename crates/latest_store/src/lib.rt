@@ -5,5 +5,5 @@ mod entities;
 mod preparing;
 mod winning;
 
-pub use preparing::{Prepared, prepare_record};
+pub use preparing::{Prepared, prepare_record, record_entity};
 pub use winning::wins;

@@ -84,9 +84,27 @@ fn entity_of(
     entity_bytes(alloc, &entity)
 }
 
-/// A record with its entity (GTFS Realtime, FeedEntity): the bytes mean an entity that a reader over the same timetable,
-/// zone and window takes for just this journey with just this reading; there are none exactly where nothing is known of
-/// any stop.
+/// The bytes of a record's entity as a field of a feed (GTFS Realtime, FeedEntity): they mean an entity that a reader
+/// over the same timetable, zone and window takes for just this journey with just this reading; there are none exactly
+/// where nothing is known of any stop.
+pub fn record_entity(
+    alloc: Global,
+    context: &Context<'_>,
+    rec: &JourneyRecord,
+) -> Result<Bytes, AllocError>
+    requires { IsServable (schedule_of context.now) rec.now.trip.0 rec.now.day rec.now.reading }
+    ensures bytes { IfOk result (λ bytes. bytes ≡ spec.entity (schedule_of context.now) (recorded rec.now)) }
+    ensures means { IfOk result (λ bytes. (before : List ℕ) (feed : Feed) → MeansFeed before feed
+        → MeansFeed (before ++ bytes) (with_messages feed (spec.messages (schedule_of context.now) (recorded rec.now)))) }
+    ensures says { IfOk result (λ _. SaysItself (schedule_of context.now) (recorded rec.now)) }
+{
+    let Some(dated) = context.dated(rec.trip, rec.day) else {
+        unreachable!();
+    };
+    entity_of(alloc, context, &dated, rec)
+}
+
+/// A record with its entity, whose bytes mean just this journey with just this reading.
 pub fn prepare_record(
     alloc: Global,
     context: &Context<'_>,
@@ -99,9 +117,6 @@ pub fn prepare_record(
         → MeansFeed (before ++ prepared.entity) (with_messages feed (spec.messages (schedule_of context.now) (recorded rec)))) }
     ensures says { IfOk result (λ _. SaysItself (schedule_of context.now) (recorded rec)) }
 {
-    let Some(dated) = context.dated(rec.trip, rec.day) else {
-        unreachable!();
-    };
-    let entity = entity_of(alloc, context, &dated, &rec)?;
+    let entity = record_entity(alloc, context, &rec)?;
     Ok(Prepared { rec, entity })
 }
