@@ -1,40 +1,31 @@
--- The feed of cancelled journeys (GTFS Realtime, FeedMessage).
-use Rattle.std.specs.Prelude.{◌≡◌, ℕ, ℤ, List, [], ◌++◌, map, slice_index_or}
-use Rattle.std.specs.List.{flat_map}
-use Rattle.std.specs.List.Sorted.{IsPermutation, IsSorted}
-use Rattle.std.specs.declared.cmp.Ordering.{Ordering}
-use Rattle.std.specs.Ordering.{int_cmp, nat_cmp, ordering_then}
-use Rattle.gw_base.specs.declared.messages.Entity.{Entity}
-use Rattle.gw_base.specs.declared.messages.Feed.{Feed}
-use Rattle.service_day.specs.DayTexts.{compact_text}
-use Rattle.feed_messages.specs.Written.{header, written}
-use Rattle.gateway.specs.Cancelled.{cancelled_entity}
+-- The feed of the records that were taken (GTFS Realtime, FeedMessage).
+use Rattle.std.specs.Prelude.{◌≡◌, ◌&&◌, ◌||◌, ℕ, ℤ, int_lt, nat_lt, Bool, true, List, [], ◌∷◌, ◌++◌, find}
+use Rattle.std.specs.List.{AllByRecursion, flat_map, list_all}
+use Rattle.std.specs.Ordering.{int_eq}
 use Rattle.feed_messages.specs.Tables.{MeansFeed, full_dataset}
-use Rattle.gateway.specs.declared.item.Cancelled.{Cancelled}
+use Rattle.feed_messages.specs.Written.{header}
+use Rattle.journey_model.specs.Records.{Recorded}
+use Rattle.journey_model.specs.Schedules.{IsServable, Schedule}
+use Rattle.latest_store.specs.Entities.{entity, messages}
+use Rattle.latest_store.specs.Latest.{HasLatest, is_of}
+use Rattle.latest_store.specs.Reads.{SaysItself}
 
--- by service day, then trip number, then the second of recording
-abbrev pub journey_cmp : Cancelled → Cancelled → Ordering
-journey_cmp a b = ordering_then (int_cmp a.day b.day) (ordering_then (nat_cmp a.trip.0 b.trip.0) (int_cmp a.recorded b.recorded))
+-- a journey comes before another: on an earlier service day, or on the same day with a lesser trip number
+abbrev pub comes_before : Recorded → Recorded → Bool
+comes_before a b = int_lt a.day b.day || (int_eq a.day b.day && nat_lt a.trip b.trip)
 
--- the id of a trip
-abbrev pub id_of : List (List ℕ) → ℕ → List ℕ
-id_of trips trip = slice_index_or trips trip []
+-- each journey comes before those behind it
+abbrev pub are_in_order : List Recorded → Bool
+are_in_order [] = true
+are_in_order (one ∷ others) = list_all (comes_before one) others && are_in_order others
 
--- what the entity of a cancelled journey says, and its bytes
-abbrev pub message_of : List (List ℕ) → Cancelled → Entity
-message_of trips journey = cancelled_entity (id_of trips journey.trip.0) (compact_text journey.day) journey.recorded
-
-abbrev pub entity_of : List (List ℕ) → Cancelled → List ℕ
-entity_of trips journey = written (message_of trips journey)
-
--- what the feed of these journeys says: a full dataset of version 2.0, with just an entity for each of them, in this order
-abbrev pub feed_of : ℤ → List (List ℕ) → List Cancelled → Feed
-feed_of at trips journeys = full_dataset at (map (message_of trips) journeys)
-
--- the feed of these journeys: its header, and an entity for each journey, in order; and these bytes mean that feed
-pub record IsFeed (at : ℤ) (trips : List (List ℕ)) (journeys : List Cancelled) (feed : List ℕ) : Type 0 where
-  pub ordered : List Cancelled
-  pub same : IsPermutation journeys ordered
-  pub sorted : IsSorted journey_cmp ordered
-  pub bytes : feed ≡ header at ++ flat_map (entity_of trips) ordered
-  pub means : MeansFeed feed (feed_of at trips ordered)
+-- the feed that is rebuilt from all records taken, made at that moment: its header, and the entity of the latest record of
+-- each journey, by service day and trip number; and what these bytes mean
+pub record IsFeed (at : ℤ) (schedule : Schedule) (records : List Recorded) (feed : List ℕ) : Type 0 where
+  pub ordered : List Recorded
+  pub in_order : are_in_order ordered ≡ true
+  pub latest : (trip : ℕ) (day : ℤ) → HasLatest records trip day (find (is_of trip day) ordered)
+  pub bytes : feed ≡ header at ++ flat_map (entity schedule) ordered
+  pub means : MeansFeed feed (full_dataset at (flat_map (messages schedule) ordered))
+  pub says : AllByRecursion (SaysItself schedule) ordered
+  pub servable : AllByRecursion (λ one. IsServable schedule one.trip one.day one.reading) ordered

@@ -1,26 +1,31 @@
 -- The report on a delivery.
-use Rattle.std.specs.Prelude.{ℕ, List, ◌++◌, codes, length, decimal}
-use Rattle.std.specs.List.{flat_map}
-use Rattle.gateway.specs.Journeys.{taken}
-use Rattle.gateway.specs.declared.item.Aside.{Aside}
-use Rattle.gateway.specs.declared.item.Aside.TheVariants.{NotYet, UnknownJourney, OutOfWindow, NotRunning}
-use Rattle.gateway.specs.declared.item.Cancelled.{Cancelled}
+use Rattle.std.specs.Prelude.{◌+◌, ℕ, List, [], ◌∷◌, ◌++◌, codes, length, decimal, Result, Ok, Err}
+use Rattle.std.specs.List.{filter_map, flat_map}
+use Rattle.std.specs.Result.{result_ok}
+use Rattle.journey_model.specs.FaultTexts.{fault_text}
+use Rattle.journey_model.specs.Records.{Recorded}
+use Rattle.journey_model.specs.declared.fault.Fault.{Fault}
 
-abbrev pub aside_text : Aside → List ℕ
-aside_text NotYet = codes "NotYet"
-aside_text UnknownJourney = codes "UnknownJourney"
-aside_text OutOfWindow = codes "OutOfWindow"
-aside_text NotRunning = codes "NotRunning"
+-- the records of the items that are taken, and the items that are set aside, numbered from that number on, each with its
+-- fault
+abbrev pub taken : List (Result Recorded Fault) → List Recorded
+taken verdicts = filter_map result_ok verdicts
+
+abbrev pub aside_from : ℕ → List (Result Recorded Fault) → List (ℕ × Fault)
+aside_from number [] = []
+aside_from number (Ok one ∷ others) = aside_from (number + 1) others
+aside_from number (Err fault ∷ others) = (number, fault) ∷ aside_from (number + 1) others
 
 -- `FILE aside I FAULT`
-abbrev pub aside_line : List ℕ → ℕ × Aside → List ℕ
-aside_line file aside = file ++ codes " aside " ++ decimal aside.0 ++ codes " " ++ aside_text aside.1 ++ codes "\n"
+abbrev pub aside_line : List ℕ → ℕ × Fault → List ℕ
+aside_line file aside = file ++ codes " aside " ++ decimal aside.0 ++ codes " " ++ fault_text aside.1 ++ codes "\n"
 
 -- `FILE taken T passed P aside N`
-abbrev pub count_line : List ℕ → ℕ → ℕ → List ℕ
-count_line file taken aside =
-    file ++ codes " taken " ++ decimal taken ++ codes " passed 0 aside " ++ decimal aside ++ codes "\n"
+abbrev pub count_line : List ℕ → ℕ → ℕ → ℕ → List ℕ
+count_line file taken passed aside =
+    file ++ codes " taken " ++ decimal taken ++ codes " passed " ++ decimal passed ++ codes " aside " ++ decimal aside ++ codes "\n"
 
 -- a line for each item that is set aside, and the line of counts
-abbrev pub report_text : List ℕ → List Cancelled → List (ℕ × Aside) → List ℕ
-report_text file taken aside = flat_map (aside_line file) aside ++ count_line file (length taken) (length aside)
+abbrev pub report_text : List ℕ → List (Result Recorded Fault) → ℕ → List ℕ
+report_text file verdicts passed =
+    flat_map (aside_line file) (aside_from 0 verdicts) ++ count_line file (length (taken verdicts)) passed (length (aside_from 0 verdicts))

@@ -14,9 +14,8 @@ to_gtfsrt = record {
       ∷ record { flags = codes "--from" ∷ []; form = is_day }
       ∷ record { flags = codes "--days" ∷ []; form = is_day_count }
       ∷ record { flags = codes "--at" ∷ []; form = is_moment }
-      ∷ record { flags = codes "--et" ∷ []; form = is_filled }
       ∷ [];
-  repeated = record { flags = []; form = is_filled };
+  repeated = record { flags = codes "--et" ∷ []; form = is_filled };
 }
 
 unfoldable pub commands : List Command

@@ -1,9 +1,8 @@
 -- The order of work of the commands: the timetable, the zone, the window, each further file and its content. Each step finds
 -- something or ends the work, and the first end counts.
-use Rattle.std.specs.Prelude.{◌≡◌, ℕ, ℤ, List, [], ◌++◌, codes, length, nat_le, if◌then◌else◌, Option, Some, None, Result, Ok, Err, slice_index_or}
+use Rattle.std.specs.Prelude.{◌≡◌, ℕ, ℤ, List, [], ◌∷◌, ◌++◌, codes, length, nat_le, if◌then◌else◌, Option, Some, None, Result, Ok, Err}
 use Rattle.gw_base.specs.Directory.{bytes_of}
 use Rattle.gw_base.specs.Steps.{◌>>=◌}
-use Rattle.serde_json.specs.Data.{Data}
 use Rattle.service_day.specs.Windows.{DayStarts, IsWindow}
 use Rattle.service_day.specs.Zones.{IsRuleZone, IsBadRule, IsTableZone, IsBadTable}
 use Rattle.service_day.specs.declared.zones.Rules.{Rules}
@@ -15,11 +14,12 @@ use Rattle.stop_schedule.specs.declared.timetable.Timetable.{Timetable}
 use Rattle.gateway.specs.Exits.{missing}
 use Rattle.gateway.specs.FolderTexts.{folder_end}
 use Rattle.gateway.specs.Feeds.{IsFeed}
-use Rattle.gateway.specs.Frame.{journeys_of}
-use Rattle.gateway.specs.Items.{sorted}
-use Rattle.gateway.specs.Reports.{report_text}
+use Rattle.siri_calls.specs.Deliveries.{ReadsBody}
+use Rattle.siri_calls.specs.declared.delivery.Delivery.{Delivery}
+use Rattle.siri_calls.specs.declared.delivery.DeliveryFault.{DeliveryFault}
+use Rattle.gateway.specs.Deliveries.{all_reports, all_taken, body_end, schedule_in}
 use Rattle.gateway.specs.Words.{ToGtfsrt, NamedZone, by_rule, by_file}
-use Rattle.gateway.specs.declared.delivery.Delivery.{Delivery}
+use Rattle.gateway.specs.declared.deliveries.Named.{Named}
 use Rattle.gateway.specs.declared.exit.Exit.{Exit}
 use Rattle.gateway.specs.declared.exit.Exit.TheVariants.{Refused}
 use Rattle.gateway.specs.declared.work.Done.{Done}
@@ -96,34 +96,38 @@ SettingOf dir named first days files = do
   table ← Folder dir files
   Over table named first days files
 
--- the journeys of a delivery, each taken or set aside; a body without the frame is refused, with the file's name
-abbrev pub delivery : Setting → List ℕ → Option (List Data) → Result Delivery Exit
-delivery setting name None = Err (Refused (name ++ codes " BadDelivery"))
-delivery setting name (Some items) = Ok (sorted setting items)
-
+-- what a delivery's body says over a setting, or the end that its fault is
 abbrev pub DeliveryOf : Setting → List ℕ → List ℕ → Result Delivery Exit → Type 0
-DeliveryOf setting name body answer = answer ≡ delivery setting name (journeys_of body)
+DeliveryOf setting name body (Ok delivery) = ReadsBody (schedule_in setting) body (Ok delivery)
+DeliveryOf setting name body (Err end) = (fault : DeliveryFault) × ReadsBody (schedule_in setting) body (Err fault) × (end ≡ body_end name fault)
 
--- the feed of the journeys that are taken, made at that moment, and the report on all
-abbrev pub Converted : ℤ → Setting → List ℕ → Delivery → Result Done Exit → Type 0
-Converted at setting name delivery (Ok done) =
-    IsFeed at setting.table.trips delivery.taken done.out
-    × (done.err ≡ report_text name delivery.taken delivery.aside)
-Converted at setting name delivery (Err end) = ⊥
-
--- the conversion of a file's delivery
-abbrev pub Conversion : ℤ → Setting → List ℕ → Directory → Result Done Exit → Type 0
-Conversion at setting name files = do
+-- what the delivery of a file says
+abbrev pub FileDelivery : Setting → List ℕ → Directory → Result Delivery Exit → Type 0
+FileDelivery setting name files = do
   body ← FurtherFile body_limit name files
-  delivery ← DeliveryOf setting name body
-  Converted at setting name delivery
+  DeliveryOf setting name body
 
--- the file of the delivery
-abbrev pub delivery_file : ToGtfsrt → List ℕ
-delivery_file command = slice_index_or command.more 1 []
+-- the deliveries of the files that words name, a flag before each, behind those read so far
+abbrev pub Deliveries : Setting → Directory → List (List ℕ) → List Named → Result (List Named) Exit → Type 0
+Deliveries setting files [] so_far = Found so_far
+Deliveries setting files (flag ∷ []) so_far = Found so_far
+Deliveries setting files (flag ∷ name ∷ words) so_far = do
+  delivery ← FileDelivery setting name files
+  Deliveries setting files words (so_far ++ record { name = name; delivery = delivery } ∷ [])
+
+-- the feed of the records that were taken, made at that moment, and the reports on all deliveries
+abbrev pub Converted : ℤ → Setting → List Named → Result Done Exit → Type 0
+Converted at setting deliveries (Ok done) = IsFeed at (schedule_in setting) (all_taken deliveries) done.out × (done.err ≡ all_reports deliveries)
+Converted at setting deliveries (Err end) = ⊥
+
+-- the conversion of the files' deliveries
+abbrev pub Conversion : ℤ → Setting → List (List ℕ) → Directory → Result Done Exit → Type 0
+Conversion at setting words files = do
+  deliveries ← Deliveries setting files words []
+  Converted at setting deliveries
 
 -- the work of `to-gtfsrt`
 abbrev pub ToGtfsrtWork : ToGtfsrt → Directory → Result Done Exit → Type 0
 ToGtfsrtWork command files = do
   setting ← SettingOf command.gtfs command.zone command.from command.days files
-  Conversion command.at setting (delivery_file command) files
+  Conversion command.at setting command.more files

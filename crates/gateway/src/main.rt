@@ -3,13 +3,12 @@
 #![tactic(auto)]
 
 mod command_line;
-mod delivery;
+mod deliveries;
 mod devices;
 mod exit;
 mod feed;
 mod folder_end;
-mod frame;
-mod item;
+mod reading;
 mod report;
 mod setting;
 #[cfg(test)]
@@ -24,11 +23,11 @@ use gw_base::{NoClock, NoDoor};
 use std::process::ExitCode;
 
 const USAGE: &str = "\
-usage: gateway to-gtfsrt --gtfs DIR ZONE --from YYYY-MM-DD --days N --at YYYY-MM-DDThh:mm:ssZ --et FILE
+usage: gateway to-gtfsrt --gtfs DIR ZONE --from YYYY-MM-DD --days N --at YYYY-MM-DDThh:mm:ssZ [--et FILE]..
 
 ZONE is --zone-rule RULE, a POSIX rule such as CET-1CEST,M3.5.0,M10.5.0/3, or --zone-file FILE, a TZif file.
-to-gtfsrt reads the GTFS folder DIR and the SIRI estimated timetable FILE, and writes a GTFS Realtime feed
-to standard output and a report to standard error.
+to-gtfsrt reads the GTFS folder DIR and any number of SIRI estimated timetables, each a FILE, and writes a GTFS
+Realtime feed to standard output and a report on each file to standard error.
 ";
 
 const VERSION: &str = concat!("gateway ", "0.1.0", "\n");

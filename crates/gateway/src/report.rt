@@ -1,60 +1,87 @@
-//! The report on a delivery: a line for each item that was set aside, and a line with the counts.
-ghost use Rattle.std.specs.Prelude.{◌≡◌, ◌++◌, OnOk, IfOk};
-ghost use Rattle.gateway.specs.Reports.{aside_text, aside_line, count_line, report_text};
+//! The report on a delivery: a line for each item that was set aside, and a line with the counts. The definition is
+//! `report_text` of `specs/Reports.antt`.
+ghost use Rattle.std.specs.Prelude.{◌≡◌, ◌++◌, ◌-◌, OnOk, IfOk, map, length};
+ghost use Rattle.std.specs.List.{flat_map};
+ghost use Rattle.siri_calls.specs.Deliveries.{shown};
+ghost use Rattle.gateway.specs.Deliveries.{all_reports, report_of};
+ghost use Rattle.gateway.specs.Reports as spec;
 
-use crate::delivery::Delivery;
-use crate::item::Aside;
+use crate::deliveries::Named;
 use gw_base::Bytes;
 use itoa::Buffer;
+use journey_model::{Fault, fault_text};
+use siri_calls::Item;
 use std::alloc::{AllocError, Global};
 
-// The text of a fault.
-fn aside_text(aside: Aside) -> &'static str
-    ensures { result.now ≡ aside_text aside }
-{
-    match aside {
-        Aside::NotYet => "NotYet",
-        Aside::UnknownJourney => "UnknownJourney",
-        Aside::OutOfWindow => "OutOfWindow",
-        Aside::NotRunning => "NotRunning",
-    }
-}
-
 // Adds the line of an item that is set aside.
-fn add_aside(report: &mut Bytes, file: &str, item: u64, aside: Aside) -> Result<(), AllocError>
-    ensures { OnOk result (report.new ≡ report.old ++ aside_line file.now (item, aside)) }
+fn add_aside(report: &mut Bytes, file: &str, item: u64, fault: &Fault) -> Result<(), AllocError>
+    ensures { OnOk result (report.new ≡ report.old ++ spec.aside_line file.now (item, fault.now)) }
 {
     let mut digits = Buffer::new();
+    let text = fault_text(fault);
     report.extend(file.as_bytes())?;
     report.extend(b" aside ")?;
     report.extend(digits.format(item).as_bytes())?;
     report.extend(b" ")?;
-    report.extend(aside_text(aside).as_bytes())?;
+    report.extend(text.as_str().as_bytes())?;
     report.extend(b"\n")
 }
 
 // Adds the line of counts.
-fn add_counts(report: &mut Bytes, file: &str, taken: u64, aside: u64) -> Result<(), AllocError>
-    ensures { OnOk result (report.new ≡ report.old ++ count_line file.now taken aside) }
+fn add_counts(
+    report: &mut Bytes,
+    file: &str,
+    taken: u64,
+    passed: u64,
+    aside: u64,
+) -> Result<(), AllocError>
+    ensures { OnOk result (report.new ≡ report.old ++ spec.count_line file.now taken passed aside) }
 {
     let mut digits = Buffer::new();
     report.extend(file.as_bytes())?;
     report.extend(b" taken ")?;
     report.extend(digits.format(taken).as_bytes())?;
-    report.extend(b" passed 0 aside ")?;
+    report.extend(b" passed ")?;
+    report.extend(digits.format(passed).as_bytes())?;
+    report.extend(b" aside ")?;
     report.extend(digits.format(aside).as_bytes())?;
     report.extend(b"\n")
 }
 
-/// The lines `FILE aside I FAULT` of each item set aside, and `FILE taken T passed P aside N`.
-pub fn report(alloc: Global, file: &str, delivery: &Delivery) -> Result<Bytes, AllocError>
-    ensures { IfOk result (λ report. report ≡ report_text file.now delivery.now.taken delivery.now.aside) }
+// Adds the lines of the items that are set aside, and answers how many there are.
+fn add_all_aside(report: &mut Bytes, file: &str, items: &[Item]) -> Result<u64, AllocError>
+    ensures lines { OnOk result (report.new ≡ report.old ++ flat_map (spec.aside_line file.now) (spec.aside_from 0 (map shown items.now))) }
+    ensures count { IfOk result (λ count. count ≡ length (spec.aside_from 0 (map shown items.now))) }
+    ensures taken { IfOk result (λ count. length (spec.taken (map shown items.now)) ≡ length items.now - count) }
+{
+    let mut count = 0;
+    for (number, item) in items.iter().enumerate() {
+        if let Item::Aside(fault) = item {
+            add_aside(report, file, number as u64, fault)?;
+            count += 1;
+        }
+    }
+    Ok(count)
+}
+
+// Adds the report on a delivery: the lines `FILE aside I FAULT` of each item set aside, and `FILE taken T passed P aside N`.
+fn add_report(report: &mut Bytes, one: &Named) -> Result<(), AllocError>
+    ensures { OnOk result (report.new ≡ report.old ++ report_of one.now) }
+{
+    let file = one.name.as_str();
+    let items = one.delivery.items.as_slice();
+    let aside = add_all_aside(report, file, items)?;
+    let taken = items.len() as u64 - aside;
+    add_counts(report, file, taken, one.delivery.passed, aside)
+}
+
+/// The reports on deliveries, one behind the other.
+pub fn reports(alloc: Global, deliveries: &[Named]) -> Result<Bytes, AllocError>
+    ensures { IfOk result (λ report. report ≡ all_reports deliveries.now) }
 {
     let mut report = Bytes::new(alloc);
-    for (item, aside) in delivery.aside.as_slice() {
-        add_aside(&mut report, file, *item, *aside)?;
+    for one in deliveries {
+        add_report(&mut report, one)?;
     }
-    let taken = delivery.taken.len() as u64;
-    add_counts(&mut report, file, taken, delivery.aside.len() as u64)?;
     Ok(report)
 }

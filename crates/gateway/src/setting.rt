@@ -1,4 +1,5 @@
 //! What a command works over: a timetable, and a window of days in a zone.
+use journey_model::Context;
 use service_day::{Window, Zone};
 use stop_schedule::Timetable;
 
@@ -11,4 +12,21 @@ pub struct Setting {
     pub zone: Zone,
     /// The service days, with their starts in the zone.
     pub window: Window,
+}
+
+impl Setting {
+    ghost use Rattle.std.specs.Prelude.{◌≡◌};
+    ghost use Rattle.journey_model.specs.Schedules.{schedule_of};
+    ghost use Rattle.gateway.specs.Deliveries.{schedule_in};
+
+    /// The same, lent.
+    pub fn context(&self) -> Context<'_>
+        ensures { schedule_of result ≡ schedule_in self.now }
+    {
+        Context {
+            table: &self.table,
+            zone: &self.zone,
+            window: &self.window,
+        }
+    }
 }

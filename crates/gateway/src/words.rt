@@ -71,13 +71,9 @@ static COMMANDS: [Command; 1] = [Command {
             flags: &["--at"],
             form: Form::Moment,
         },
-        Pair {
-            flags: &["--et"],
-            form: Form::Filled,
-        },
     ],
     repeated: Pair {
-        flags: &[],
+        flags: &["--et"],
         form: Form::Filled,
     },
 }];
@@ -97,7 +93,6 @@ fn zone_word<'a>(flag: &Text, value: &'a Text) -> ZoneWord<'a>
 fn to_gtfsrt(words: &[Text]) -> Work<'_>
     requires { (command : ToGtfsrt) × IsToGtfsrt words.now command }
     ensures read { IsToGtfsrt words.now (command_of result) }
-    ensures delivery { length (command_of result).more ≡ 2 }
 {
     Work::ToGtfsrt {
         gtfs: &words[2],
@@ -113,7 +108,6 @@ fn to_gtfsrt(words: &[Text]) -> Work<'_>
 pub fn job(words: &[Text]) -> Result<Work<'_>, BadWord>
     ensures accepted { IfOk result (λ work. IsToGtfsrt words.now (command_of work)) }
     ensures refused { IfErr result (λ bad. IsRefusedAt words.now bad.at) }
-    ensures delivery { IfOk result (λ work. length (command_of work).more ≡ 2) }
 {
     check(&COMMANDS, words)?;
     Ok(to_gtfsrt(words))

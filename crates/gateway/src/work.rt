@@ -7,16 +7,19 @@ ghost use Rattle.gateway.specs.Exits.{is_free};
 ghost use Rattle.gateway.specs.Work as steps;
 ghost use Rattle.gateway.specs.Windowed.{HasWindow};
 ghost use Rattle.gateway.specs.Words.{ToGtfsrt, by_file};
+ghost use Rattle.gateway.specs.Deliveries.{schedule_in};
+ghost use Rattle.gateway.specs.Served.{CanServeAll};
 ghost use Rattle.gateway.specs.Works.{command_of, zone_of, Says};
 
-use crate::delivery::{Delivery, DeliveryFault, read_delivery};
+use crate::deliveries::{Named, deliveries};
 use crate::exit::Exit;
 use crate::feed::feed_bytes;
 use crate::folder_end::folder_end;
-use crate::report::report;
+use crate::reading::{ZONE_LIMIT, further_file};
+use crate::report::reports;
 use crate::setting::Setting;
 use crate::words::{Work, ZoneWord};
-use gw_base::{Bytes, FileFault, Files, Got, Moment, Text};
+use gw_base::{Bytes, Files, Moment, Text};
 use service_day::{Day, Window, Zone, ZoneFault};
 use std::alloc::{AllocError, Global};
 use stop_schedule::{Timetable, read_timetable};
@@ -30,12 +33,6 @@ pub struct Done {
     pub err: Bytes,
 }
 
-/// The most bytes that a delivery may have.
-const BODY_LIMIT: u64 = 16_777_216;
-
-/// The most bytes that a zone file may have.
-const ZONE_LIMIT: u64 = 1_048_576;
-
 // The words that say what a command works over.
 #[derive(Clone, Copy)]
 struct SettingWords<'a> {
@@ -43,15 +40,6 @@ struct SettingWords<'a> {
     zone: &'a ZoneWord<'a>,
     first: Day,
     days: u8,
-}
-
-// Two texts, one behind the other.
-fn joined(alloc: Global, first: &str, second: &str) -> Result<Text, AllocError>
-    ensures { IfOk result (λ text. text ≡ first.now ++ second.now) }
-{
-    let mut text = Text::copied(alloc, first)?;
-    text.push(second)?;
-    Ok(text)
 }
 
 // The timetable of a folder.
@@ -63,27 +51,6 @@ fn folder<F: Files>(alloc: Global, files: &mut F, dir: &str) -> Result<Timetable
     match read_timetable(alloc, files, dir) {
         Ok(table) => Ok(table),
         Err(fault) => Err(folder_end(alloc, dir, fault)?),
-    }
-}
-
-// The bytes of a further file.
-fn further_file<F: Files>(
-    alloc: Global,
-    files: &mut F,
-    name: &str,
-    limit: u64,
-) -> Result<Bytes, Exit>
-    ensures told { IfSome (F.told files.old) (λ told. UnlessFree is_free result (steps.FurtherFile limit name.now told)) }
-    ensures counts { Counts (IsErrOf result Exit.Failed) (F.faults files.old) (F.faults files.new) }
-    ensures same { F.told files.new ≡ F.told files.old }
-{
-    let mut bytes = Bytes::new(alloc);
-    match files.read_file(name, limit, &mut bytes) {
-        Ok(Got::Whole) => Ok(bytes),
-        Ok(Got::Missing) => Err(Exit::Missing(joined(alloc, "Missing ", name)?)),
-        Ok(Got::TooLong) => Err(Exit::Refused(joined(alloc, "TooLong ", name)?)),
-        Err(FileFault::Failed) => Err(Exit::Failed),
-        Err(FileFault::Memory) => Err(Exit::Memory),
     }
 }
 
@@ -173,55 +140,37 @@ fn setting<F: Files>(
     }
 }
 
-// The journeys of a delivery, each taken or set aside.
-fn delivery(alloc: Global, body: &[u8], name: &str, setting: &Setting) -> Result<Delivery, Exit>
-    ensures told { UnlessFree is_free result (steps.DeliveryOf setting.now name.now body.now) }
-    ensures calm { ¬ IsErrOf result Exit.Failed }
-    ensures trips { IfOk result (λ delivery.
-        AllByRecursion (λ journey. journey.trip.0 < length setting.now.table.trips) delivery.taken) }
-{
-    match read_delivery(alloc, body, setting) {
-        Ok(delivery) => Ok(delivery),
-        Err(DeliveryFault::BadDelivery) => {
-            Err(Exit::Refused(joined(alloc, name, " BadDelivery")?))
-        }
-        Err(DeliveryFault::Memory) => Err(Exit::Memory),
-    }
-}
-
-// The feed and the report of a delivery.
+// The feed and the reports of deliveries.
 fn converted(
     alloc: Global,
     at: Moment,
     setting: &Setting,
-    name: &str,
-    delivery: &Delivery,
+    deliveries: &[Named],
 ) -> Result<Done, AllocError>
-    requires { AllByRecursion (λ journey. journey.trip.0 < length setting.now.table.trips) delivery.now.taken }
-    ensures { IfOk result (λ done. steps.Converted at setting.now name.now delivery.now (Ok done)) }
+    requires { AllByRecursion (λ one. CanServeAll (schedule_in setting.now) one.delivery) deliveries.now }
+    ensures { IfOk result (λ done. steps.Converted at setting.now deliveries.now (Ok done)) }
 {
     Ok(Done {
-        out: feed_bytes(alloc, at, &setting.table, delivery.taken.as_slice())?,
-        err: report(alloc, name, delivery)?,
+        out: feed_bytes(alloc, at, &setting.context(), deliveries)?,
+        err: reports(alloc, deliveries)?,
     })
 }
 
-// The conversion of a file's delivery.
+// The conversion of the deliveries of the files that words name.
 fn conversion<F: Files>(
     alloc: Global,
     files: &mut F,
     at: Moment,
     setting: &Setting,
-    name: &str,
+    words: &[Text],
 ) -> Result<Done, Exit>
     ensures told { IfSome (F.told files.old) (λ told. UnlessFree is_free result
-        (steps.Conversion at setting.now name.now told)) }
+        (steps.Conversion at setting.now words.now told)) }
     ensures counts { Counts (IsErrOf result Exit.Failed) (F.faults files.old) (F.faults files.new) }
     ensures same { F.told files.new ≡ F.told files.old }
 {
-    let body = further_file(alloc, files, name, BODY_LIMIT)?;
-    let delivery = delivery(alloc, body.as_slice(), name, setting)?;
-    Ok(converted(alloc, at, setting, name, &delivery)?)
+    let deliveries = deliveries(alloc, files, setting, words)?;
+    Ok(converted(alloc, at, setting, deliveries.as_slice())?)
 }
 
 // The work of `to-gtfsrt`.
@@ -232,23 +181,21 @@ fn to_gtfsrt<F: Files>(
     at: Moment,
     more: &[Text],
 ) -> Result<Done, Exit>
-    requires file { length more.now ≡ 2 }
-    requires window { HasWindow words.now.first words.now.days }
+    requires { HasWindow words.now.first words.now.days }
     ensures told { (command : ToGtfsrt) → Says command words.now at more.now
         → IfSome (F.told files.old) (λ told. UnlessFree is_free result (steps.ToGtfsrtWork command told)) }
     ensures counts { Counts (IsErrOf result Exit.Failed) (F.faults files.old) (F.faults files.new) }
     ensures same { F.told files.new ≡ F.told files.old }
 {
     match setting(alloc, files, words) {
-        Ok(setting) => conversion(alloc, files, at, &setting, more[1].as_str()),
+        Ok(setting) => conversion(alloc, files, at, &setting, more),
         Err(end) => Err(end),
     }
 }
 
 /// The work of a command over the files: what it writes, or how it ends.
 pub fn carried_out<F: Files>(alloc: Global, work: &Work<'_>, files: &mut F) -> Result<Done, Exit>
-    requires file { length (command_of work.now).more ≡ 2 }
-    requires window { HasWindow (command_of work.now).from (command_of work.now).days }
+    requires { HasWindow (command_of work.now).from (command_of work.now).days }
     ensures told { IfSome (F.told files.old) (λ told. UnlessFree is_free result
         (steps.ToGtfsrtWork (command_of work.now) told)) }
     ensures counts { Counts (IsErrOf result Exit.Failed) (F.faults files.old) (F.faults files.new) }
