@@ -1,9 +1,7 @@
-mod FeedLemmas
+mod DeliveryLemmas
 mod FormLemmas
-mod FrameLemmas
-mod JourneyLemmas
-mod PublishedLemmas
-mod ReadingLemmas
+mod MomentLemmas
+mod ReportLemmas
 pub mod StepLemmas
 mod TableLemmas
 mod WordLemmas

@@ -1,5 +1,5 @@
 -- What the words of an accepted list say.
-use Rattle.std.proofs.Common.{◌≡◌, refl, ap, sym, ◌∙◌, ℕ, ◌<◌, ◌≤◌, ◌&&◌, ℤ, List, [], ◌∷◌, Option, Some, None, length, drop, get_or, slice_get, subst, arith, Bool, true, false, cond, length-drop}
+use Rattle.std.proofs.Common.{◌≡◌, refl, ap, sym, ◌∙◌, ℕ, ◌<◌, ◌≤◌, ◌&&◌, ℤ, List, [], ◌∷◌, Option, Some, None, length, drop, get_or, slice_get, subst, arith, Bool, true, false, cond}
 use Rattle.std.specs.Prelude.{IsSomeAnd, codes, int_le, is_some, nat_eq, nat_le, option_and_then, pos, ◌+ℤ◌, ◌-ℤ◌}
 use Rattle.std.specs.Cmp.Lexicographic.{pointwise, same_text}
 use Rattle.std.proofs.lemmas.Bool.Decides.{nat_tests}
@@ -11,7 +11,7 @@ use Rattle.gateway.specs.Windowed.{HasWindow}
 use Rattle.gateway.specs.Words.{to_gtfsrt, commands, ToGtfsrt, IsToGtfsrt, zone_by}
 use Rattle.gateway.specs.declared.words.forms.TheConstants.{FIRST_DAY, LAST_DAY, MOST_DAYS}
 use Rattle.gateway.proofs.FormLemmas.{beginning_range, cond_then}
-use Rattle.gateway.proofs.TableLemmas.{HasPair, pair_of, double, all_pairs}
+use Rattle.gateway.proofs.TableLemmas.{HasPair, pair_of, double}
 use Rattle.service_day.specs.Utc.{utc_of}
 
 -- which command an accepted list is
@@ -44,7 +44,7 @@ read [] is = absurd is
 read (name ∷ words) is =
     let named = named_by (name ∷ words) is in
     let pairs = pairs_of name words is named in
-    let pair : (k : ℕ) → k < 6 → HasPair to_gtfsrt k (name ∷ words) (double k) =
+    let pair : (k : ℕ) → k < 5 → HasPair to_gtfsrt k (name ∷ words) (double k) =
     λ k below. pair_of to_gtfsrt k k 0 name words (omega arith) below pairs in
     let gtfs = pair 0 (omega arith) in
     let zone = pair 1 (omega arith) in
@@ -87,14 +87,6 @@ windowed (name ∷ words) command is =
     let first : beginning days.0 ≡ Some command.from = sym (ap (option_and_then beginning) days.3) ∙ is.from in
     let count : day_count days.2 ≡ Some command.days = sym (ap (option_and_then day_count) days.5) ∙ is.days in
     ((beginning_range days.0 command.from first).0, rw (first, count) at days.7)
-
--- its deliveries are one pair
-pub one_delivery : (words : List (List ℕ)) (command : ToGtfsrt) → IsToGtfsrt words command → length (drop 11 words) ≡ 2
-unfolding to_gtfsrt
-one_delivery [] command is = absurd is.accepted
-one_delivery (name ∷ words) command is =
-    let all : length words ≡ 12 = all_pairs to_gtfsrt refl 6 0 name words refl (pairs_of name words is.accepted is.name) in
-    omega (arith, length-drop 11 (name ∷ words))
 
 -- and it can be made
 pub has_window : (words : List (List ℕ)) (command : ToGtfsrt) → IsToGtfsrt words command → HasWindow command.from command.days

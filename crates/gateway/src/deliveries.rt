@@ -1,11 +1,11 @@
 //! The deliveries that a command reads, file by file.
-ghost use Rattle.std.specs.Prelude.{◌≡◌, ◌++◌, [], IfOk, IfSome, IsErrOf, map};
+ghost use Rattle.std.specs.Prelude.{◌≡◌, ◌++◌, ◌∷◌, [], IfOk, IfSome, IsErrOf, OnOk, option_map};
 ghost use Rattle.std.specs.List.{AllByRecursion};
 ghost use Rattle.gw_base.specs.Answers.{UnlessFree};
 ghost use Rattle.gw_base.specs.Count.{Counts};
 ghost use Rattle.gateway.specs.Deliveries as spec;
 ghost use Rattle.gateway.specs.Exits.{is_free};
-ghost use Rattle.gateway.specs.Served.{CanServeAll};
+ghost use Rattle.gateway.specs.Served.{CanServeAll, IsNext};
 ghost use Rattle.gateway.specs.Work as steps;
 
 use crate::exit::Exit;
@@ -67,6 +67,29 @@ fn file_delivery<F: Files>(
     delivery(alloc, body.as_slice(), name, setting)
 }
 
+// The file that the first two words name, a flag and a path, and the words behind them.
+fn next_file(words: &[Text]) -> Option<(&Text, &[Text])>
+    ensures { IsNext words.now (option_map (λ next. (next.0.now, next.1.now)) result) }
+{
+    match words {
+        [_flag, name, behind @ ..] => Some((name, behind)),
+        _ => None,
+    }
+}
+
+// The deliveries so far with the one of a file more.
+fn push_named(
+    alloc: Global,
+    found: &mut List<Named>,
+    name: &str,
+    delivery: Delivery,
+) -> Result<(), AllocError>
+    ensures { OnOk result (found.new ≡ found.old ++ record { name = name.now; delivery = delivery } ∷ []) }
+{
+    let name = Text::copied(alloc, name)?;
+    found.push(Named { name, delivery })
+}
+
 /// The deliveries of the files that words name, a flag before each, in order.
 pub fn deliveries<F: Files>(
     alloc: Global,
@@ -81,12 +104,12 @@ pub fn deliveries<F: Files>(
 {
     let mut found = List::new(alloc);
     let mut rest = words;
-    while let [_flag, name, behind @ ..] = rest {
-        let delivery = file_delivery(alloc, files, name.as_str(), setting)?;
-        found.push(Named {
-            name: Text::copied(alloc, name.as_str())?,
-            delivery,
-        })?;
+    while let Some((name, behind)) = next_file(rest) {
+        let delivery = match file_delivery(alloc, files, name.as_str(), setting) {
+            Ok(delivery) => delivery,
+            Err(end) => return Err(end),
+        };
+        push_named(alloc, &mut found, name.as_str(), delivery)?;
         rest = behind;
     }
     Ok(found)

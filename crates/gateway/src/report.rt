@@ -1,6 +1,6 @@
 //! The report on a delivery: a line for each item that was set aside, and a line with the counts. The definition is
 //! `report_text` of `specs/Reports.antt`.
-ghost use Rattle.std.specs.Prelude.{◌≡◌, ◌++◌, ◌-◌, OnOk, IfOk, map, length};
+ghost use Rattle.std.specs.Prelude.{◌≡◌, ◌++◌, ◌+◌, OnOk, IfOk, map, length};
 ghost use Rattle.std.specs.List.{flat_map};
 ghost use Rattle.siri_calls.specs.Deliveries.{shown};
 ghost use Rattle.gateway.specs.Deliveries.{all_reports, report_of};
@@ -52,7 +52,7 @@ fn add_counts(
 fn add_all_aside(report: &mut Bytes, file: &str, items: &[Item]) -> Result<u64, AllocError>
     ensures lines { OnOk result (report.new ≡ report.old ++ flat_map (spec.aside_line file.now) (spec.aside_from 0 (map shown items.now))) }
     ensures count { IfOk result (λ count. count ≡ length (spec.aside_from 0 (map shown items.now))) }
-    ensures taken { IfOk result (λ count. length (spec.taken (map shown items.now)) ≡ length items.now - count) }
+    ensures taken { IfOk result (λ count. length (spec.taken (map shown items.now)) + count ≡ length items.now) }
 {
     let mut count = 0;
     for (number, item) in items.iter().enumerate() {

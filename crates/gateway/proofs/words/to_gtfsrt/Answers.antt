@@ -1,16 +1,16 @@
-use Rattle.std.proofs.Common.{refl, ap, sym, length, ◌∙◌}
+use Rattle.std.proofs.Common.{refl, sym, ◌∙◌}
 use Rattle.std.proofs.lemmas.List.{take_rest}
 use Rattle.std.proofs.lemmas.Option.{slice_get_read, slice_get_within}
 use Rattle.gateway.specs.Forms.{beginning, day_count}
-use Rattle.gateway.proofs.WordLemmas.{read_at, one_delivery}
+use Rattle.gateway.proofs.WordLemmas.{read_at}
 use Rattle.gateway.proofs.words.to_gtfsrt.Goals as goal
 use Rattle.service_day.specs.Utc.{utc_of}
 
-pub returns-clause-read : goal.returns-clause-read
-returns-clause-read c =
+pub returns : goal.returns
+returns c =
     let is = c.requires.1 in
     let words = c.args.words.now in
-    record {
+    record { read = record {
       accepted = is.accepted;
       name = is.name;
       gtfs = slice_get_read words _ 2 _ refl (slice_get_within words 2 _ is.gtfs) c.index-words-2.is;
@@ -25,7 +25,4 @@ returns-clause-read c =
       days = read_at day_count words 8 _ _ _ is.days c.index-words-8.is (sym c.day_count.ensures ∙ c.unwrap-2.ensures);
       at = read_at utc_of words 10 _ _ _ is.at c.index-words-10.is (sym c.moment.ensures ∙ c.unwrap-3.ensures);
       more = sym (take_rest words 11);
-    }
-
-pub returns-clause-delivery : goal.returns-clause-delivery
-returns-clause-delivery c = ap length (take_rest c.args.words.now 11) ∙ one_delivery c.args.words.now c.requires.0 c.requires.1
+    }; }

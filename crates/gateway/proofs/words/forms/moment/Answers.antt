@@ -1,7 +1,7 @@
 use Rattle.std.proofs.Common.{arith, sym, ◌∙◌}
 use Rattle.std.proofs.lemmas.Grind.{common_steps}
 use Rattle.std.proofs.lemmas.Int.{to_z-of_z}
-use Rattle.gateway.proofs.JourneyLemmas.{utc_of-IsMoment}
+use Rattle.gateway.proofs.MomentLemmas.{utc_of-IsMoment}
 use Rattle.gateway.proofs.words.forms.moment.Goals as goal
 
 pub returns : goal.returns

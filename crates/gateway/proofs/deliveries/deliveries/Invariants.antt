@@ -1,0 +1,20 @@
+-- what the words left say behind the deliveries so far is what all say
+use Rattle.std.proofs.Common.{◌≡◌, ◌≤◌, List, Result, length, [], IfSome}
+use Rattle.std.specs.List.{AllByRecursion}
+use Rattle.gateway.specs.Deliveries.{schedule_in}
+use Rattle.gateway.specs.Served.{CanServeAll}
+use Rattle.gateway.specs.Work.{Deliveries}
+use Rattle.gateway.specs.declared.deliveries.Named.{Named}
+use Rattle.gateway.specs.declared.exit.Exit.{Exit}
+use Rattle.gateway.proofs.deliveries.deliveries.Given as goal
+
+abbrev pub invariant-loop-name : goal.invariant-loop-name
+invariant-loop-name g l = record {
+  told : (answer : Result (List Named) Exit) → IfSome (g.F.Files.told l.fn.files) (λ told. Deliveries l.setting told l.rest l.found answer → Deliveries l.setting told l.words [] answer);
+  counts : g.F.Files.faults l.fn.files ≤ g.F.Files.faults l.files;
+  same : g.F.Files.told l.files ≡ g.F.Files.told l.fn.files;
+  servable : AllByRecursion (λ (one : Named). CanServeAll (schedule_in l.setting) one.delivery) l.found;
+}
+
+abbrev pub decreases-loop-name : goal.decreases-loop-name
+decreases-loop-name g l = length l.rest
