@@ -2,8 +2,8 @@
 ghost use Rattle.std.specs.Prelude.{◌≡◌};
 ghost use Rattle.gw_base.specs.Member.{member_name};
 
-/// A member of a SIRI 2.0 delivery (siri_estimatedTimetable_service.xsd, siri_situation.xsd). Each variant
-/// is spelled like its member.
+/// A member of a SIRI 2.0 delivery (its schemas siri_estimatedTimetable_service.xsd and
+/// siri_situation.xsd). Each variant is spelled like its member.
 #[derive(Clone, Copy, Debug, PartialEq, Eq)]
 pub enum Member {
     Siri,

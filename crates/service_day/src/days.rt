@@ -61,8 +61,8 @@ impl Day {
         (self.number + 3).rem_euclid(7) as u8
     }
 
-    /// The day that many days later, or earlier where the number is negative. None exactly where it isn't one of
-    /// the years 0001 to 9999.
+    /// The day that many days later, or earlier where the number is negative. None exactly where that
+    /// is no day of the years 0001 to 9999.
     pub fn plus(&self, days: i32) -> Option<Day>
         ensures exactly { IsSome result ↔ IsDay (self.now +ℤ days) }
         ensures value { IfSome result (λ day. day ≡ self.now +ℤ days) }
