@@ -1,5 +1,5 @@
 -- The shortest list says how the stops read, and every list that says so has an update wherever it has one.
-use Rattle.std.proofs.Common.{◌≡◌, ◌∙◌, ◌+◌, ◌<◌, ◌≤◌, ◌&&◌, ◌||◌, ◌==◌, ◌++◌, ◌-ℤ◌, ◌+ℤ◌, ℕ, ℤ, Bool, true, false, not, List, [], ◌∷◌, map, length, zip, Option, Some, None, Result, Ok, Err, if◌then◌else◌, int_eq, IsTrue, refl, ap, ap₂, sym, subst, subst₂, arith, le_refl, eq-eqb, eqb-true, ne_eqb, ◌⊎◌, inl, inr, ⊎_elim}
+use Rattle.std.proofs.Common.{◌≡◌, ◌∙◌, ◌+◌, ◌<◌, ◌≤◌, ◌&&◌, ◌||◌, ◌==◌, ◌++◌, ◌-ℤ◌, ◌+ℤ◌, ℕ, ℤ, Bool, true, false, not, List, [], ◌∷◌, map, length, zip, Option, Some, None, Result, Ok, Err, if◌then◌else◌, int_eq, IfOk, refl, ap, ap₂, sym, subst, subst₂, arith, le_refl, eq-eqb, eqb-true, ne_eqb, ◌⊎◌, inl, inr, ⊎_elim}
 use Rattle.std.specs.List.{list_any, range_with_len}
 use Rattle.std.proofs.lemmas.Bool.{and_parts, not-false, or_cases, or_left, or_parts, or_right}
 use Rattle.std.proofs.lemmas.Bool.Decides.{Decides-int_eq}
@@ -8,10 +8,12 @@ use Rattle.gw_base.specs.declared.messages.StopUpdate.{StopUpdate}
 use Rattle.stop_schedule.specs.Planned.{planned}
 use Rattle.stop_schedule.specs.Stops.{are_rising}
 use Rattle.stop_schedule.specs.declared.stop_times.StopRow.{StopRow}
+use Rattle.journey_model.specs.Dated.{run_of}
 use Rattle.journey_model.specs.Propagation.{prop, propagated}
 use Rattle.journey_model.specs.Readings.{are_near, fits_trip, is_near}
 use Rattle.journey_model.specs.Runs.{Run}
 use Rattle.journey_model.specs.Updates.{places}
+use Rattle.journey_model.specs.declared.context.DatedTrip.{DatedTrip}
 use Rattle.journey_model.specs.declared.fault.Fault.{Fault}
 use Rattle.journey_model.specs.declared.readings.JourneyReading.{JourneyReading}
 use Rattle.journey_model.specs.declared.readings.JourneyReading.TheVariants.{Cancelled, Stops}
@@ -199,3 +201,16 @@ shortest-least run (Stops readings) rising fits = λ mine others theirs place ha
   where
     ok-same : (one other : List ℕ) → ◌≡◌ {A = Result (List ℕ) Fault} (Ok one) (Ok other) → one ≡ other
     ok-same one other h = cc
+
+-- the laws of an answer that is the shortest list
+pub answer-says : {E : Type 0} (answer : Result (List StopUpdate) E) (dated : DatedTrip) (reading : JourneyReading) → fits_trip dated.start dated.stops.now reading ≡ true
+    → IfOk answer (λ updates. updates ≡ shortest dated.start dated.stops.now reading)
+    → IfOk answer (λ updates. (ids : List (List ℕ)) → Says (run_of ids dated) updates reading)
+answer-says (Ok updates) dated reading fits is = λ ids. subst (λ (u : List StopUpdate). Says (run_of ids dated) u reading) (sym is) (shortest-says (run_of ids dated) reading dated.rising fits)
+answer-says (Err fault) dated reading fits is = tt
+
+pub answer-least : {E : Type 0} (answer : Result (List StopUpdate) E) (dated : DatedTrip) (reading : JourneyReading) → fits_trip dated.start dated.stops.now reading ≡ true
+    → IfOk answer (λ updates. updates ≡ shortest dated.start dated.stops.now reading)
+    → IfOk answer (λ updates. (ids : List (List ℕ)) → IsLeastOf (run_of ids dated) updates reading)
+answer-least (Ok updates) dated reading fits is = λ ids. subst (λ (u : List StopUpdate). IsLeastOf (run_of ids dated) u reading) (sym is) (shortest-least (run_of ids dated) reading dated.rising fits)
+answer-least (Err fault) dated reading fits is = tt
