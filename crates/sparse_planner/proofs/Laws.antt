@@ -69,7 +69,7 @@ plan-rise start place delay (stop ∷ stops) =
     let next = delay_behind start delay stop.0 stop.1 in
     let rest = plan-rise start (place + 1) next stops in
     elim (needs start delay stop.0 stop.1) as (λ needed. Rise place (zip ((if needed then place ∷ [] else []) ++ plan_places start (place + 1) next stops)
-        ((if needed then update start stop.0 stop.1 ∷ [] else []) ++ plan_from start next stops))) [
+    ((if needed then update start stop.0 stop.1 ∷ [] else []) ++ plan_from start next stops))) [
       | true ↦ (le_refl place, rest)
       | false ↦ rise-lower place (place + 1) (zip (plan_places start (place + 1) next stops) (plan_from start next stops)) (omega arith) rest
     ]
@@ -93,7 +93,7 @@ walk-plan start place delay (row ∷ rows) (reading ∷ readings) near =
     let others = plan_from start next (zip rows readings) in
     let rest = walk-plan start (place + 1) next rows readings parts.1 in
     let Goal : Bool → Type 0 = λ needed. walk start place delay (row ∷ rows)
-        (zip ((if needed then place ∷ [] else []) ++ at) ((if needed then update start row reading ∷ [] else []) ++ others)) ≡ reading ∷ readings in
+    (zip ((if needed then place ∷ [] else []) ++ at) ((if needed then update start row reading ∷ [] else []) ++ others)) ≡ reading ∷ readings in
     (elim (needs start delay row reading) as (λ needed. needs start delay row reading ≡ needed → Goal needed) [
       | true ↦ λ e. rw (eq-eqb place place refl)
           (ap₂ ◌∷◌ (own-update start row reading) (ap (λ own. walk start (place + 1) (delay_behind start delay row own) rows (zip at others)) (own-update start row reading) ∙ rest))
@@ -142,7 +142,7 @@ walk-least start first delay (row ∷ rows) (reading ∷ readings) (one ∷ othe
     let there = own (planned start row) one.1 in
     let supplied = running (planned start row) delay in
     let Walked : Bool → Type 0 = λ at. (if at then there ∷ walk start (first + 1) (delay_behind start delay row there) rows others
-        else supplied ∷ walk start (first + 1) delay rows (one ∷ others)) ≡ reading ∷ readings in
+    else supplied ∷ walk start (first + 1) delay rows (one ∷ others)) ≡ reading ∷ readings in
     (elim (one.0 == first) as (λ at. (one.0 == first) ≡ at → Walked at → list_any (λ (other : ℕ × StopUpdate). other.0 == place) (one ∷ others) ≡ true) [
       | true ↦ λ e walked.
           let is = head-same there reading _ readings walked in
@@ -183,9 +183,9 @@ shortest-says run (Stops readings) rising fits =
       at = at;
       placed = shortest-places run readings rising fits;
       read =
-        ap (propagated run at) (updates-plan run.start stops)
-        ∙ prop-walk run (zip at (plan_from run.start None stops)) (plan-rise run.start 0 None stops)
-        ∙ walk-plan run.start 0 None run.stops readings fits;
+          ap (propagated run at) (updates-plan run.start stops)
+          ∙ prop-walk run (zip at (plan_from run.start None stops)) (plan-rise run.start 0 None stops)
+          ∙ walk-plan run.start 0 None run.stops readings fits;
     }
 
 -- every list that says so has an update wherever the shortest list has one

@@ -102,7 +102,7 @@ places-plan run front (row ∷ rows) (reading ∷ readings) place number after d
     let longer = length-more front row place long in
     let next = delay_behind run.start delay row reading in
     elim (needs run.start delay row reading) as (λ needed. places_from run number after ((if needed then update run.start row reading ∷ [] else []) ++ plan_from run.start next (zip rows readings))
-        ≡ Ok ((if needed then place ∷ [] else []) ++ plan_places run.start (place + 1) next (zip rows readings))) [
+    ≡ Ok ((if needed then place ∷ [] else []) ++ plan_places run.start (place + 1) next (zip rows readings))) [
       | true ↦ places-cons run number after (update run.start row reading) (plan_from run.start next (zip rows readings)) place (plan_places run.start (place + 1) next (zip rows readings))
           (place-update run number after front rows row reading stops rises (omega arith) parts.0 ∙ ap Ok long)
           (places-plan run (front ++ row ∷ []) rows readings (place + 1) (number + 1) (Some place) next more rising longer (le_refl (place + 1)) parts.1)

@@ -186,6 +186,7 @@ delay-own run row found one e = by (is_skipped one.1)
     timed-delay true both = refl
     timed-delay false None = refl
     timed-delay false (Some both) = refl
+
     by : (skipped : Bool) → delay_of run (if skipped then found else Some one)
         ≡ delay_behind run.start (delay_of run found) row (if skipped then Skipped else (if is_no_data one.1 then Absent else timed (times (planned run.start row) one.1)))
     by true = refl
@@ -220,25 +221,25 @@ walk-is run placed front (row ∷ rows) place found (one ∷ others) stops long 
     let more = stops-more run.stops front rows row stops in
     let longer = length-more front row place long in
     let Goal : Bool → Type 0 = λ at. map (prop run placed) (range_with_len place (length (row ∷ rows)))
-        ≡ (if at
-          then own (planned run.start row) one.1 ∷ walk run.start (place + 1) (delay_behind run.start (delay_of run found) row (own (planned run.start row) one.1)) rows others
-          else running (planned run.start row) (delay_of run found) ∷ walk run.start (place + 1) (delay_of run found) rows (one ∷ others)) in
+    ≡ (if at
+    then own (planned run.start row) one.1 ∷ walk run.start (place + 1) (delay_behind run.start (delay_of run found) row (own (planned run.start row) one.1)) rows others
+    else running (planned run.start row) (delay_of run found) ∷ walk run.start (place + 1) (delay_of run found) rows (one ∷ others)) in
     (elim (one.0 == place) as (λ at. (one.0 == place) ≡ at → Goal at) [
       | true ↦ λ e.
-        let is = eqb-true one.0 place e in
-        let planned_one = subst (λ (n : ℕ). planned_at run n ≡ planned run.start row) (sym is) here in
-        ap₂ ◌∷◌
-        (prop-at run placed place found one others left is ∙ ap (λ both. own both one.1) here)
-        (walk-is run placed (front ++ row ∷ []) rows (place + 1) (passed found one) others more longer (at-place placed place found one others left is)
-        ∙ ap (λ delay. walk run.start (place + 1) delay rows others) (delay-own run row found one planned_one))
+          let is = eqb-true one.0 place e in
+          let planned_one = subst (λ (n : ℕ). planned_at run n ≡ planned run.start row) (sym is) here in
+          ap₂ ◌∷◌
+          (prop-at run placed place found one others left is ∙ ap (λ both. own both one.1) here)
+          (walk-is run placed (front ++ row ∷ []) rows (place + 1) (passed found one) others more longer (at-place placed place found one others left is)
+          ∙ ap (λ delay. walk run.start (place + 1) delay rows others) (delay-own run row found one planned_one))
       | false ↦ λ e.
-        let first : place ≤ one.0 = left.rise.0 in
-        let other = eqb-false one.0 place e in
-        let behind : place + 1 ≤ one.0 = omega arith in
-        let rise : Rise (place + 1) (one ∷ others) = (behind, left.rise.1) in
-        ap₂ ◌∷◌
-        (prop-past run placed place found (one ∷ others) left rise ∙ ap (λ both. running both (delay_of run found)) here)
-        (walk-is run placed (front ++ row ∷ []) rows (place + 1) found (one ∷ others) more longer (past placed place found (one ∷ others) left rise))
+          let first : place ≤ one.0 = left.rise.0 in
+          let other = eqb-false one.0 place e in
+          let behind : place + 1 ≤ one.0 = omega arith in
+          let rise : Rise (place + 1) (one ∷ others) = (behind, left.rise.1) in
+          ap₂ ◌∷◌
+          (prop-past run placed place found (one ∷ others) left rise ∙ ap (λ both. running both (delay_of run found)) here)
+          (walk-is run placed (front ++ row ∷ []) rows (place + 1) found (one ∷ others) more longer (past placed place found (one ∷ others) left rise))
     ]) refl
 
 -- what placed updates say of all stops of a trip

@@ -3,5 +3,7 @@
 #![tactic(auto)]
 
 mod planning;
+#[cfg(test)]
+mod tests;
 
 pub use planning::plan;

@@ -18,7 +18,9 @@ use stop_schedule::StopRow;
 
 // The schedule_relationship of an update (GTFS Realtime, StopTimeUpdate.ScheduleRelationship).
 const SCHEDULED: i32 = 0;
+
 const SKIPPED: i32 = 1;
+
 const NO_DATA: i32 = 2;
 
 // The planned arrival and departure of a stop, in seconds since 1970.
@@ -28,7 +30,10 @@ fn planned_times(start: i64, row: &StopRow) -> (i64, i64)
     ensures arrival_in { (pos 0 ≤ℤ result.0) × (result.0 <ℤ pos (2 ^ 38)) }
     ensures departure_in { (pos 0 ≤ℤ result.1) × (result.1 <ℤ pos (2 ^ 38)) }
 {
-    (start + i64::from(row.arrival), start + i64::from(row.departure))
+    (
+        start + i64::from(row.arrival),
+        start + i64::from(row.departure),
+    )
 }
 
 // How a stop reads by what the stops before it supply: nothing, or the delay of a departure, in seconds.
@@ -49,7 +54,8 @@ fn supplied(start: i64, row: &StopRow, delay: Option<i64>) -> StopReading
 
 // Whether a stop needs an update of its own: it is skipped, or reads otherwise than what is supplied to it.
 fn needs_update(reading: &StopReading, supplied: StopReading) -> bool
-    ensures { result ≡ (spec.is_skipped reading.now || not (spec.same_reading reading.now supplied)) }
+    ensures { result
+        ≡ (spec.is_skipped reading.now || not (spec.same_reading reading.now supplied)) }
 {
     *reading == StopReading::Skipped || *reading != supplied
 }
@@ -92,12 +98,7 @@ fn update(start: i64, row: &StopRow, reading: &StopReading) -> StopUpdate
 
 // The delay that a stop supplies to those behind it: its departure's, or none where it is absent; where it is skipped,
 // the one that is supplied to it.
-fn handed_on(
-    start: i64,
-    row: &StopRow,
-    reading: &StopReading,
-    delay: Option<i64>,
-) -> Option<i64>
+fn handed_on(start: i64, row: &StopRow, reading: &StopReading, delay: Option<i64>) -> Option<i64>
     requires moment { IsMoment start }
     requires near { is_near (planned start row.now) reading.now ≡ true }
     ensures absent { reading.now ≡ Absent → result ≡ None }
@@ -105,13 +106,11 @@ fn handed_on(
     ensures timed { (arrival departure : ℤ) → reading.now ≡ Timed arrival departure
         → result ≡ Some (departure -ℤ (planned start row.now).1) }
 {
+    let planned = planned_times(start, row);
     match reading {
         StopReading::Absent => None,
         StopReading::Skipped => delay,
-        StopReading::Timed { departure, .. } => {
-            let (_, planned_departure) = planned_times(start, row);
-            Some(*departure - planned_departure)
-        }
+        StopReading::Timed { departure, .. } => Some(*departure - planned.1),
     }
 }
 
@@ -124,7 +123,8 @@ fn stop_updates(
 ) -> Result<List<StopUpdate>, AllocError>
     requires moment { IsMoment start }
     requires near { are_near start rows.now readings.now ≡ true }
-    ensures { IfOk result (λ updates. updates ≡ spec.updates_from start [] (zip rows.now readings.now)) }
+    ensures { IfOk result (λ updates.
+        updates ≡ spec.updates_from start [] (zip rows.now readings.now)) }
 {
     let mut updates = List::new(alloc);
     let mut delay = None;
@@ -146,9 +146,12 @@ pub fn plan(
     reading: &JourneyReading,
 ) -> Result<List<StopUpdate>, AllocError>
     requires { fits_trip dated.now.start dated.now.stops.now reading.now ≡ true }
-    ensures shortest { IfOk result (λ updates. updates ≡ spec.shortest dated.now.start dated.now.stops.now reading.now) }
-    ensures says { IfOk result (λ updates. (ids : Values (Values ℕ)) → Says (run_of ids dated.now) updates reading.now) }
-    ensures least { IfOk result (λ updates. (ids : Values (Values ℕ)) → IsLeastOf (run_of ids dated.now) updates reading.now) }
+    ensures shortest { IfOk result (λ updates.
+        updates ≡ spec.shortest dated.now.start dated.now.stops.now reading.now) }
+    ensures says { IfOk result (λ updates. (ids : Values (Values ℕ)) →
+        Says (run_of ids dated.now) updates reading.now) }
+    ensures least { IfOk result (λ updates. (ids : Values (Values ℕ)) →
+        IsLeastOf (run_of ids dated.now) updates reading.now) }
 {
     match reading {
         JourneyReading::Cancelled => Ok(List::new(alloc)),

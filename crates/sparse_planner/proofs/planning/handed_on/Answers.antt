@@ -10,8 +10,8 @@ use Rattle.sparse_planner.proofs.planning.handed_on.Goals as goal
 pub returns-in-Timed-clause-timed : goal.returns-in-Timed-clause-timed
 returns-in-Timed-clause-timed c = λ arrival departure e.
     let own = planned c.args.start c.args.row.now in
-    let times = c.planned_times-planned_departure.ensures in
-    let result = c.planned_times-planned_departure.result in
+    let times = c.planned_times-planned.ensures in
+    let result = c.planned_times-planned.result in
     let near = rw e at c.requires.near in
     let late = (and_parts (is_delay (arrival -ℤ own.0)) (is_delay (departure -ℤ own.1)) near).1 in
     let range = delay-range (departure -ℤ own.1) late in

@@ -27,18 +27,18 @@ loop-row-preserved c =
     let left = Zip-more c.loop-row.row-iterator c.next.new.self _ _ c.in-Some.is c.next.ensures.steps in
     let so_far = subst₂ (λ (a : List StopRow) (b : List StopReading). updates ++ plan_from start delay (zip a b) ≡ whole) left.0 left.1 c.loop-row.invariant.so_far in
     let near = and_parts (is_near (planned start row) reading) (are_near start rows readings)
-        (subst₂ (λ (a : List StopRow) (b : List StopReading). are_near start a b ≡ true) left.0 left.1 c.loop-row.invariant.near) in
+    (subst₂ (λ (a : List StopRow) (b : List StopReading). are_near start a b ≡ true) left.0 left.1 c.loop-row.invariant.near) in
     let handed = c.handed_on-delay.ensures in
     let next = delay-is start delay c.handed_on-delay.result row reading handed.absent handed.skipped handed.timed in
     let needed : c.needs_update.result ≡ needs start delay row reading = c.needs_update.ensures ∙ ap (λ supplied. is_skipped reading || not (same_reading reading supplied)) c.supplied.ensures in
     let pushed : c.if-needs_update.updates ≡ (if needs start delay row reading then updates ++ update start row reading ∷ [] else updates) =
-        elim c.if-needs_update.branch [
-          | then-needs_update+in_ok-push w ↦
-            w.updates-is ∙ w.in_ok-push.ensures.added ∙ ap (λ (one : StopUpdate). updates ++ one ∷ []) w.update.ensures
-            ∙ sym (cond-true (needs start delay row reading) (updates ++ update start row reading ∷ []) updates (sym needed ∙ w.if-needs_update.true))
-          | else-needs_update w ↦
-            w.updates-is ∙ sym (cond-false (needs start delay row reading) (updates ++ update start row reading ∷ []) updates (sym needed ∙ w.if-needs_update.false))
-        ] in
+    elim c.if-needs_update.branch [
+      | then-needs_update+in_ok-push w ↦
+          w.updates-is ∙ w.in_ok-push.ensures.added ∙ ap (λ (one : StopUpdate). updates ++ one ∷ []) w.update.ensures
+          ∙ sym (cond-true (needs start delay row reading) (updates ++ update start row reading ∷ []) updates (sym needed ∙ w.if-needs_update.true))
+      | else-needs_update w ↦
+          w.updates-is ∙ sym (cond-false (needs start delay row reading) (updates ++ update start row reading ∷ []) updates (sym needed ∙ w.if-needs_update.false))
+    ] in
     record {
       so_far = subst₂ (λ (a : List StopUpdate) b. a ++ plan_from start b (zip rows readings) ≡ whole) (sym pushed) (sym next)
           (plan-more start delay row reading (zip rows readings) updates whole so_far);
