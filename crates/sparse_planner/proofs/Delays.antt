@@ -1,5 +1,5 @@
 -- Delays as numbers.
-use Rattle.std.proofs.Common.{◌≡◌, ◌≤ℤ◌, ◌&&◌, ◌-ℤ◌, ℤ, pos, negsuc, Bool, true, int_le, Some, Option, IfSome}
+use Rattle.std.proofs.Common.{◌≡◌, ◌≤ℤ◌, ℤ, pos, negsuc, true, int_le, Some, Option, IfSome}
 use Rattle.std.specs.Bool.{passes}
 use Rattle.std.specs.Int.Signed.{le_z_yes}
 use Rattle.std.proofs.lemmas.Bool.{and_parts}

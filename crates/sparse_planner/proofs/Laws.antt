@@ -1,6 +1,6 @@
 -- The shortest list says how the stops read, and every list that says so has an update wherever it has one.
-use Rattle.std.proofs.Common.{◌≡◌, ◌∙◌, ◌+◌, ◌<◌, ◌≤◌, ◌&&◌, ◌||◌, ◌==◌, ◌++◌, ◌-ℤ◌, ◌+ℤ◌, ℕ, ℤ, Bool, true, false, not, List, [], ◌∷◌, map, length, zip, Option, Some, None, Result, Ok, Err, if◌then◌else◌, int_eq, IfOk, refl, ap, ap₂, sym, subst, subst₂, arith, le_refl, eq-eqb, eqb-true, ne_eqb, ◌⊎◌, inl, inr, ⊎_elim}
-use Rattle.std.specs.List.{list_any, range_with_len}
+use Rattle.std.proofs.Common.{◌≡◌, ◌∙◌, ◌+◌, ◌≤◌, ◌==◌, ◌++◌, ◌+ℤ◌, ℕ, ℤ, Bool, true, false, not, List, [], ◌∷◌, zip, Option, Some, None, Result, Ok, Err, if◌then◌else◌, int_eq, IfOk, refl, ap, ap₂, sym, subst, subst₂, arith, le_refl, eq-eqb, eqb-true, ne_eqb, ◌⊎◌, inl, inr, ⊎_elim}
+use Rattle.std.specs.List.{list_any}
 use Rattle.std.proofs.lemmas.Bool.{and_parts, not-false, or_cases, or_left, or_parts, or_right}
 use Rattle.std.proofs.lemmas.Bool.Decides.{Decides-int_eq}
 use Rattle.std.proofs.lemmas.Int.{ints}
@@ -9,7 +9,7 @@ use Rattle.stop_schedule.specs.Planned.{planned}
 use Rattle.stop_schedule.specs.Stops.{are_rising}
 use Rattle.stop_schedule.specs.declared.stop_times.StopRow.{StopRow}
 use Rattle.journey_model.specs.Dated.{run_of}
-use Rattle.journey_model.specs.Propagation.{prop, propagated}
+use Rattle.journey_model.specs.Propagation.{propagated}
 use Rattle.journey_model.specs.Readings.{are_near, fits_trip, is_near}
 use Rattle.journey_model.specs.Runs.{Run}
 use Rattle.journey_model.specs.Updates.{places}
@@ -19,8 +19,8 @@ use Rattle.journey_model.specs.declared.readings.JourneyReading.{JourneyReading}
 use Rattle.journey_model.specs.declared.readings.JourneyReading.TheVariants.{Cancelled, Stops}
 use Rattle.journey_model.specs.declared.readings.StopReading.{StopReading}
 use Rattle.journey_model.specs.declared.readings.StopReading.TheVariants.{Absent, Skipped, Timed}
-use Rattle.sparse_planner.specs.Means.{HasPlace, IsLeast, IsLeastOf, Says, SaysStops}
-use Rattle.sparse_planner.specs.Shortest.{is_skipped, same_reading, shortest, update, updates_from}
+use Rattle.sparse_planner.specs.Means.{HasPlace, IsLeastOf, Says}
+use Rattle.sparse_planner.specs.Shortest.{is_skipped, same_reading, shortest, update}
 use Rattle.sparse_planner.proofs.Placing.{places-plan, places-rise, plan_places}
 use Rattle.sparse_planner.proofs.States.{delay_behind, needs, plan_from, running, updates-plan}
 use Rattle.sparse_planner.proofs.Walks.{Rise, own, prop-walk, rise-lower, walk}

@@ -1,7 +1,6 @@
 -- The places of updates: those of the shortest list are its stops', and places rise.
-use Rattle.std.proofs.Common.{◌||◌, drop, ◌≡◌, ◌∙◌, ◌+◌, ◌<◌, ◌≤◌, ◌&&◌, ◌++◌, ◌-ℤ◌, ℕ, ℤ, suc, Bool, true, false, not, cond, List, [], ◌∷◌, length, length-append, zip, slice_get, position, Option, Some, None, option_map, ok_or, Result, Ok, Err, if◌then◌else◌, nat_le, nat_lt, refl, ap, ap₂, sym, subst, arith, ne_eqb, lt-ltb, le-leb, leb-true, ltb-true, le_refl, eq-eqb, append_assoc}
-use Rattle.std.specs.List.{list_all, list_any, position_or_len, prefix_len}
-use Rattle.std.specs.Option.{option_map_or}
+use Rattle.std.proofs.Common.{◌||◌, drop, ◌≡◌, ◌∙◌, ◌+◌, ◌<◌, ◌≤◌, ◌++◌, ◌-ℤ◌, ℕ, ℤ, Bool, true, false, not, cond, List, [], ◌∷◌, length, length-append, zip, position, Option, Some, None, option_map, ok_or, Result, Ok, Err, if◌then◌else◌, nat_le, nat_lt, refl, ap, sym, subst, arith, ne_eqb, lt-ltb, le-leb, leb-true, ltb-true, le_refl, eq-eqb}
+use Rattle.std.specs.List.{list_all, list_any, prefix_len}
 use Rattle.std.proofs.lemmas.Bool.{and_parts}
 use Rattle.gw_base.specs.declared.messages.StopUpdate.{StopUpdate}
 use Rattle.stop_schedule.specs.Planned.{planned}

@@ -1,5 +1,5 @@
 -- The shortest list made in one walk, which keeps the delay that the stops so far supply.
-use Rattle.std.proofs.Common.{◌≡◌, ◌∙◌, ◌||◌, ◌-ℤ◌, ℤ, Bool, true, false, not, List, [], ◌∷◌, ◌++◌, Option, Some, None, if◌then◌else◌, append_assoc, append-nil, zip, IfSome, ◌&&◌, ◌⊎◌, inl, inr, refl, ap, ap₂, sym}
+use Rattle.std.proofs.Common.{◌≡◌, ◌∙◌, ◌||◌, ◌-ℤ◌, ℤ, Bool, true, false, not, List, [], ◌∷◌, ◌++◌, Option, Some, None, if◌then◌else◌, append_assoc, zip, IfSome, ◌⊎◌, inl, inr, refl, ap, ap₂, sym}
 use Rattle.std.specs.Option.{option_map_or, option_or}
 use Rattle.std.proofs.lemmas.Bool.{and_parts}
 use Rattle.gw_base.specs.declared.messages.StopUpdate.{StopUpdate}
@@ -10,7 +10,7 @@ use Rattle.journey_model.specs.Readings.{is_near}
 use Rattle.journey_model.specs.Times.{is_delay}
 use Rattle.journey_model.specs.declared.readings.StopReading.{StopReading}
 use Rattle.journey_model.specs.declared.readings.StopReading.TheVariants.{Absent, Skipped, Timed}
-use Rattle.sparse_planner.specs.Shortest.{is_skipped, nearest, needs_update, same_reading, supplied_by, supply, update, updates_from}
+use Rattle.sparse_planner.specs.Shortest.{is_skipped, nearest, same_reading, supply, update, updates_from}
 
 -- what a delay supplies to a stop
 abbrev pub running : ℤ × ℤ → Option ℤ → StopReading

@@ -1,20 +1,19 @@
 -- What placed updates say of stops, in one walk: behind an update the delay that it supplies is kept.
-use Rattle.std.proofs.Common.{append_assoc, length-append, ◌≡◌, ◌∙◌, ◌+◌, ◌<◌, ◌≤◌, ◌&&◌, ◌||◌, ◌==◌, ◌++◌, ◌-ℤ◌, ◌+ℤ◌, ℕ, ℤ, pos, suc, Bool, true, false, not, cond, List, [], ◌∷◌, map, length, slice_get, Option, Some, None, IfSome, option_map, if◌then◌else◌, nat_le, refl, ap, ap₂, sym, subst, arith, eqb-true, ne_eqb, le-leb, lt-ltb, eq-eqb}
+use Rattle.std.proofs.Common.{append_assoc, length-append, ◌≡◌, ◌∙◌, ◌+◌, ◌<◌, ◌≤◌, ◌==◌, ◌++◌, ◌-ℤ◌, ℕ, ℤ, pos, Bool, true, false, not, List, [], ◌∷◌, map, length, slice_get, Option, Some, None, IfSome, option_map, if◌then◌else◌, refl, ap, ap₂, sym, subst, arith, eqb-true, ne_eqb, le-leb, eq-eqb}
 use Rattle.std.specs.Prelude.{⊤}
-use Rattle.std.specs.List.{range_with_len, list_any}
+use Rattle.std.specs.List.{range_with_len}
 use Rattle.std.specs.Option.{option_map_or, option_or}
 use Rattle.std.proofs.lemmas.Bool.{eqb-false, lt-leb}
-use Rattle.std.proofs.lemmas.Int.{ints}
 use Rattle.std.proofs.Math.Bool.{or-false}
 use Rattle.std.proofs.lemmas.Option.{IfSome_then}
 use Rattle.gw_base.specs.declared.messages.StopUpdate.{StopUpdate}
 use Rattle.stop_schedule.specs.Planned.{planned}
 use Rattle.stop_schedule.specs.declared.stop_times.StopRow.{StopRow}
-use Rattle.journey_model.specs.Propagation.{carried, later_by, prop, skips_at, supplied, supplier, supplies, timed}
+use Rattle.journey_model.specs.Propagation.{carried, prop, skips_at, supplied, supplier, supplies, timed}
 use Rattle.journey_model.specs.Runs.{Run, planned_at}
 use Rattle.journey_model.specs.Updates.{is_no_data, is_skipped, times}
 use Rattle.journey_model.specs.declared.readings.StopReading.{StopReading}
-use Rattle.journey_model.specs.declared.readings.StopReading.TheVariants.{Absent, Skipped, Timed}
+use Rattle.journey_model.specs.declared.readings.StopReading.TheVariants.{Absent, Skipped}
 use Rattle.sparse_planner.proofs.States.{delay_behind, or-assoc, or-none, running}
 
 -- how a stop reads by an update of its own

@@ -3,7 +3,6 @@ use Rattle.std.proofs.lemmas.Bool.{and_parts}
 use Rattle.std.proofs.lemmas.Int.{ints}
 use Rattle.stop_schedule.specs.Planned.{planned}
 use Rattle.journey_model.specs.Times.{is_delay}
-use Rattle.journey_model.specs.declared.readings.StopReading.TheVariants.{Timed}
 use Rattle.sparse_planner.proofs.Delays.{delay-range}
 use Rattle.sparse_planner.proofs.planning.handed_on.Goals as goal
 

@@ -1,5 +1,4 @@
-use Rattle.std.proofs.Common.{◌≡◌, List, [], zip, IfOk, ℤ, subst, SFits, to_z, of_z, to_z-of_z, w64, rules}
-use Rattle.gw_base.specs.declared.messages.StopUpdate.{StopUpdate}
+use Rattle.std.proofs.Common.{◌≡◌, List, [], zip, IfOk, ℤ, subst, SFits, to_z-of_z, w64, rules}
 use Rattle.journey_model.specs.declared.readings.StopReading.{StopReading}
 use Rattle.sparse_planner.specs.Shortest.{shortest, updates_from}
 use Rattle.sparse_planner.proofs.Laws.{answer-least, answer-says}

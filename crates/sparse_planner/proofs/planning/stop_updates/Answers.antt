@@ -1,4 +1,4 @@
-use Rattle.std.proofs.Common.{◌≡◌, ◌∙◌, ◌||◌, ◌++◌, Bool, true, not, cond, ℤ, zip, List, [], ◌∷◌, None, Some, if◌then◌else◌, append-nil, sym, ap, subst, subst₂, IfSome, to_z, of_z, to_z-of_z, w64}
+use Rattle.std.proofs.Common.{◌≡◌, ◌∙◌, ◌||◌, ◌++◌, true, not, zip, List, [], ◌∷◌, None, if◌then◌else◌, append-nil, sym, ap, subst, subst₂, IfSome, to_z, of_z, to_z-of_z, w64}
 use Rattle.std.proofs.lemmas.Bool.{and_parts, cond-false, cond-true}
 use Rattle.std.proofs.lemmas.Slice.Zip.{Zip-more, either_empty_from_Zip}
 use Rattle.std.specs.Iterator.Adapters.{zip_first, zip_second}
@@ -9,8 +9,8 @@ use Rattle.journey_model.specs.Times.{is_delay}
 use Rattle.journey_model.specs.declared.readings.StopReading.{StopReading}
 use Rattle.stop_schedule.specs.Planned.{planned}
 use Rattle.stop_schedule.specs.declared.stop_times.StopRow.{StopRow}
-use Rattle.sparse_planner.specs.Shortest.{is_skipped, same_reading, update, updates_from}
-use Rattle.sparse_planner.proofs.States.{delay_behind, delay-is, delay-small, needs, plan-more, plan_from, updates-plan, zip-over}
+use Rattle.sparse_planner.specs.Shortest.{is_skipped, same_reading, update}
+use Rattle.sparse_planner.proofs.States.{delay-is, delay-small, needs, plan-more, plan_from, updates-plan, zip-over}
 use Rattle.sparse_planner.proofs.planning.stop_updates.Goals as goal
 use Rattle.sparse_planner.proofs.planning.stop_updates.Goals.{then-needs_update+in_ok-push, else-needs_update}
 
