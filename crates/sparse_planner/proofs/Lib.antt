@@ -1,0 +1,5 @@
+pub mod Delays
+pub mod States
+pub mod Walks
+pub mod Placing
+pub mod Laws

@@ -1,2 +1,9 @@
-//! In work.
+//! The shortest list of GTFS Realtime stop time updates that says how a journey reads. The definitions are
+//! `specs/Shortest.antt`, what the list is, and `specs/Means.antt`, what it says and that no shorter one says it.
 #![tactic(auto)]
+
+mod planning;
+#[cfg(test)]
+mod tests;
+
+pub use planning::plan;

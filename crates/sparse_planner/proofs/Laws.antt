@@ -1,0 +1,216 @@
+-- The shortest list says how the stops read, and every list that says so has an update wherever it has one.
+use Rattle.std.proofs.Common.{◌≡◌, ◌∙◌, ◌+◌, ◌≤◌, ◌==◌, ◌++◌, ◌+ℤ◌, ℕ, ℤ, Bool, true, false, not, List, [], ◌∷◌, zip, Option, Some, None, Result, Ok, Err, if◌then◌else◌, int_eq, IfOk, refl, ap, ap₂, sym, subst, subst₂, arith, le_refl, eq-eqb, eqb-true, ne_eqb, ◌⊎◌, inl, inr, ⊎_elim}
+use Rattle.std.specs.List.{list_any}
+use Rattle.std.proofs.lemmas.Bool.{and_parts, not-false, or_cases, or_left, or_parts, or_right}
+use Rattle.std.proofs.lemmas.Bool.Decides.{Decides-int_eq}
+use Rattle.std.proofs.lemmas.Int.{ints}
+use Rattle.gw_base.specs.declared.messages.StopUpdate.{StopUpdate}
+use Rattle.stop_schedule.specs.Planned.{planned}
+use Rattle.stop_schedule.specs.Stops.{are_rising}
+use Rattle.stop_schedule.specs.declared.stop_times.StopRow.{StopRow}
+use Rattle.journey_model.specs.Dated.{run_of}
+use Rattle.journey_model.specs.Propagation.{propagated}
+use Rattle.journey_model.specs.Readings.{are_near, fits_trip, is_near}
+use Rattle.journey_model.specs.Runs.{Run}
+use Rattle.journey_model.specs.Updates.{places}
+use Rattle.journey_model.specs.declared.context.DatedTrip.{DatedTrip}
+use Rattle.journey_model.specs.declared.fault.Fault.{Fault}
+use Rattle.journey_model.specs.declared.readings.JourneyReading.{JourneyReading}
+use Rattle.journey_model.specs.declared.readings.JourneyReading.TheVariants.{Cancelled, Stops}
+use Rattle.journey_model.specs.declared.readings.StopReading.{StopReading}
+use Rattle.journey_model.specs.declared.readings.StopReading.TheVariants.{Absent, Skipped, Timed}
+use Rattle.sparse_planner.specs.Means.{HasPlace, IsLeastOf, Says}
+use Rattle.sparse_planner.specs.Shortest.{is_skipped, same_reading, shortest, update}
+use Rattle.sparse_planner.proofs.Placing.{places-plan, places-rise, plan_places}
+use Rattle.sparse_planner.proofs.States.{delay_behind, needs, plan_from, running, updates-plan}
+use Rattle.sparse_planner.proofs.Walks.{Rise, own, prop-walk, rise-lower, walk}
+
+-- ---- a stop without an update reads as is supplied to it
+
+same-is : (one other : StopReading) → same_reading one other ≡ true → one ≡ other
+same-is Absent Absent h = refl
+same-is Absent Skipped h = absurd (cc)
+same-is Absent (Timed arrival departure) h = absurd (cc)
+same-is Skipped Absent h = absurd (cc)
+same-is Skipped Skipped h = refl
+same-is Skipped (Timed arrival departure) h = absurd (cc)
+same-is (Timed arrival departure) Absent h = absurd (cc)
+same-is (Timed arrival departure) Skipped h = absurd (cc)
+same-is (Timed arrival departure) (Timed other_arrival other_departure) h =
+    let parts = and_parts (int_eq arrival other_arrival) (int_eq departure other_departure) h in
+    ap₂ Timed ((Decides-int_eq arrival other_arrival).0 parts.0) ((Decides-int_eq departure other_departure).0 parts.1)
+
+unneeded-is : (start : ℤ) (delay : Option ℤ) (row : StopRow) (reading : StopReading) → needs start delay row reading ≡ false → reading ≡ running (planned start row) delay
+unneeded-is start delay row reading h =
+    let supplied = running (planned start row) delay in
+    same-is reading supplied (not-false (same_reading reading supplied) (or_parts (is_skipped reading) (not (same_reading reading supplied)) h).1)
+
+needs-running : (start : ℤ) (delay : Option ℤ) (row : StopRow) → needs start delay row (running (planned start row) delay) ≡ false
+needs-running start None row = refl
+needs-running start (Some delay) row =
+    let times = planned start row in
+    rw ((Decides-int_eq (times.0 +ℤ delay) (times.0 +ℤ delay)).1 refl, (Decides-int_eq (times.1 +ℤ delay) (times.1 +ℤ delay)).1 refl) refl
+
+-- it supplies what is supplied to it
+delay-running : (start : ℤ) (delay : Option ℤ) (row : StopRow) → delay_behind start delay row (running (planned start row) delay) ≡ delay
+delay-running start None row = refl
+delay-running start (Some delay) row = ap Some (omega (arith, ints))
+
+-- ---- the walk over the shortest list gives the readings
+
+own-update : (start : ℤ) (row : StopRow) (reading : StopReading) → own (planned start row) (update start row reading) ≡ reading
+own-update start row Absent = refl
+own-update start row Skipped = refl
+own-update start row (Timed arrival departure) = refl
+
+plan-rise : (start : ℤ) (place : ℕ) (delay : Option ℤ) (stops : List (StopRow × StopReading)) → Rise place (zip (plan_places start place delay stops) (plan_from start delay stops))
+plan-rise start place delay [] = tt
+plan-rise start place delay (stop ∷ stops) =
+    let next = delay_behind start delay stop.0 stop.1 in
+    let rest = plan-rise start (place + 1) next stops in
+    elim (needs start delay stop.0 stop.1) as (λ needed. Rise place (zip ((if needed then place ∷ [] else []) ++ plan_places start (place + 1) next stops)
+    ((if needed then update start stop.0 stop.1 ∷ [] else []) ++ plan_from start next stops))) [
+      | true ↦ (le_refl place, rest)
+      | false ↦ rise-lower place (place + 1) (zip (plan_places start (place + 1) next stops) (plan_from start next stops)) (omega arith) rest
+    ]
+
+walk-past : (start : ℤ) (place : ℕ) (delay : Option ℤ) (row : StopRow) (rows : List StopRow) (placed : List (ℕ × StopUpdate)) → Rise (place + 1) placed
+    → walk start place delay (row ∷ rows) placed ≡ running (planned start row) delay ∷ walk start (place + 1) delay rows placed
+walk-past start place delay row rows [] rise = refl
+walk-past start place delay row rows (one ∷ others) rise =
+    let first : place + 1 ≤ one.0 = rise.0 in
+    rw (ne_eqb one.0 place (λ e. absurd (omega arith))) refl
+
+walk-plan : (start : ℤ) (place : ℕ) (delay : Option ℤ) (rows : List StopRow) (readings : List StopReading) → are_near start rows readings ≡ true
+    → walk start place delay rows (zip (plan_places start place delay (zip rows readings)) (plan_from start delay (zip rows readings))) ≡ readings
+walk-plan start place delay [] [] near = refl
+walk-plan start place delay [] (reading ∷ readings) near = absurd (cc)
+walk-plan start place delay (row ∷ rows) [] near = absurd (cc)
+walk-plan start place delay (row ∷ rows) (reading ∷ readings) near =
+    let parts = and_parts (is_near (planned start row) reading) (are_near start rows readings) near in
+    let next = delay_behind start delay row reading in
+    let at = plan_places start (place + 1) next (zip rows readings) in
+    let others = plan_from start next (zip rows readings) in
+    let rest = walk-plan start (place + 1) next rows readings parts.1 in
+    let Goal : Bool → Type 0 = λ needed. walk start place delay (row ∷ rows)
+    (zip ((if needed then place ∷ [] else []) ++ at) ((if needed then update start row reading ∷ [] else []) ++ others)) ≡ reading ∷ readings in
+    (elim (needs start delay row reading) as (λ needed. needs start delay row reading ≡ needed → Goal needed) [
+      | true ↦ λ e. rw (eq-eqb place place refl)
+          (ap₂ ◌∷◌ (own-update start row reading) (ap (λ own. walk start (place + 1) (delay_behind start delay row own) rows (zip at others)) (own-update start row reading) ∙ rest))
+      | false ↦ λ e.
+          let is = unneeded-is start delay row reading e in
+          let same = ap (delay_behind start delay row) is ∙ delay-running start delay row in
+          walk-past start place delay row rows (zip at others) (plan-rise start (place + 1) next (zip rows readings))
+          ∙ ap₂ ◌∷◌ (sym is) (ap (λ from. walk start (place + 1) from rows (zip at others)) (sym same) ∙ rest)
+    ]) refl
+
+-- ---- where a walk gives the readings, an update stands wherever the shortest list has one
+
+none-there : (place : ℕ) (P : Type 0) → HasPlace place [] → P
+none-there place P h = absurd (cc)
+
+-- a place that the shortest list has is that of a stop that needs it, or of one behind
+first-or-behind : (place first : ℕ) (needed : Bool) (others : List ℕ) → HasPlace place ((if needed then first ∷ [] else []) ++ others)
+    → ((needed ≡ true) × (first ≡ place)) ⊎ HasPlace place others
+first-or-behind place first true others h = ⊎_elim (λ e. inl (refl, eqb-true first place e)) (λ e. inr e) (or_cases (first == place) (list_any (λ other. other == place) others) h)
+first-or-behind place first false others h = inr h
+
+-- the cells of equal lists
+head-same : (one other : StopReading) (ones others : List StopReading) → one ∷ ones ≡ other ∷ others → one ≡ other
+head-same one other ones others h = cc
+
+tail-same : (one other : StopReading) (ones others : List StopReading) → one ∷ ones ≡ other ∷ others → ones ≡ others
+tail-same one other ones others h = cc
+
+-- a stop that reads as is supplied to it has no place
+behind-place : (start : ℤ) (place first : ℕ) (delay : Option ℤ) (row : StopRow) (reading : StopReading) (stops : List (StopRow × StopReading))
+    → running (planned start row) delay ≡ reading → HasPlace place (plan_places start first delay ((row, reading) ∷ stops)) → HasPlace place (plan_places start (first + 1) delay stops)
+behind-place start place first delay row reading stops is h =
+    let unneeded = subst (λ (one : StopReading). needs start delay row one ≡ false) is (needs-running start delay row) in
+    let same : delay_behind start delay row reading ≡ delay = ap (delay_behind start delay row) (sym is) ∙ delay-running start delay row in
+    subst₂ (λ (needed : Bool) (next : Option ℤ). HasPlace place ((if needed then first ∷ [] else []) ++ plan_places start (first + 1) next stops)) unneeded same h
+
+walk-least : (start : ℤ) (first : ℕ) (delay : Option ℤ) (rows : List StopRow) (readings : List StopReading) (placed : List (ℕ × StopUpdate))
+    → walk start first delay rows placed ≡ readings → (place : ℕ) → HasPlace place (plan_places start first delay (zip rows readings))
+    → list_any (λ (one : ℕ × StopUpdate). one.0 == place) placed ≡ true
+walk-least start first delay [] readings placed read place h = none-there place _ h
+walk-least start first delay (row ∷ rows) [] placed read place h = none-there place _ h
+walk-least start first delay (row ∷ rows) (reading ∷ readings) [] read place h =
+    walk-least start (first + 1) delay rows readings [] (tail-same _ _ _ _ read) place
+    (behind-place start place first delay row reading (zip rows readings) (head-same _ _ _ _ read) h)
+walk-least start first delay (row ∷ rows) (reading ∷ readings) (one ∷ others) read place h =
+    let there = own (planned start row) one.1 in
+    let supplied = running (planned start row) delay in
+    let Walked : Bool → Type 0 = λ at. (if at then there ∷ walk start (first + 1) (delay_behind start delay row there) rows others
+    else supplied ∷ walk start (first + 1) delay rows (one ∷ others)) ≡ reading ∷ readings in
+    (elim (one.0 == first) as (λ at. (one.0 == first) ≡ at → Walked at → list_any (λ (other : ℕ × StopUpdate). other.0 == place) (one ∷ others) ≡ true) [
+      | true ↦ λ e walked.
+          let is = head-same there reading _ readings walked in
+          let rest = ap (λ own. walk start (first + 1) (delay_behind start delay row own) rows others) (sym is) ∙ tail-same there reading _ readings walked in
+          ⊎_elim
+          (λ here. or_left (one.0 == place) _ (eq-eqb one.0 place (eqb-true one.0 first e ∙ here.1)))
+          (λ behind. or_right (one.0 == place) _ (walk-least start (first + 1) (delay_behind start delay row reading) rows readings others rest place behind))
+          (first-or-behind place first (needs start delay row reading) (plan_places start (first + 1) (delay_behind start delay row reading) (zip rows readings)) h)
+      | false ↦ λ e walked.
+          walk-least start (first + 1) delay rows readings (one ∷ others) (tail-same supplied reading _ readings walked) place
+          (behind-place start place first delay row reading (zip rows readings) (head-same supplied reading _ readings walked) h)
+    ]) refl read
+
+placed-has : (place : ℕ) (at : List ℕ) (updates : List StopUpdate) → list_any (λ (one : ℕ × StopUpdate). one.0 == place) (zip at updates) ≡ true → HasPlace place at
+placed-has place [] updates h = absurd (cc)
+placed-has place (first ∷ at) [] h = absurd (cc)
+placed-has place (first ∷ at) (one ∷ updates) h =
+    ⊎_elim (λ e. or_left (first == place) _ e) (λ e. or_right (first == place) _ (placed-has place at updates e))
+    (or_cases (first == place) (list_any (λ (other : ℕ × StopUpdate). other.0 == place) (zip at updates)) h)
+
+-- ---- the laws
+
+-- the shortest list of stops has their places, without a fault
+shortest-places : (run : Run) (readings : List StopReading) → are_rising run.stops ≡ true → are_near run.start run.stops readings ≡ true
+    → places run (shortest run.start run.stops (Stops readings)) ≡ Ok (plan_places run.start 0 None (zip run.stops readings))
+shortest-places run readings rising near =
+    ap (places run) (updates-plan run.start (zip run.stops readings))
+    ∙ places-plan run [] run.stops readings 0 0 None None refl rising refl (le_refl 0) near
+
+-- the shortest list says how the stops of a journey read
+pub shortest-says : (run : Run) (reading : JourneyReading) → are_rising run.stops ≡ true → fits_trip run.start run.stops reading ≡ true
+    → Says run (shortest run.start run.stops reading) reading
+shortest-says run Cancelled rising fits = tt
+shortest-says run (Stops readings) rising fits =
+    let stops = zip run.stops readings in
+    let at = plan_places run.start 0 None stops in
+    record {
+      at = at;
+      placed = shortest-places run readings rising fits;
+      read =
+          ap (propagated run at) (updates-plan run.start stops)
+          ∙ prop-walk run (zip at (plan_from run.start None stops)) (plan-rise run.start 0 None stops)
+          ∙ walk-plan run.start 0 None run.stops readings fits;
+    }
+
+-- every list that says so has an update wherever the shortest list has one
+pub shortest-least : (run : Run) (reading : JourneyReading) → are_rising run.stops ≡ true → fits_trip run.start run.stops reading ≡ true
+    → IsLeastOf run (shortest run.start run.stops reading) reading
+shortest-least run Cancelled rising fits = tt
+shortest-least run (Stops readings) rising fits = λ mine others theirs place has.
+    let is : mine.at ≡ plan_places run.start 0 None (zip run.stops readings) = ok-same _ _ (sym mine.placed ∙ shortest-places run readings rising fits) in
+    let rise = places-rise run 0 None others theirs.at theirs.placed in
+    placed-has place theirs.at others
+    (walk-least run.start 0 None run.stops readings (zip theirs.at others) (sym (prop-walk run (zip theirs.at others) rise) ∙ theirs.read) place
+    (subst (HasPlace place) is has))
+  where
+    ok-same : (one other : List ℕ) → ◌≡◌ {A = Result (List ℕ) Fault} (Ok one) (Ok other) → one ≡ other
+    ok-same one other h = cc
+
+-- the laws of an answer that is the shortest list
+pub answer-says : {E : Type 0} (answer : Result (List StopUpdate) E) (dated : DatedTrip) (reading : JourneyReading) → fits_trip dated.start dated.stops.now reading ≡ true
+    → IfOk answer (λ updates. updates ≡ shortest dated.start dated.stops.now reading)
+    → IfOk answer (λ updates. (ids : List (List ℕ)) → Says (run_of ids dated) updates reading)
+answer-says (Ok updates) dated reading fits is = λ ids. subst (λ (u : List StopUpdate). Says (run_of ids dated) u reading) (sym is) (shortest-says (run_of ids dated) reading dated.rising fits)
+answer-says (Err fault) dated reading fits is = tt
+
+pub answer-least : {E : Type 0} (answer : Result (List StopUpdate) E) (dated : DatedTrip) (reading : JourneyReading) → fits_trip dated.start dated.stops.now reading ≡ true
+    → IfOk answer (λ updates. updates ≡ shortest dated.start dated.stops.now reading)
+    → IfOk answer (λ updates. (ids : List (List ℕ)) → IsLeastOf (run_of ids dated) updates reading)
+answer-least (Ok updates) dated reading fits is = λ ids. subst (λ (u : List StopUpdate). IsLeastOf (run_of ids dated) u reading) (sym is) (shortest-least (run_of ids dated) reading dated.rising fits)
+answer-least (Err fault) dated reading fits is = tt

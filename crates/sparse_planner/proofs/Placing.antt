@@ -1,0 +1,182 @@
+-- The places of updates: those of the shortest list are its stops', and places rise.
+use Rattle.std.proofs.Common.{◌||◌, drop, ◌≡◌, ◌∙◌, ◌+◌, ◌<◌, ◌≤◌, ◌++◌, ◌-ℤ◌, ℕ, ℤ, Bool, true, false, not, cond, List, [], ◌∷◌, length, length-append, zip, position, Option, Some, None, option_map, ok_or, Result, Ok, Err, if◌then◌else◌, nat_le, nat_lt, refl, ap, sym, subst, arith, ne_eqb, lt-ltb, le-leb, leb-true, ltb-true, le_refl, eq-eqb}
+use Rattle.std.specs.List.{list_all, list_any, prefix_len}
+use Rattle.std.proofs.lemmas.Bool.{and_parts}
+use Rattle.gw_base.specs.declared.messages.StopUpdate.{StopUpdate}
+use Rattle.stop_schedule.specs.Planned.{planned}
+use Rattle.stop_schedule.specs.Stops.{are_rising}
+use Rattle.stop_schedule.specs.declared.stop_times.StopRow.{StopRow}
+use Rattle.journey_model.specs.Chains.{◌>>=◌}
+use Rattle.journey_model.specs.Matching.{agrees, first_place, has_sequence, in_order, is_of_stop, place_behind, place_by_sequence, place_by_stop, stands_at, update_place}
+use Rattle.journey_model.specs.Readings.{are_near, is_near}
+use Rattle.journey_model.specs.Runs.{Run, planned_at}
+use Rattle.journey_model.specs.Times.{delay_fault, is_delay}
+use Rattle.journey_model.specs.Updates.{place_of, is_no_data, is_scheduled, is_skipped, named_stop, place_timed, place_unless, places_from, times_fault}
+use Rattle.journey_model.specs.declared.fault.Fault.{Fault}
+use Rattle.journey_model.specs.declared.fault.Fault.TheVariants.{OtherRelation}
+use Rattle.journey_model.specs.declared.matching.MatchFault.{MatchFault}
+use Rattle.journey_model.specs.declared.matching.MatchFault.TheVariants.{UnknownStop, StopMismatch, OutOfOrder}
+use Rattle.journey_model.specs.declared.matching.NamedStop.{NamedStop}
+use Rattle.journey_model.specs.declared.matching.NamedStop.TheVariants.{Missing, Unknown, Known}
+use Rattle.journey_model.specs.declared.readings.StopReading.{StopReading}
+use Rattle.journey_model.specs.declared.readings.StopReading.TheVariants.{Absent, Skipped, Timed}
+use Rattle.sparse_planner.specs.Shortest.{update}
+use Rattle.sparse_planner.proofs.States.{delay_behind, needs, plan_from}
+use Rattle.sparse_planner.proofs.Walks.{Rise, planned-here, stop-here, stops-more, length-more}
+
+-- the places of the updates of stops from a place on, behind others that supply this delay
+abbrev pub plan_places : ℤ → ℕ → Option ℤ → List (StopRow × StopReading) → List ℕ
+plan_places start place delay [] = []
+plan_places start place delay (stop ∷ stops) =
+    (if needs start delay stop.0 stop.1 then place ∷ [] else []) ++ plan_places start (place + 1) (delay_behind start delay stop.0 stop.1) stops
+
+-- ---- the stop of a sequence is found at its own place
+
+all-at : (test : StopRow → Bool) (front rows : List StopRow) (row : StopRow) → list_all test (front ++ row ∷ rows) ≡ true → test row ≡ true
+all-at test [] rows row h = (and_parts (test row) (list_all test rows) h).0
+all-at test (first ∷ front) rows row h = all-at test front rows row (and_parts (test first) (list_all test (front ++ row ∷ rows)) h).1
+
+front-length : (front rows : List StopRow) (row : StopRow) → are_rising (front ++ row ∷ rows) ≡ true
+    → prefix_len (λ other. not (has_sequence row.sequence other)) (front ++ row ∷ rows) ≡ length front
+front-length [] rows row h = rw (eq-eqb row.sequence row.sequence refl) refl
+front-length (first ∷ front) rows row h =
+    let parts = and_parts (list_all (λ (other : StopRow). nat_lt first.sequence other.sequence) (front ++ row ∷ rows)) (are_rising (front ++ row ∷ rows)) h in
+    let less = ltb-true first.sequence row.sequence (all-at (λ other. nat_lt first.sequence other.sequence) front rows row parts.0) in
+    let other : first.sequence ≡ row.sequence → ⊥ = λ e. omega arith in
+    rw (ne_eqb first.sequence row.sequence other, front-length front rows row parts.1) (omega arith)
+
+position-here : (front rows : List StopRow) (row : StopRow) → are_rising (front ++ row ∷ rows) ≡ true
+    → position (has_sequence row.sequence) (front ++ row ∷ rows) ≡ Some (length front)
+position-here front rows row h =
+    let within : length front < length (front ++ row ∷ rows) = omega (arith, length-append front (row ∷ rows)) in
+    ap (λ (n : ℕ). cond (nat_lt n (length (front ++ row ∷ rows))) (Some n) None) (front-length front rows row h)
+    ∙ rw (lt-ltb (length front) (length (front ++ row ∷ rows)) within) refl
+
+stands-here : (front rows : List StopRow) (row : StopRow) → stands_at (agrees Missing) (length front) (front ++ row ∷ rows) ≡ true
+stands-here front rows row = rw (stop-here front rows row) refl
+
+found-here : (after : Option ℕ) (front rows : List StopRow) (row : StopRow) → are_rising (front ++ row ∷ rows) ≡ true → place_behind after ≤ length front
+    → update_place (front ++ row ∷ rows) after (Some row.sequence) Missing ≡ Ok (length front)
+found-here after front rows row rising le =
+    ap (place_by_sequence (front ++ row ∷ rows) (place_behind after) Missing) (position-here front rows row rising)
+    ∙ rw (stands-here front rows row, le-leb (place_behind after) (length front) le) refl
+
+-- ---- the updates of the shortest list have no fault
+
+no-fault : (number : ℕ) (times : ℤ × ℤ) (arrival departure : ℤ) → is_near times (Timed arrival departure) ≡ true
+    → delay_fault number times (Some arrival) (Some departure) ≡ None
+no-fault number times arrival departure near =
+    let parts = and_parts (is_delay (arrival -ℤ times.0)) (is_delay (departure -ℤ times.1)) near in
+    rw (parts.0, parts.1) refl
+
+place-update : (run : Run) (number : ℕ) (after : Option ℕ) (front rows : List StopRow) (row : StopRow) (reading : StopReading)
+    → run.stops ≡ front ++ row ∷ rows → are_rising (front ++ row ∷ rows) ≡ true → place_behind after ≤ length front
+    → is_near (planned run.start row) reading ≡ true
+    → place_of run number after (update run.start row reading) ≡ Ok (length front)
+place-update run number after front rows row Absent stops rising le near =
+    ap (place_timed run number (update run.start row Absent)) (ap (λ at. update_place at after (Some row.sequence) Missing) stops ∙ found-here after front rows row rising le)
+place-update run number after front rows row Skipped stops rising le near =
+    ap (place_timed run number (update run.start row Skipped)) (ap (λ at. update_place at after (Some row.sequence) Missing) stops ∙ found-here after front rows row rising le)
+place-update run number after front rows row (Timed arrival departure) stops rising le near =
+    let near_there = subst (λ (times : ℤ × ℤ). is_near times (Timed arrival departure) ≡ true) (sym (planned-here run front rows row stops)) near in
+    ap (place_timed run number (update run.start row (Timed arrival departure)))
+    (ap (λ at. update_place at after (Some row.sequence) Missing) stops ∙ found-here after front rows row rising le)
+    ∙ ap (λ fault. place_unless fault (length front)) (no-fault number (planned_at run (length front)) arrival departure near_there)
+
+places-cons : (run : Run) (number : ℕ) (after : Option ℕ) (one : StopUpdate) (others : List StopUpdate) (place : ℕ) (at : List ℕ)
+    → place_of run number after one ≡ Ok place → places_from run (number + 1) (Some place) others ≡ Ok at
+    → places_from run number after (one ∷ others) ≡ Ok (place ∷ at)
+places-cons run number after one others place at e f = rw (e, f) refl
+
+pub places-plan : (run : Run) (front rows : List StopRow) (readings : List StopReading) (place number : ℕ) (after : Option ℕ) (delay : Option ℤ)
+    → run.stops ≡ front ++ rows → are_rising run.stops ≡ true → length front ≡ place → place_behind after ≤ place
+    → are_near run.start rows readings ≡ true
+    → places_from run number after (plan_from run.start delay (zip rows readings)) ≡ Ok (plan_places run.start place delay (zip rows readings))
+places-plan run front [] readings place number after delay stops rising long le near = refl
+places-plan run front (row ∷ rows) [] place number after delay stops rising long le near = refl
+places-plan run front (row ∷ rows) (reading ∷ readings) place number after delay stops rising long le near =
+    let parts = and_parts (is_near (planned run.start row) reading) (are_near run.start rows readings) near in
+    let rises = subst (λ (at : List StopRow). are_rising at ≡ true) stops rising in
+    let more = stops-more run.stops front rows row stops in
+    let longer = length-more front row place long in
+    let next = delay_behind run.start delay row reading in
+    elim (needs run.start delay row reading) as (λ needed. places_from run number after ((if needed then update run.start row reading ∷ [] else []) ++ plan_from run.start next (zip rows readings))
+    ≡ Ok ((if needed then place ∷ [] else []) ++ plan_places run.start (place + 1) next (zip rows readings))) [
+      | true ↦ places-cons run number after (update run.start row reading) (plan_from run.start next (zip rows readings)) place (plan_places run.start (place + 1) next (zip rows readings))
+          (place-update run number after front rows row reading stops rises (omega arith) parts.0 ∙ ap Ok long)
+          (places-plan run (front ++ row ∷ []) rows readings (place + 1) (number + 1) (Some place) next more rising longer (le_refl (place + 1)) parts.1)
+      | false ↦ places-plan run (front ++ row ∷ []) rows readings (place + 1) number after next more rising longer (omega arith) parts.1
+    ]
+
+-- ---- places rise
+
+-- what a test lets through
+if-ok : (test : Bool) (fault : MatchFault) (answer : Result ℕ MatchFault) (place : ℕ) → (if test then answer else Err fault) ≡ Ok place → (test ≡ true) × (answer ≡ Ok place)
+if-ok true fault answer place h = (refl, h)
+if-ok false fault answer place h = absurd (cc)
+
+in_order-behind : (from at place : ℕ) → in_order from at ≡ Ok place → from ≤ place
+in_order-behind from at place h =
+    let parts = if-ok (nat_le from at) OutOfOrder (Ok at) place h in
+    let same : at ≡ place = cc (parts.1) in
+    let le : from ≤ at = leb-true from at parts.0 in
+    omega arith
+
+sequence-behind : (stops : List StopRow) (from : ℕ) (named : NamedStop) (found : Option ℕ) (place : ℕ) → place_by_sequence stops from named found ≡ Ok place → from ≤ place
+sequence-behind stops from named None place h = absurd (cc)
+sequence-behind stops from named (Some at) place h = in_order-behind from at place (if-ok (stands_at (agrees named) at stops) StopMismatch (in_order from at) place h).1
+
+first-behind : (from : ℕ) (found : Option ℕ) (place : ℕ) → ok_or (option_map (λ at. at + from) found) OutOfOrder ≡ Ok place → from ≤ place
+first-behind from None place h = absurd (cc)
+first-behind from (Some at) place h = let same : at + from ≡ place = cc in omega arith
+
+stop-behind : (stops : List StopRow) (from : ℕ) (named : NamedStop) (place : ℕ) → place_by_stop stops from named ≡ Ok place → from ≤ place
+stop-behind stops from Missing place h = absurd (cc)
+stop-behind stops from Unknown place h = absurd (cc)
+stop-behind stops from (Known stop) place h =
+    first-behind from (position (is_of_stop stop.0) (drop from stops)) place
+    (if-ok (list_any (is_of_stop stop.0) stops) UnknownStop (ok_or (first_place stop.0 from stops) OutOfOrder) place h).1
+
+update-behind : (stops : List StopRow) (after sequence : Option ℕ) (named : NamedStop) (place : ℕ) → update_place stops after sequence named ≡ Ok place → place_behind after ≤ place
+update-behind stops after None named place h = stop-behind stops (place_behind after) named place h
+update-behind stops after (Some sequence) named place h = sequence-behind stops (place_behind after) named (position (has_sequence sequence) stops) place h
+
+-- an update without a fault has the place that was found
+unless-ok : (fault : Option Fault) (at place : ℕ) → place_unless fault at ≡ Ok place → at ≡ place
+unless-ok None at place h = cc
+unless-ok (Some fault) at place h = absurd (cc)
+
+timed-ok : (run : Run) (number : ℕ) (one : StopUpdate) (found : Result ℕ MatchFault) (place : ℕ) → place_timed run number one found ≡ Ok place → found ≡ Ok place
+timed-ok run number one (Err fault) place h = absurd (cc)
+timed-ok run number one (Ok at) place h = ap Ok (unless-ok (times_fault number (planned_at run at) one) at place h)
+
+related-ok : (known : Bool) (fault : Fault) (answer : Result ℕ Fault) (place : ℕ) → (if known then answer else Err fault) ≡ Ok place → answer ≡ Ok place
+related-ok true fault answer place h = h
+related-ok false fault answer place h = absurd (cc)
+
+place-behind : (run : Run) (number : ℕ) (after : Option ℕ) (one : StopUpdate) (place : ℕ) → place_of run number after one ≡ Ok place → place_behind after ≤ place
+place-behind run number after one place h =
+    let found = update_place run.stops after one.sequence (named_stop run.ids one) in
+    update-behind run.stops after one.sequence (named_stop run.ids one) place
+    (timed-ok run number one found place (related-ok (is_scheduled one || (is_skipped one || is_no_data one)) (OtherRelation one.relation) (place_timed run number one found) place h))
+
+-- the first place and the others
+others-ok : (first : ℕ) (answer : Result (List ℕ) Fault) (place : ℕ) (at : List ℕ)
+    → (answer >>= (λ others. Ok (first ∷ others))) ≡ Ok (place ∷ at) → (first ≡ place) × (answer ≡ Ok at)
+others-ok first (Ok others) place at h = (cc, cc)
+others-ok first (Err fault) place at h = absurd (cc)
+
+cons-ok : (answer : Result ℕ Fault) (rest : ℕ → Result (List ℕ) Fault) (place : ℕ) (at : List ℕ)
+    → (answer >>= (λ first. rest first >>= (λ others. Ok (first ∷ others)))) ≡ Ok (place ∷ at) → (answer ≡ Ok place) × (rest place ≡ Ok at)
+cons-ok (Ok first) rest place at h =
+    let parts = others-ok first (rest first) place at h in
+    (ap Ok parts.0, ap rest (sym parts.0) ∙ parts.1)
+cons-ok (Err fault) rest place at h = absurd (cc)
+
+-- the places of updates without a fault rise
+pub places-rise : (run : Run) (number : ℕ) (after : Option ℕ) (updates : List StopUpdate) (at : List ℕ) → places_from run number after updates ≡ Ok at → Rise (place_behind after) (zip at updates)
+places-rise run number after updates [] h = tt
+places-rise run number after [] (place ∷ at) h = tt
+places-rise run number after (one ∷ others) (place ∷ at) h =
+    let parts = cons-ok (place_of run number after one) (λ first. places_from run (number + 1) (Some first) others) place at h in
+    (place-behind run number after one place parts.0, places-rise run (number + 1) (Some place) others at parts.1)
