@@ -1,0 +1,4 @@
+pub mod PlaceLemmas
+pub mod SpreadLemmas
+pub mod TimeLemmas
+pub mod UpdateLemmas
