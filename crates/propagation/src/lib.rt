@@ -2,11 +2,15 @@
 //! the updates of a feed are read over a timetable. The definitions stand in `journey_model`.
 #![tactic(auto)]
 
+mod dating;
+mod entities;
 mod events;
+mod feeds;
 mod placing;
 mod propagating;
 mod update_fault;
 mod updates;
 
+pub use feeds::{FeedReading, readings_of};
 pub use update_fault::UpdateFault;
 pub use updates::propagate;
