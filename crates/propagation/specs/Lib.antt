@@ -1,0 +1,5 @@
+pub mod Answers
+pub mod Feeds
+pub mod Saying
+pub mod SortedOut
+pub mod Spreading

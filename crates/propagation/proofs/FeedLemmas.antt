@@ -1,0 +1,177 @@
+-- The entities of a feed are sorted out one by one, and of the readings of one journey the last is kept.
+use Rattle.std.proofs.Common.{◌≡◌, ◌∙◌, ◌+◌, ◌<◌, ◌≤◌, ◌==◌, ◌&&◌, ◌||◌, ◌++◌, ◌∷◌, [], ℕ, zero, suc, ℤ, not, Bool, true, false, List, map, take, drop, reverse, length, get_or, Option, Some, None, option_map, Result, Ok, Err, if◌then◌else◌, refl, sym, ap, arith}
+use Rattle.std.proofs.lemmas.Bool.{eqb-true, false≢true}
+use Rattle.std.proofs.lemmas.List.{append-nil, append_assoc, map-append, take_more, reverse-append}
+use Rattle.std.proofs.lemmas.List.Sorted.{list_any-IsPermutation}
+use Rattle.std.specs.Bool.{MatchBool}
+use Rattle.std.specs.Cmp.{signed_Decides}
+use Rattle.std.specs.List.{list_any, filter_map}
+use Rattle.std.specs.List.Sorted.{IsPermutation}
+use Rattle.std.specs.Ordering.{int_eq}
+use Rattle.gw_base.specs.declared.messages.Entity.{Entity}
+use Rattle.gw_base.specs.declared.messages.Feed.{Feed}
+use Rattle.journey_model.specs.FeedReadings.{aside_from, entity_said, given, given_all, last_of_each, passed_count, readings, same_journey}
+use Rattle.journey_model.specs.Schedules.{Schedule}
+use Rattle.journey_model.specs.declared.fault.Fault.{Fault}
+use Rattle.journey_model.specs.declared.readings.DatedReading.{DatedReading}
+
+-- what an entity says
+abbrev pub Said : Type 0
+Said = Option (Result DatedReading Fault)
+
+given-push : (said : List Said) (last : Said) → given_all (said ++ last ∷ []) ≡ given_all said ++ given_all (last ∷ [])
+given-push [] last = refl
+given-push (None ∷ said) last = given-push said last
+given-push (Some (Ok one) ∷ said) last = ap (λ rest. one ∷ rest) (given-push said last)
+given-push (Some (Err fault) ∷ said) last = given-push said last
+
+passed-push : (said : List Said) (last : Said) → passed_count (said ++ last ∷ []) ≡ passed_count said + passed_count (last ∷ [])
+passed-push [] last = omega arith
+passed-push (None ∷ said) last = omega (arith, passed-push said last)
+passed-push (Some one ∷ said) last = passed-push said last
+
+aside-push : (number : ℕ) (said : List Said) (last : Said) → aside_from number (said ++ last ∷ []) ≡ aside_from number said ++ aside_from (number + length said) (last ∷ [])
+aside-push number [] last = ap (λ from. aside_from from (last ∷ [])) (omega arith)
+aside-push number (None ∷ said) last =
+    aside-push (number + 1) said last ∙ ap (λ from. aside_from (number + 1) said ++ aside_from from (last ∷ [])) (omega arith)
+aside-push number (Some (Ok one) ∷ said) last =
+    aside-push (number + 1) said last ∙ ap (λ from. aside_from (number + 1) said ++ aside_from from (last ∷ [])) (omega arith)
+aside-push number (Some (Err fault) ∷ said) last =
+    ap (λ rest. (number, fault) ∷ rest) (aside-push (number + 1) said last ∙ ap (λ from. aside_from (number + 1) said ++ aside_from from (last ∷ [])) (omega arith))
+
+pub passed-most : (said : List Said) → passed_count said ≤ length said
+passed-most [] = omega arith
+passed-most (None ∷ said) = omega (arith, passed-most said)
+passed-most (Some one ∷ said) = omega (arith, passed-most said)
+
+-- what the entities up to a number say
+abbrev pub said_to : Schedule → Feed → ℕ → List Said
+said_to schedule feed number = map (entity_said schedule feed) (take number feed.entities)
+
+pub record SortedTo (schedule : Schedule) (feed : Feed) (number : ℕ) (given : List DatedReading) (passed : ℕ) (aside : List (ℕ × Fault)) : Type 0 where
+  pub given_is : given ≡ given_all (said_to schedule feed number)
+  pub passed_is : passed ≡ passed_count (said_to schedule feed number)
+  pub aside_is : aside ≡ aside_from 0 (said_to schedule feed number)
+  pub many : length (said_to schedule feed number) ≡ number
+
+pub sorted_none : (schedule : Schedule) (feed : Feed) → SortedTo schedule feed 0 [] 0 []
+sorted_none schedule feed = record { given_is = refl; passed_is = refl; aside_is = refl; many = refl }
+
+-- an entity more
+said-more : (schedule : Schedule) (feed : Feed) (number : ℕ) (entity : Entity) (said : Said) → number < length feed.entities → entity ≡ get_or feed.entities number entity
+    → said ≡ entity_said schedule feed entity → said_to schedule feed (number + 1) ≡ said_to schedule feed number ++ said ∷ []
+said-more schedule feed number entity said within is says =
+    let taken : take (number + 1) feed.entities ≡ take number feed.entities ++ entity ∷ [] =
+    take_more feed.entities number entity within ∙ ap (λ (last : Entity). take number feed.entities ++ last ∷ []) (sym is) in
+    ap (map (entity_said schedule feed)) taken
+    ∙ (map-append (entity_said schedule feed) (take number feed.entities) (entity ∷ [])
+    ∙ ap (λ (last : Said). said_to schedule feed number ++ last ∷ []) (sym says))
+
+pub sorted_more : (schedule : Schedule) (feed : Feed) (number : ℕ) (given given' : List DatedReading) (passed passed' : ℕ) (aside aside' : List (ℕ × Fault)) (entity : Entity) (said : Said)
+    → SortedTo schedule feed number given passed aside → number < length feed.entities → entity ≡ get_or feed.entities number entity → said ≡ entity_said schedule feed entity
+    → given' ≡ given ++ given_all (said ∷ []) → passed' ≡ passed + passed_count (said ∷ []) → aside' ≡ aside ++ aside_from number (said ∷ [])
+    → SortedTo schedule feed (number + 1) given' passed' aside'
+sorted_more schedule feed number given given' passed passed' aside aside' entity said h within is says more_given more_passed more_aside =
+    let grown = said-more schedule feed number entity said within is says in
+    let before = said_to schedule feed number in
+    record {
+      given_is = more_given ∙ (rw (h.given_is, grown) (sym (given-push before said)));
+      passed_is = more_passed ∙ (rw (h.passed_is, grown) (sym (passed-push before said)));
+      aside_is = more_aside ∙ (rw (h.aside_is, grown) (sym (aside-push 0 before said ∙ ap (λ from. aside_from 0 before ++ aside_from from (said ∷ [])) (omega (arith, h.many)))));
+      many = rw grown (length-push before said ∙ ap (λ n. n + 1) h.many);
+    }
+  where
+    length-push : (all : List Said) (one : Said) → length (all ++ one ∷ []) ≡ length all + 1
+    length-push [] one = refl
+    length-push (first ∷ all) one = omega (arith, length-push all one)
+
+-- a trip on a day, by their numbers
+abbrev pub same_key : ℤ × ℕ → ℤ × ℕ → Bool
+same_key a b = int_eq a.0 b.0 && (a.1 == b.1)
+
+abbrev pub key_of : DatedReading → ℤ × ℕ
+key_of one = (one.day, one.trip.0)
+
+-- of the readings from the end on, those that were seen, and the last of each journey
+pub record LastTo (given left : List DatedReading) (keys : List (ℤ × ℕ)) (last : List DatedReading) : Type 0 where
+  pub behind : List DatedReading
+  pub split : given ≡ left ++ behind
+  pub saw : (one : DatedReading) → list_any (same_key (key_of one)) keys ≡ list_any (same_journey one) behind
+  pub last_is : last ≡ reverse (last_of_each behind)
+
+pub last_none : (given left : List DatedReading) (keys : List (ℤ × ℕ)) (last : List DatedReading) → left ≡ given → keys ≡ [] → last ≡ [] → LastTo given left keys last
+last_none given left keys last same no_keys none = record {
+  behind = [];
+  split = sym (append-nil left ∙ same);
+  saw = λ one. rw no_keys refl;
+  last_is = none;
+}
+
+and-left : (a b : Bool) → (a && b) ≡ true → a ≡ true
+and-left true b e = refl
+and-left false b e = e
+
+and-right : (a b : Bool) → (a && b) ≡ true → b ≡ true
+and-right true b e = e
+and-right false b e = absurd (false≢true e)
+
+same_journey-keys : (a b : DatedReading) → same_journey a b ≡ true → key_of a ≡ key_of b
+same_journey-keys a b e =
+    let day : a.day ≡ b.day = (signed_Decides a.day b.day).0 (and-left (int_eq a.day b.day) (a.trip.0 == b.trip.0) e) in
+    let trip : a.trip.0 ≡ b.trip.0 = eqb-true a.trip.0 b.trip.0 (and-right (int_eq a.day b.day) (a.trip.0 == b.trip.0) e) in
+    rw (day, trip) refl
+
+not_true : (b : Bool) → true ≡ not b → b ≡ false
+not_true true e = e
+not_true false e = refl
+
+not_false : (b : Bool) → false ≡ not b → b ≡ true
+not_false true e = refl
+not_false false e = e
+
+-- a reading whose journey is new is the last of it, and one whose journey was seen isn't
+pub last_new : (given left left' : List DatedReading) (keys keys' : List (ℤ × ℕ)) (last last' : List DatedReading) (one : DatedReading) (key : ℤ × ℕ)
+    → LastTo given left keys last → left ≡ left' ++ one ∷ [] → key ≡ key_of one → true ≡ not (list_any (same_key key) keys)
+    → IsPermutation (key ∷ keys) keys' → last' ≡ last ++ one ∷ [] → LastTo given left' keys' last'
+last_new given left left' keys keys' last last' one key h popped same new puts pushed =
+    let none : list_any (same_journey one) h.behind ≡ false = sym (h.saw one) ∙ (rw (← same) (not_true _ new)) in
+    record {
+      behind = one ∷ h.behind;
+      split = h.split ∙ (rw popped (append_assoc left' (one ∷ []) h.behind));
+      saw = λ other. sym (list_any-IsPermutation (same_key (key_of other)) (key ∷ keys) keys' puts)
+          ∙ (rw same (ap (λ rest. same_journey other one || rest) (h.saw other)));
+      last_is = pushed ∙ (rw (h.last_is, none) (sym (reverse-append (one ∷ []) (last_of_each h.behind))));
+    }
+
+pub last_seen : (given left left' : List DatedReading) (keys keys' : List (ℤ × ℕ)) (last : List DatedReading) (one : DatedReading) (key : ℤ × ℕ)
+    → LastTo given left keys last → left ≡ left' ++ one ∷ [] → key ≡ key_of one → false ≡ not (list_any (same_key key) keys) → keys' ≡ keys → LastTo given left' keys' last
+last_seen given left left' keys keys' last one key h popped same old kept =
+    let seen : list_any (same_journey one) h.behind ≡ true = sym (h.saw one) ∙ (rw (← same) (not_false _ old)) in
+    record {
+      behind = one ∷ h.behind;
+      split = h.split ∙ (rw popped (append_assoc left' (one ∷ []) h.behind));
+      saw = λ other. rw kept (h.saw other ∙ repeated other (same_journey other one) refl seen);
+      last_is = h.last_is ∙ (rw seen refl);
+    }
+  where
+    repeated : (other : DatedReading) (b : Bool) → same_journey other one ≡ b → list_any (same_journey one) h.behind ≡ true
+        → list_any (same_journey other) h.behind ≡ (same_journey other one || list_any (same_journey other) h.behind)
+    repeated other true e seen =
+        let same : list_any (same_journey other) h.behind ≡ list_any (same_journey one) h.behind = sym (h.saw other) ∙ (rw (same_journey-keys other one e) (h.saw one)) in
+        rw e (same ∙ seen)
+    repeated other false e seen = rw e refl
+
+pub last_done : (given left : List DatedReading) (keys : List (ℤ × ℕ)) (last : List DatedReading) → LastTo given left keys last → length left ≡ 0
+    → last ≡ reverse (last_of_each given)
+last_done given [] keys last h none = rw h.split h.last_is
+last_done given (one ∷ left) keys last h none = absurd (omega arith)
+
+-- all entities were sorted out
+pub sorted_all : (schedule : Schedule) (feed : Feed) (number : ℕ) → length feed.entities ≤ number → said_to schedule feed number ≡ readings schedule feed
+sorted_all schedule feed number all = ap (map (entity_said schedule feed)) (take-all number feed.entities all)
+  where
+    take-all : (n : ℕ) (entities : List Entity) → length entities ≤ n → take n entities ≡ entities
+    take-all zero [] h = refl
+    take-all (suc n) [] h = refl
+    take-all zero (entity ∷ entities) h = absurd (omega arith)
+    take-all (suc n) (entity ∷ entities) h = ap (λ rest. entity ∷ rest) (take-all n entities (omega arith))

@@ -1,0 +1,14 @@
+-- the readings so far, and what is carried to the next stop
+use Rattle.std.proofs.Common.{◌≡◌, ℕ, true, List, map}
+use Rattle.std.specs.List.{range_with_len}
+use Rattle.gw_base.specs.declared.messages.StopUpdate.{StopUpdate}
+use Rattle.journey_model.specs.Dated.{run_of}
+use Rattle.journey_model.specs.Propagation.{prop}
+use Rattle.propagation.specs.Saying.{placed_at}
+use Rattle.propagation.specs.Spreading.{are_rising_from}
+use Rattle.propagation.proofs.SpreadLemmas.{SpreadTo}
+use Rattle.propagation.proofs.propagating.readings.Given as goal
+
+abbrev pub invariant-loop-place : goal.invariant-loop-place
+invariant-loop-place l = (ids : List (List ℕ)) (updates : List (ℕ × StopUpdate)) → are_rising_from 0 updates ≡ true
+    → l.fn.placed ≡ map (placed_at (run_of ids l.dated)) updates → SpreadTo (run_of ids l.dated) updates l.place l.delay l.rest l.all

@@ -1,0 +1,68 @@
+-- What an update says at its place (GTFS Realtime reference, StopTimeUpdate).
+use Rattle.std.specs.Prelude.{◌||◌, ℕ, ℤ, pos, ◌-ℤ◌, ◌≤ℤ◌, Bool, List, map, Option, Some, None, Result, Ok, Err, if◌then◌else◌}
+use Rattle.std.specs.List.{zip}
+use Rattle.gw_base.specs.declared.messages.StopUpdate.{StopUpdate}
+use Rattle.journey_model.specs.Runs.{Run, planned_at}
+use Rattle.journey_model.specs.Times.{delay_fault}
+use Rattle.journey_model.specs.Updates.{arrival_time, departure_time, is_no_data, is_scheduled, is_skipped, times}
+use Rattle.journey_model.specs.declared.fault.Fault.{Fault}
+use Rattle.journey_model.specs.declared.fault.Fault.TheVariants.{NoTime}
+use Rattle.propagation.specs.declared.placing.Placed.{Placed}
+use Rattle.propagation.specs.declared.placing.Says.{Says}
+use Rattle.propagation.specs.declared.placing.Says.TheVariants.{Skipped, NoData, Timed}
+
+-- a planned time: a moment, and up to 4,294,967,295 seconds
+abbrev pub IsPlanned : ℤ → Type 0
+IsPlanned secs = (pos 0 ≤ℤ secs) × (secs ≤ℤ pos 257665732094)
+
+abbrev pub ArePlanned : ℤ × ℤ → Type 0
+ArePlanned planned = IsPlanned planned.0 × IsPlanned planned.1
+
+-- the relation of the update is read
+abbrev pub is_read : StopUpdate → Bool
+is_read update = is_scheduled update || (is_skipped update || is_no_data update)
+
+-- what times say, with the delay of the departure
+abbrev pub timed_by : ℤ × ℤ → ℤ × ℤ → Says
+timed_by planned both = Timed both.0 both.1 (both.1 -ℤ planned.1)
+
+-- what both times say, unless there is a fault
+abbrev pub said_times : ℕ → ℤ × ℤ → Option Fault → Option (ℤ × ℤ) → Result Says Fault
+said_times number planned fault None = Err (NoTime number)
+said_times number planned None (Some both) = Ok (timed_by planned both)
+said_times number planned (Some fault) (Some both) = Err fault
+
+-- what the update of that number says by its events at a place with these planned times, or its fault there
+abbrev pub said_by_events : ℕ → ℤ × ℤ → StopUpdate → Result Says Fault
+said_by_events number planned update =
+    said_times number planned (delay_fault number planned (arrival_time planned update) (departure_time planned update)) (times planned update)
+
+-- what it says there, or its fault
+abbrev pub said_at : ℕ → ℤ × ℤ → StopUpdate → Result Says Fault
+said_at number planned update =
+    if is_skipped update then Ok Skipped else
+    (if is_no_data update then Ok NoData else said_by_events number planned update)
+
+-- what times say, if there are any
+abbrev pub says_times : ℤ × ℤ → Option (ℤ × ℤ) → Says
+says_times planned None = NoData
+says_times planned (Some both) = timed_by planned both
+
+-- what an update says at a place with these planned times
+abbrev pub says_at : ℤ × ℤ → StopUpdate → Says
+says_at planned update =
+    if is_skipped update then Skipped else (if is_no_data update then NoData else says_times planned (times planned update))
+
+-- an update at a place
+abbrev pub placed_at : Run → ℕ × StopUpdate → Placed
+placed_at run one = record { place = one.0; says = says_at (planned_at run one.0) one.1 }
+
+-- an update at its place, unless it has a fault
+abbrev pub placed_by : Run → StopUpdate → Result ℕ Fault → Result Placed Fault
+placed_by run update (Err fault) = Err fault
+placed_by run update (Ok place) = Ok (placed_at run (place, update))
+
+-- updates at their places, unless there is a fault
+abbrev pub placed_all : Run → List StopUpdate → Result (List ℕ) Fault → Result (List Placed) Fault
+placed_all run updates (Err fault) = Err fault
+placed_all run updates (Ok at) = Ok (map (placed_at run) (zip at updates))

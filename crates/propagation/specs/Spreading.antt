@@ -1,0 +1,38 @@
+-- What placed updates say of the stops of a trip, stop by stop.
+use Rattle.std.specs.Prelude.{◌&&◌, ◌==◌, ◌+◌, ℕ, ℤ, Bool, true, nat_le, List, [], ◌∷◌, Option, Some, None, if◌then◌else◌}
+use Rattle.gw_base.specs.declared.messages.StopUpdate.{StopUpdate}
+use Rattle.journey_model.specs.Propagation.{later_by}
+use Rattle.journey_model.specs.declared.readings.StopReading.{StopReading}
+use Rattle.journey_model.specs.declared.readings.StopReading.TheVariants as reading
+use Rattle.propagation.specs.declared.placing.Placed.{Placed}
+use Rattle.propagation.specs.declared.placing.Says.{Says}
+use Rattle.propagation.specs.declared.placing.Says.TheVariants.{Skipped, NoData, Timed}
+
+-- places rise, from a place on
+abbrev pub are_rising_from : ℕ → List (ℕ × StopUpdate) → Bool
+are_rising_from from [] = true
+are_rising_from from (one ∷ others) = nat_le from one.0 && are_rising_from (one.0 + 1) others
+
+-- what the first update says, if it stands at that place
+abbrev pub first_at : List Placed → ℕ → Option Says
+first_at [] place = None
+first_at (first ∷ others) place = if first.place == place then Some first.says else None
+
+-- the delay that is carried on from a stop of which this is said: SKIPPED leaves it, and NO_DATA ends it
+abbrev pub delay_behind : Option ℤ → Option Says → Option ℤ
+delay_behind delay None = delay
+delay_behind delay (Some Skipped) = delay
+delay_behind delay (Some NoData) = None
+delay_behind delay (Some (Timed arrival departure later)) = Some later
+
+-- both planned times, later by a delay that is carried on
+abbrev pub later : ℤ × ℤ → Option ℤ → StopReading
+later planned None = reading.Absent
+later planned (Some delay) = later_by planned delay
+
+-- how a stop with these planned times reads: by what is said of it, else by the delay that is carried on
+abbrev pub reading_at : ℤ × ℤ → Option ℤ → Option Says → StopReading
+reading_at planned delay None = later planned delay
+reading_at planned delay (Some Skipped) = reading.Skipped
+reading_at planned delay (Some NoData) = reading.Absent
+reading_at planned delay (Some (Timed arrival departure late)) = reading.Timed arrival departure

@@ -1,0 +1,91 @@
+//! The trip and the service day of an update, and when it was recorded. The functions meet `journey_model`'s
+//! `specs/FeedReadings.antt`.
+ghost use Rattle.std.specs.Prelude.{◌≡◌, ◌<◌, ◌<ℤ◌, negsuc, None, length, option_map, IfSome};
+ghost use Rattle.journey_model.specs.FeedReadings as spec;
+ghost use Rattle.journey_model.specs.Schedules.{schedule_of};
+
+use crate::placing::filled_text;
+use gw_base::{Feed, Moment, TripUpdate};
+use journey_model::Context;
+use service_day::{Day, DayForm, local_day, read_day};
+use stop_schedule::TripNo;
+
+// The last moment, in seconds since 1970.
+const LAST_MOMENT: u64 = 253_370_764_799;
+
+// A timestamp, where it is a moment.
+fn moment_in(timestamp: Option<u64>) -> Option<Moment>
+    ensures { result ≡ spec.moment_in timestamp }
+{
+    match timestamp {
+        Some(secs) if secs <= LAST_MOMENT => Moment::new(secs as i64),
+        _ => None,
+    }
+}
+
+/// When an update was recorded: at its own timestamp, else at the feed's.
+pub(crate) fn recorded_in(feed: &Feed, update: &TripUpdate) -> Option<Moment>
+    ensures { result ≡ spec.recorded_in feed.now update.now }
+{
+    match moment_in(update.timestamp) {
+        Some(recorded) => Some(recorded),
+        None => moment_in(feed.timestamp),
+    }
+}
+
+/// The trip that an update names (GTFS Realtime reference, TripDescriptor: trip_id).
+pub(crate) fn trip_named(context: &Context<'_>, update: &TripUpdate) -> Option<TripNo>
+    ensures named { option_map (λ trip. trip.0) result ≡ spec.trip_named (schedule_of context.now) update.now }
+    ensures within { IfSome result (λ trip. trip.0 < length context.now.table.now.trips) }
+{
+    match filled_text(&update.trip.trip_id) {
+        Some(id) => context.table.find_trip(id),
+        None => None,
+    }
+}
+
+// The day on which a trip runs: this one, else the one before.
+fn running_day(context: &Context<'_>, trip: TripNo, day: Day) -> Option<Day>
+    requires known { trip.0 < length context.now.table.now.trips }
+    requires late { negsuc 719161 <ℤ day }
+    ensures { result ≡ spec.running_day (schedule_of context.now) trip.0 day }
+{
+    if context.table.runs(trip, day) {
+        return Some(day);
+    }
+    match day.plus(-1) {
+        Some(before) if context.table.runs(trip, before) => Some(before),
+        _ => None,
+    }
+}
+
+// The day of an update without a start_date, in a feed that was made at that moment.
+fn day_made(context: &Context<'_>, trip: TripNo, made: Option<Moment>) -> Option<Day>
+    requires { trip.0 < length context.now.table.now.trips }
+    ensures { result ≡ spec.day_by (schedule_of context.now) trip.0 made None }
+{
+    let Some(made) = made else {
+        return None;
+    };
+    match local_day(context.zone, made.secs()) {
+        Ok(day) => running_day(context, trip, day),
+        Err(_) => unreachable!(),
+    }
+}
+
+/// The service day of an update (GTFS Realtime reference, TripDescriptor: start_date): the one that it names; else the
+/// local date of the feed's timestamp or the day before, on which the trip runs.
+pub(crate) fn day_named(
+    context: &Context<'_>,
+    feed: &Feed,
+    trip: TripNo,
+    update: &TripUpdate,
+) -> Option<Day>
+    requires { trip.0 < length context.now.table.now.trips }
+    ensures { result ≡ spec.day_named (schedule_of context.now) feed.now trip.0 update.now }
+{
+    match filled_text(&update.trip.start_date) {
+        Some(date) => read_day(date, DayForm::Compact),
+        None => day_made(context, trip, moment_in(feed.timestamp)),
+    }
+}

@@ -1,0 +1,175 @@
+//! The places of updates in their trip, and what each says there. The functions meet `specs/Saying.antt` and the
+//! places of `journey_model`'s `specs/Updates.antt`.
+ghost use Rattle.std.specs.Prelude.{◌≡◌, ◌<◌, ℕ, true, Ok, length, List as Values};
+ghost use Rattle.std.specs.Option.{option_copied};
+ghost use Rattle.journey_model.specs.Dated.{run_of};
+ghost use Rattle.journey_model.specs.Updates as spec;
+ghost use Rattle.propagation.specs.Answers.{Propagates};
+ghost use Rattle.propagation.specs.Saying.{ArePlanned, is_read, placed_all, placed_by, said_at, said_by_events};
+
+use crate::events::{event_time, planned_at, said_times};
+use crate::update_fault::UpdateFault;
+use gw_base::{List, StopUpdate, Text};
+use journey_model::{DatedTrip, Fault, MatchFault, NamedStop, match_update};
+use std::alloc::Global;
+use stop_schedule::Timetable;
+
+// The relations of an update that are read.
+const SCHEDULED: i32 = 0;
+
+const SKIPPED: i32 = 1;
+
+const NO_DATA: i32 = 2;
+
+/// What an update says at its place.
+#[derive(Clone, Copy, Debug, PartialEq, Eq)]
+pub enum Says {
+    /// The journey doesn't stop there.
+    Skipped,
+    /// From there on nothing is known.
+    NoData,
+    /// It stops there at these times.
+    Timed {
+        /// When it arrives, in seconds since 1970.
+        arrival: i64,
+        /// When it departs, in seconds since 1970.
+        departure: i64,
+        /// How much later than planned it departs, in seconds.
+        delay: i32,
+    },
+}
+
+/// An update at its place.
+#[derive(Clone, Copy, Debug)]
+pub struct Placed {
+    /// The place of its stop in the trip, from 0 on.
+    pub place: u32,
+    /// What it says there.
+    pub says: Says,
+}
+
+/// A text that isn't empty: an empty one counts as missing.
+pub(crate) fn filled_text(text: &Option<Text>) -> Option<&str>
+    ensures { option_copied result ≡ spec.filled_text text.now }
+{
+    match text {
+        Some(text) if !text.as_str().is_empty() => Some(text.as_str()),
+        _ => None,
+    }
+}
+
+// The stop that an update names.
+fn named_stop(table: &Timetable, update: &StopUpdate) -> NamedStop
+    ensures { result ≡ spec.named_stop table.now.stops update.now }
+{
+    let Some(id) = filled_text(&update.stop_id) else {
+        return NamedStop::Missing;
+    };
+    match table.find_stop(id) {
+        Some(stop) => NamedStop::Known(stop),
+        None => NamedStop::Unknown,
+    }
+}
+
+// The fault of the update of that number that is of no stop.
+fn match_fault(number: u64, fault: MatchFault) -> Fault
+    ensures { result ≡ spec.match_fault number fault }
+{
+    match fault {
+        MatchFault::UnknownStop => Fault::UnknownStop(number),
+        MatchFault::StopMismatch => Fault::StopMismatch(number),
+        MatchFault::OutOfOrder => Fault::OutOfOrder(number),
+    }
+}
+
+// Whether updates of that relation are read.
+fn is_read(update: &StopUpdate) -> bool
+    ensures { result ≡ is_read update.now }
+{
+    update.relation == SCHEDULED || update.relation == SKIPPED || update.relation == NO_DATA
+}
+
+// What the update of that number says by its events at its place with these planned times, or its fault there.
+fn said_by_events(number: u64, planned: (i64, i64), update: &StopUpdate) -> Result<Says, Fault>
+    requires { ArePlanned planned }
+    ensures { result ≡ said_by_events number planned update.now }
+{
+    let arrival = event_time(&planned.0, &update.arrival);
+    let departure = event_time(&planned.1, &update.departure);
+    said_times(number, planned, arrival, departure)
+}
+
+// What the update of that number says at its place with these planned times, or its fault there.
+fn said_at(number: u64, planned: (i64, i64), update: &StopUpdate) -> Result<Says, Fault>
+    requires { ArePlanned planned }
+    ensures { result ≡ said_at number planned update.now }
+{
+    if update.relation == SKIPPED {
+        return Ok(Says::Skipped);
+    }
+    if update.relation == NO_DATA {
+        return Ok(Says::NoData);
+    }
+    said_by_events(number, planned, update)
+}
+
+// The update of that number at a place, or its fault there.
+fn placed_at(
+    number: u64,
+    dated: &DatedTrip<'_>,
+    place: u32,
+    update: &StopUpdate,
+) -> Result<Placed, Fault>
+    requires within { place < length dated.now.stops.now }
+    requires read { is_read update.now ≡ true }
+    ensures { (ids : Values (Values ℕ)) → let run = run_of ids dated.now in
+        result ≡ placed_by run update.now (spec.place_timed run number update.now (Ok place)) }
+{
+    match said_at(number, planned_at(dated, place), update) {
+        Ok(says) => Ok(Placed { place, says }),
+        Err(fault) => Err(fault),
+    }
+}
+
+// The place of the update of that number behind the one before, and what it says there; or its fault.
+fn place(
+    table: &Timetable,
+    dated: &DatedTrip<'_>,
+    number: u64,
+    after: Option<u32>,
+    update: &StopUpdate,
+) -> Result<Placed, Fault>
+    ensures { let run = run_of table.now.stops dated.now in
+        result ≡ placed_by run update.now (spec.place_of run number after update.now) }
+{
+    if !is_read(update) {
+        return Err(Fault::OtherRelation(update.relation));
+    }
+    match match_update(dated, after, update.sequence, named_stop(table, update)) {
+        Ok(at) => placed_at(number, dated, at, update),
+        Err(fault) => Err(match_fault(number, fault)),
+    }
+}
+
+/// The updates of a trip at their places, or the first fault.
+pub(crate) fn placed_all(
+    alloc: Global,
+    table: &Timetable,
+    dated: &DatedTrip<'_>,
+    updates: &[StopUpdate],
+) -> Result<List<Placed>, UpdateFault>
+    ensures { let run = run_of table.now.stops dated.now in
+        Propagates (placed_all run updates.now (spec.places run updates.now)) result }
+{
+    let mut all = List::new(alloc);
+    let mut after = None;
+    for (number, update) in updates.iter().enumerate() {
+        let next = match place(table, dated, number as u64, after, update) {
+            Ok(next) => next,
+            Err(fault) => return Err(UpdateFault::Fault(fault)),
+        };
+        all.push(next)?;
+        after = Some(next.place);
+    }
+    Ok(all)
+}
