@@ -3,4 +3,5 @@ pub mod Deliveries
 pub mod Fields
 pub mod Forms
 pub mod Frame
+pub mod Seen
 pub mod Verdicts
