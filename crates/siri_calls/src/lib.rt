@@ -3,6 +3,7 @@
 
 mod calls;
 mod delivery;
+mod fields;
 mod forms;
 mod header;
 
