@@ -33,6 +33,10 @@ header_of head = record {
   extra = head.extra;
 }
 
+-- an instant
+abbrev pub instant_of : Instant → ℤ × ℕ
+instant_of instant = (instant.secs, instant.nanos)
+
 -- a form of what is shown
 abbrev pub form_map : {A B : Type 0} → (A → B) → Form A → Form B
 form_map shown Missing = Missing
@@ -44,7 +48,7 @@ abbrev pub text_form : Form (Bor (List ℕ)) → Form (List ℕ)
 text_form form = form_map (λ text. text.now) form
 
 abbrev pub moment_form : Form Instant → Form (ℤ × ℕ)
-moment_form form = form_map (λ instant. (instant.secs, instant.nanos)) form
+moment_form form = form_map instant_of form
 
 abbrev pub tree_form : Form (Bor Value) → Form Data
 tree_form form = form_map (λ tree. view tree.now) form
@@ -59,7 +63,7 @@ abbrev pub optional_text : Result (Option (Bor (List ℕ))) Fault → Result (Op
 optional_text answer = ok_map (option_map (λ text. text.now)) answer
 
 abbrev pub optional_moment : Result (Option Instant) Fault → Result (Option (ℤ × ℕ)) Fault
-optional_moment answer = ok_map (option_map (λ instant. (instant.secs, instant.nanos))) answer
+optional_moment answer = ok_map (option_map instant_of) answer
 
 abbrev pub optional_tree : Result (Option (Bor Value)) Fault → Result (Option Data) Fault
 optional_tree answer = ok_map (option_map (λ tree. view tree.now)) answer

@@ -61,3 +61,57 @@ pub(crate) fn optional_text(tree: &Value, member: Member) -> Result<Option<&str>
         None => Ok(None),
     }
 }
+
+/// A moment that may be missing.
+pub(crate) fn optional_moment(
+    tree: &Value,
+    member: Member,
+    zone: &Zone,
+) -> Result<Option<Instant>, Fault>
+    ensures { optional_moment result ≡ spec.optional_member (forms.moment zone.now) member (view tree.now) }
+{
+    match tree.get(member.name()) {
+        Some(found) => optional(member, moment(found, zone)),
+        None => Ok(None),
+    }
+}
+
+/// An object that may be missing.
+pub(crate) fn optional_object(tree: &Value, member: Member) -> Result<Option<&Value>, Fault>
+    ensures { optional_tree result ≡ spec.optional_member forms.object_form member (view tree.now) }
+{
+    match tree.get(member.name()) {
+        Some(found) => optional(member, object_form(found)),
+        None => Ok(None),
+    }
+}
+
+/// A Text that has to be there.
+pub(crate) fn required_text(tree: &Value, member: Member) -> Result<&str, Fault>
+    ensures { required_text result ≡ spec.required_member forms.text member (view tree.now) }
+{
+    match tree.get(member.name()) {
+        Some(found) => required(member, text(found)),
+        None => Err(Fault::BadField(member)),
+    }
+}
+
+/// A day that has to be there.
+pub(crate) fn required_day(tree: &Value, member: Member) -> Result<Day, Fault>
+    ensures { result ≡ spec.required_member forms.day member (view tree.now) }
+{
+    match tree.get(member.name()) {
+        Some(found) => required(member, day(found)),
+        None => Err(Fault::BadField(member)),
+    }
+}
+
+/// An object that has to be there.
+pub(crate) fn required_object(tree: &Value, member: Member) -> Result<&Value, Fault>
+    ensures { required_tree result ≡ spec.required_member forms.object_form member (view tree.now) }
+{
+    match tree.get(member.name()) {
+        Some(found) => required(member, object_form(found)),
+        None => Err(Fault::BadField(member)),
+    }
+}

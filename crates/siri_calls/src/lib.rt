@@ -1,6 +1,7 @@
 //! Deliveries of estimated timetables (SIRI 2.0, in JSON after SIRI Lite): what each journey of one says.
 #![tactic(auto)]
 
+mod call_reading;
 mod calls;
 mod delivery;
 mod fields;
