@@ -1,5 +1,5 @@
 -- What the types of the reading show.
-use Rattle.std.specs.Prelude.{ℕ, ℤ, List, Option, option_map, Result, Ok, Err}
+use Rattle.std.specs.Prelude.{ℕ, ℤ, List, map, Option, option_map, Result, Ok, Err}
 use Rattle.journey_model.specs.declared.fault.Fault.{Fault}
 use Rattle.siri_calls.specs.Calls.{Call}
 use Rattle.siri_calls.specs.Verdicts.{Header}
@@ -53,6 +53,13 @@ moment_form form = form_map instant_of form
 abbrev pub tree_form : Form (Bor Value) → Form Data
 tree_form form = form_map (λ tree. view tree.now) form
 
+-- the trees of a slice
+abbrev pub trees_of : Bor (List Value) → List Data
+trees_of trees = map view trees.now
+
+abbrev pub trees_form : Form (Bor (List Value)) → Form (List Data)
+trees_form form = form_map trees_of form
+
 -- an answer of what is shown
 abbrev pub ok_map : {A B E : Type 0} → (A → B) → Result A E → Result B E
 ok_map shown (Ok value) = Ok (shown value)
@@ -67,6 +74,9 @@ optional_moment answer = ok_map (option_map instant_of) answer
 
 abbrev pub optional_tree : Result (Option (Bor Value)) Fault → Result (Option Data) Fault
 optional_tree answer = ok_map (option_map (λ tree. view tree.now)) answer
+
+abbrev pub optional_trees : Result (Option (Bor (List Value))) Fault → Result (Option (List Data)) Fault
+optional_trees answer = ok_map (option_map trees_of) answer
 
 abbrev pub required_text : Result (Bor (List ℕ)) Fault → Result (List ℕ) Fault
 required_text answer = ok_map (λ text. text.now) answer

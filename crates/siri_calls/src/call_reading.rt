@@ -1,13 +1,13 @@
 //! How calls are read (SIRI 2.0, RecordedCall and EstimatedCall). The functions meet `specs/Calls.antt`.
-ghost use Rattle.std.specs.Prelude.{◌≡◌, IfOk, option_map};
+ghost use Rattle.std.specs.Prelude.{◌≡◌, Some, IfOk, option_map};
 ghost use Rattle.std.specs.Option.{ForSome};
 ghost use Rattle.serde_json.specs.View.{view};
 ghost use Rattle.service_day.specs.Utc.{IsMoment};
 ghost use Rattle.siri_calls.specs.Calls as spec;
-ghost use Rattle.siri_calls.specs.Seen.{ok_map, call_of, instant_of};
+ghost use Rattle.siri_calls.specs.Seen.{ok_map, call_of, instant_of, trees_of};
 
 use crate::calls::Call;
-use crate::fields::{optional_flag, optional_moment, optional_text, optional_whole, required_text};
+use crate::fields::{optional_flag, optional_moment, optional_object, optional_objects, optional_text, optional_whole, required_text};
 use gw_base::Member;
 use journey_model::Fault;
 use serde_json::Value;
@@ -143,4 +143,24 @@ fn call_unless_extra<'a>(tree: &'a Value, zone: &Zone) -> Result<Option<Call<'a>
     }
     let call = read_call(tree, zone)?;
     Ok(Some(call))
+}
+
+// The trees of the calls in an object.
+fn trees_in(parent: &Value, member: Member) -> Result<&[Value], Fault>
+    ensures { ok_map trees_of result ≡ spec.trees_in member (Some (view parent.now)) }
+{
+    match optional_objects(parent, member)? {
+        Some(trees) => Ok(trees),
+        None => Ok(&[]),
+    }
+}
+
+// The trees of the calls under one of the two members of a journey.
+fn trees_under(tree: &Value, group: Member, member: Member) -> Result<&[Value], Fault>
+    ensures { ok_map trees_of result ≡ spec.trees_under group member (view tree.now) }
+{
+    match optional_object(tree, group)? {
+        Some(parent) => trees_in(parent, member),
+        None => Ok(&[]),
+    }
 }

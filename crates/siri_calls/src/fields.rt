@@ -3,9 +3,9 @@ ghost use Rattle.std.specs.Prelude.{◌≡◌};
 ghost use Rattle.serde_json.specs.View.{view};
 ghost use Rattle.siri_calls.specs.Fields as spec;
 ghost use Rattle.siri_calls.specs.Forms as forms;
-ghost use Rattle.siri_calls.specs.Seen.{optional_text, optional_moment, optional_tree, required_text, required_tree};
+ghost use Rattle.siri_calls.specs.Seen.{optional_text, optional_moment, optional_tree, optional_trees, required_text, required_tree};
 
-use crate::forms::{Form, day, flag, moment, object_form, text, whole};
+use crate::forms::{Form, day, flag, moment, object_form, objects, text, whole};
 use gw_base::Member;
 use journey_model::Fault;
 use serde_json::Value;
@@ -113,5 +113,15 @@ pub(crate) fn required_object(tree: &Value, member: Member) -> Result<&Value, Fa
     match tree.get(member.name()) {
         Some(found) => required(member, object_form(found)),
         None => Err(Fault::BadField(member)),
+    }
+}
+
+/// A repeated element that may be missing, whose items are objects.
+pub(crate) fn optional_objects(tree: &Value, member: Member) -> Result<Option<&[Value]>, Fault>
+    ensures { optional_trees result ≡ spec.optional_member forms.objects member (view tree.now) }
+{
+    match tree.get(member.name()) {
+        Some(found) => optional(member, objects(found)),
+        None => Ok(None),
     }
 }

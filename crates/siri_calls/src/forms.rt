@@ -1,14 +1,15 @@
 //! The forms of members in JSON after SIRI Lite. The functions meet `specs/Forms.antt`.
-ghost use Rattle.std.specs.Prelude.{◌≡◌, codes};
+ghost use Rattle.std.specs.Prelude.{◌≡◌, codes, map};
 ghost use Rattle.std.specs.Char.{is_ascii_digit};
 ghost use Rattle.std.specs.List.{list_all};
 ghost use Rattle.serde_json.specs.Find.{get};
 ghost use Rattle.serde_json.specs.View.{view};
 ghost use Rattle.siri_calls.specs.Forms as spec;
-ghost use Rattle.siri_calls.specs.Seen.{text_form, moment_form, tree_form};
+ghost use Rattle.siri_calls.specs.Seen.{text_form, moment_form, tree_form, trees_form};
 
 use serde_json::Value;
 use service_day::{Day, DayForm, Instant, Zone, read_day, read_moment};
+use std::slice;
 
 /// What a member is in the form that is asked.
 #[derive(Clone, Copy, Debug, PartialEq, Eq)]
@@ -184,5 +185,43 @@ pub(crate) fn object_form(tree: &Value) -> Form<&Value>
             Some(_) => Form::Wrong,
         },
         Value::Bool(_) | Value::Number(_) => Form::Wrong,
+    }
+}
+
+/// The items of a repeated element, which is an array or one item.
+pub(crate) fn repeated(tree: &Value) -> &[Value]
+    ensures { map view result.now ≡ spec.repeated (view tree.now) }
+{
+    match tree {
+        Value::Null => &[],
+        Value::String(text) if text.as_str().is_empty() => &[],
+        Value::Array(items) => items.as_slice(),
+        _ => slice::from_ref(tree),
+    }
+}
+
+/// Whether a tree is an object.
+pub(crate) fn is_object(tree: &Value) -> bool
+    ensures { result ≡ spec.is_object (view tree.now) }
+{
+    matches!(tree, Value::Object(_))
+}
+
+/// Whether each of some trees is an object.
+pub(crate) fn are_objects(trees: &[Value]) -> bool
+    ensures { result ≡ list_all (λ tree. spec.is_object (view tree)) trees.now }
+{
+    trees.iter().all(|tree| is_object(tree))
+}
+
+/// A repeated element whose items are objects.
+pub(crate) fn objects(tree: &Value) -> Form<&[Value]>
+    ensures { trees_form result ≡ spec.objects (view tree.now) }
+{
+    let trees = repeated(tree);
+    if are_objects(trees) {
+        Form::Found(trees)
+    } else {
+        Form::Wrong
     }
 }
