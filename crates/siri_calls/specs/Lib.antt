@@ -5,4 +5,5 @@ pub mod Forms
 pub mod Frame
 pub mod Journeys
 pub mod Judged
+pub mod Seen
 pub mod Verdicts
