@@ -1,0 +1,3 @@
+pub mod PlaceLemmas
+pub mod PlacedLemmas
+pub mod Prefixes

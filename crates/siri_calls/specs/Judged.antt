@@ -17,6 +17,7 @@ use Rattle.journey_model.specs.declared.readings.JourneyReading.{JourneyReading}
 use Rattle.journey_model.specs.declared.readings.JourneyReading.TheVariants.{Cancelled, Stops}
 use Rattle.journey_model.specs.declared.readings.StopReading.{StopReading}
 use Rattle.journey_model.specs.declared.readings.StopReading.TheVariants.{Absent, Skipped}
+use Rattle.stop_schedule.specs.declared.stop_times.StopRow.{StopRow}
 use Rattle.siri_calls.specs.Journeys.{Header, Call}
 
 -- the calls that are read, each with its number among all
@@ -41,11 +42,11 @@ stops_named run (one ∷ others) = do
   Ok ((stop, one) ∷ rest)
 
 -- the places of calls with their stops, behind the place before, or the fault of the first call of no later stop
-abbrev pub placed_calls : Run → Option ℕ → List (ℕ × (ℕ × Call)) → Result (List (ℕ × (ℕ × Call))) Fault
-placed_calls run after [] = Ok []
-placed_calls run after (one ∷ others) = do
-  place ← ok_or (call_place run.stops after one.0 one.1.1.order) (OutOfOrder one.1.0)
-  rest ← placed_calls run (Some place) others
+abbrev pub placed_calls : List StopRow → Option ℕ → List (ℕ × (ℕ × Call)) → Result (List (ℕ × (ℕ × Call))) Fault
+placed_calls stops after [] = Ok []
+placed_calls stops after (one ∷ others) = do
+  place ← ok_or (call_place stops after one.0 one.1.1.order) (OutOfOrder one.1.0)
+  rest ← placed_calls stops (Some place) others
   Ok ((place, one.1) ∷ rest)
 
 -- the fault of the first event whose delay is over a week; a call that skips its stop has no event
@@ -81,7 +82,7 @@ dense_unless (Some fault) readings = Err fault
 abbrev pub stops_read : Run → List (Option Call) → Result JourneyReading Fault
 stops_read run all = do
   named ← stops_named run (numbered 0 all)
-  placed ← placed_calls run None named
+  placed ← placed_calls run.stops None named
   dense_unless (delays_fault run placed) (all_dense run placed)
 
 abbrev pub journey_read : Run → Bool → List (Option Call) → Result JourneyReading Fault
@@ -102,15 +103,30 @@ abbrev pub unless_extra : Bool → Result ℕ Fault
 unless_extra true = Err AddedJourney
 unless_extra false = Ok 0
 
+-- the number of the trip that a journey is of, unless it is an extra journey
+abbrev pub trip_named : Schedule → Header → Result ℕ Fault
+trip_named schedule head = do
+  none ← unless_extra head.extra
+  ok_or (position (bytes_eq head.trip_id) schedule.table.trips) UnknownJourney
+
 abbrev pub running : Schedule → ℕ → ℤ → Run → Result Run Fault
 running schedule trip on run = if schedule.table.runs trip on then Ok run else Err NotRunning
+
+-- a trip on a day of the window on which it runs
+abbrev pub run_named : Schedule → ℕ → ℤ → Result Run Fault
+run_named schedule trip on = do
+  run ← ok_or (run_on schedule trip on) OutOfWindow
+  running schedule trip on run
+
+-- how a journey of a trip reads on its day, or the first fault
+abbrev pub trip_read : Schedule → ℕ → Header → List (Option Call) → Result JourneyReading Fault
+trip_read schedule trip head all = do
+  run ← run_named schedule trip head.day
+  journey_read run head.cancelled all
 
 -- what a journey is by its header and its calls: the first fault in this order, or its record
 abbrev pub judged : Schedule → Header → List (Option Call) → Result (Recorded × ℕ) Fault
 judged schedule head all = do
-  none ← unless_extra head.extra
-  trip ← ok_or (position (bytes_eq head.trip_id) schedule.table.trips) UnknownJourney
-  run ← ok_or (run_on schedule trip head.day) OutOfWindow
-  dated ← running schedule trip head.day run
-  reading ← journey_read dated head.cancelled all
+  trip ← trip_named schedule head
+  reading ← trip_read schedule trip head all
   Ok (taken head trip all reading)

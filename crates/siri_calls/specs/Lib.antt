@@ -5,5 +5,8 @@ pub mod Forms
 pub mod Frame
 pub mod Journeys
 pub mod Judged
+pub mod MatchedCalls
+pub mod Refusals
 pub mod Seen
+pub mod TripRuns
 pub mod Verdicts

@@ -2,8 +2,13 @@
 #![tactic(auto)]
 
 mod calls;
+mod delays;
+mod dense;
 mod delivery;
 mod forms;
 mod header;
+mod matching_calls;
+mod refused;
+mod trip_run;
 
 pub use delivery::{Delivery, DeliveryFault, Item};
