@@ -1,6 +1,6 @@
 //! The times of calls against the planned ones. The functions meet `delays_fault` and `call_reading` of
 //! `specs/Judged.antt`.
-ghost use Rattle.std.specs.Prelude.{◌≡◌, map};
+ghost use Rattle.std.specs.Prelude.{◌≡◌, ◌≤ℤ◌, ◌+ℤ◌, ◌-ℤ◌, neg_ℤ, pos, map};
 ghost use Rattle.std.specs.Option.{ForSome};
 ghost use Rattle.journey_model.specs.Runs.{planned_at as planned_of};
 ghost use Rattle.journey_model.specs.Times as times;
@@ -31,17 +31,46 @@ fn planned_at(run: &TripRun<'_>, place: u32) -> (i64, i64)
     }
 }
 
+// How much later than planned a time is.
+fn delay_of(time: i64, planned: i64) -> i64
+    requires time_in { IsMoment time }
+    requires planned_in { IsPlanned planned }
+    ensures value { result ≡ time -ℤ planned }
+    ensures low { neg_ℤ (pos 300000000000) ≤ℤ result }
+    ensures high { result ≤ℤ pos 300000000000 }
+{
+    time - planned
+}
+
+// A planned time, that much later.
+fn later(planned: i64, delay: i64) -> i64
+    requires planned_in { IsPlanned planned }
+    requires low { neg_ℤ (pos 300000000000) ≤ℤ delay }
+    requires high { delay ≤ℤ pos 300000000000 }
+    ensures { result ≡ planned +ℤ delay }
+{
+    planned + delay
+}
+
+// Whether a delay is at most a week.
+fn is_delay(delay: i64) -> bool
+    ensures { result ≡ times.is_delay delay }
+{
+    -LONGEST_DELAY <= delay && delay <= LONGEST_DELAY
+}
+
 // The fault of an event whose delay is over a week.
 fn event_fault(number: u64, planned: i64, time: Option<i64>) -> Option<Fault>
     requires planned_in { IsPlanned planned }
     requires time_in { ForSome time IsMoment }
     ensures { result ≡ times.event_fault number planned time }
 {
-    let delay = time? - planned;
-    if -LONGEST_DELAY <= delay && delay <= LONGEST_DELAY {
-        return None;
+    let delay = delay_of(time?, planned);
+    if is_delay(delay) {
+        None
+    } else {
+        Some(Fault::DelayRange(number, delay as i128))
     }
-    Some(Fault::DelayRange(number, delay as i128))
 }
 
 // The fault of the first event of a call whose delay is over a week.
@@ -84,10 +113,10 @@ pub(crate) fn call_reading(run: &TripRun<'_>, one: &PlacedCall<'_>) -> StopReadi
         (Some(arrival), Some(departure)) => StopReading::Timed { arrival, departure },
         (Some(arrival), None) => StopReading::Timed {
             arrival,
-            departure: planned.1 + (arrival - planned.0),
+            departure: later(planned.1, delay_of(arrival, planned.0)),
         },
         (None, Some(departure)) => StopReading::Timed {
-            arrival: planned.0 + (departure - planned.1),
+            arrival: later(planned.0, delay_of(departure, planned.1)),
             departure,
         },
         (None, None) => StopReading::Absent,
