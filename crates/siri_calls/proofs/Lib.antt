@@ -1,2 +1,5 @@
 pub mod FormLemmas
+pub mod PlaceLemmas
+pub mod PlacedLemmas
+pub mod Prefixes
 pub mod TreeLemmas

@@ -12,15 +12,7 @@ use Rattle.service_day.specs.declared.zones.Rules.{Rules}
 use Rattle.siri_calls.specs.declared.call_reading.Statuses.{Statuses}
 use Rattle.siri_calls.specs.Fields.{optional, optional_member, required_member, form_at}
 use Rattle.siri_calls.specs.Forms.{text, flag, whole, moment, object_form, objects}
-
--- a call that is read: the id of its stop, its number in the order of stops, from 1, whether the stop is skipped, and the
--- seconds since 1970 at which the journey arrives and departs there
-pub record Call : Type 0 where
-  pub stop : List ℕ
-  pub order : Option ℕ
-  pub skip : Bool
-  pub arrival : Option ℤ
-  pub departure : Option ℤ
+use Rattle.siri_calls.specs.Journeys.{Call}
 
 -- a status is `cancelled`, in any case of its letters
 abbrev pub says_cancelled : List ℕ → Bool

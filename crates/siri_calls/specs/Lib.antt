@@ -3,5 +3,11 @@ pub mod Deliveries
 pub mod Fields
 pub mod Forms
 pub mod Frame
+pub mod Journeys
+pub mod Judged
+pub mod MatchedCalls
+pub mod Refusals
 pub mod Seen
+pub mod Shown
+pub mod TripRuns
 pub mod Verdicts

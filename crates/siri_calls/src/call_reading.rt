@@ -4,7 +4,8 @@ ghost use Rattle.std.specs.Option.{ForSome};
 ghost use Rattle.serde_json.specs.View.{view};
 ghost use Rattle.service_day.specs.Utc.{IsMoment};
 ghost use Rattle.siri_calls.specs.Calls as spec;
-ghost use Rattle.siri_calls.specs.Seen.{ok_map, call_of, instant_of, trees_of};
+ghost use Rattle.siri_calls.specs.Seen.{call_of};
+ghost use Rattle.siri_calls.specs.Shown.{ok_map, instant_of, trees_of};
 
 use crate::calls::Call;
 use crate::fields::{optional_flag, optional_moment, optional_object, optional_objects, optional_text, optional_whole, required_text};

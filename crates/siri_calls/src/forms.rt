@@ -5,7 +5,7 @@ ghost use Rattle.std.specs.List.{list_all};
 ghost use Rattle.serde_json.specs.Find.{get};
 ghost use Rattle.serde_json.specs.View.{view};
 ghost use Rattle.siri_calls.specs.Forms as spec;
-ghost use Rattle.siri_calls.specs.Seen.{text_form, moment_form, tree_form, trees_form};
+ghost use Rattle.siri_calls.specs.Shown.{text_form, moment_form, tree_form, trees_form};
 
 use serde_json::Value;
 use service_day::{Day, DayForm, Instant, Zone, read_day, read_moment};

@@ -3,9 +3,14 @@
 
 mod call_reading;
 mod calls;
+mod delays;
+mod dense;
 mod delivery;
 mod fields;
 mod forms;
 mod header;
+mod matching_calls;
+mod refused;
+mod trip_run;
 
 pub use delivery::{Delivery, DeliveryFault, Item};
