@@ -104,3 +104,9 @@ call_trees tree = do
   before ← trees_under Member.RecordedCalls Member.RecordedCall tree
   after ← trees_under Member.EstimatedCalls Member.EstimatedCall tree
   Ok (before ++ after)
+
+-- the calls of a journey's tree
+abbrev pub calls_under : Rules → Data → Result (List (Option Call)) Fault
+calls_under zone tree = do
+  trees ← call_trees tree
+  calls zone trees

@@ -1,5 +1,5 @@
 -- What the values of the reading show.
-use Rattle.std.specs.Prelude.{ℕ, ℤ, List, map, Option, option_map, Result, Ok, Err}
+use Rattle.std.specs.Prelude.{ℕ, ℤ, List, map, Option, option_map, Result, Ok, Err, ⊤, ◌≡◌}
 use Rattle.journey_model.specs.declared.fault.Fault.{Fault}
 use Rattle.serde_json.specs.Data.{Data}
 use Rattle.serde_json.specs.View.{view}
@@ -7,6 +7,8 @@ use Rattle.serde_json.specs.declared.value.Value.{Value}
 use Rattle.service_day.specs.declared.moments.Instant.{Instant}
 use Rattle.siri_calls.specs.declared.forms.Form.{Form}
 use Rattle.siri_calls.specs.declared.forms.Form.TheVariants.{Missing, Wrong, Found}
+use Rattle.siri_calls.specs.declared.read_fault.ReadFault.{ReadFault}
+use Rattle.siri_calls.specs.declared.read_fault.ReadFault.TheVariants.{Aside, Memory}
 use denote.Ref.{Bor}
 
 -- an instant
@@ -59,3 +61,8 @@ required_text answer = ok_map (λ text. text.now) answer
 
 abbrev pub required_tree : Result (Bor Value) Fault → Result Data Fault
 required_tree answer = ok_map (λ tree. view tree.now) answer
+
+-- a fault is that of an answer, unless it is want of memory
+abbrev pub IsFaultOf : {A : Type 0} → Result A Fault → ReadFault → Type 0
+IsFaultOf answer (Aside fault) = answer ≡ Err fault
+IsFaultOf answer Memory = ⊤

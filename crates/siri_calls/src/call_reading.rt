@@ -1,18 +1,20 @@
 //! How calls are read (SIRI 2.0, RecordedCall and EstimatedCall). The functions meet `specs/Calls.antt`.
-ghost use Rattle.std.specs.Prelude.{◌≡◌, Some, IfOk, option_map};
+ghost use Rattle.std.specs.Prelude.{◌≡◌, ◌++◌, map, Ok, Some, IfOk, IfErr, option_map};
 ghost use Rattle.std.specs.Option.{ForSome};
 ghost use Rattle.serde_json.specs.View.{view};
 ghost use Rattle.service_day.specs.Utc.{IsMoment};
 ghost use Rattle.siri_calls.specs.Calls as spec;
-ghost use Rattle.siri_calls.specs.Seen.{call_of};
-ghost use Rattle.siri_calls.specs.Shown.{ok_map, instant_of, trees_of};
+ghost use Rattle.siri_calls.specs.Seen.{call_of, calls_of};
+ghost use Rattle.siri_calls.specs.Shown.{ok_map, instant_of, trees_of, IsFaultOf};
 
 use crate::calls::Call;
 use crate::fields::{optional_flag, optional_moment, optional_object, optional_objects, optional_text, optional_whole, required_text};
+use crate::read_fault::ReadFault;
 use gw_base::Member;
 use journey_model::Fault;
 use serde_json::Value;
 use service_day::{Instant, Zone};
+use std::alloc::Global;
 
 /// What a call says of whether the journey stops there.
 #[derive(Clone, Copy)]
@@ -164,4 +166,54 @@ fn trees_under(tree: &Value, group: Member, member: Member) -> Result<&[Value], 
         Some(parent) => trees_in(parent, member),
         None => Ok(&[]),
     }
+}
+
+// The calls of trees, behind those that were found before.
+fn add_calls<'a>(
+    found: &mut Vec<Option<Call<'a>>>,
+    trees: &'a [Value],
+    zone: &Zone,
+) -> Result<(), ReadFault>
+    ensures found { IfOk result (λ _. ok_map (λ rest. calls_of found.old.items ++ rest) (spec.calls zone.now (map view trees.now)) ≡ Ok (calls_of found.new.items)) }
+    ensures fault { IfErr result (IsFaultOf (spec.calls zone.now (map view trees.now))) }
+{
+    for tree in trees {
+        let call = call_unless_extra(tree, zone)?;
+        found.push(call)?;
+    }
+    Ok(())
+}
+
+// The calls of two lists of trees.
+fn calls_in<'a>(
+    alloc: Global,
+    recorded: &'a [Value],
+    estimated: &'a [Value],
+    zone: &Zone,
+) -> Result<Vec<Option<Call<'a>>>, ReadFault>
+    ensures found { IfOk result (λ found. spec.calls zone.now (map view recorded.now ++ map view estimated.now) ≡ Ok (calls_of found.items)) }
+    ensures fault { IfErr result (IsFaultOf (spec.calls zone.now (map view recorded.now ++ map view estimated.now))) }
+{
+    let mut found = Vec::with_capacity(alloc, recorded.len())?;
+    if let Err(fault) = add_calls(&mut found, recorded, zone) {
+        return Err(fault);
+    }
+    match add_calls(&mut found, estimated, zone) {
+        Ok(()) => Ok(found),
+        Err(fault) => Err(fault),
+    }
+}
+
+/// The calls of a journey: the recorded ones, and then the estimated ones. None stands for an extra call.
+pub(crate) fn read_calls<'a>(
+    alloc: Global,
+    tree: &'a Value,
+    zone: &Zone,
+) -> Result<Vec<Option<Call<'a>>>, ReadFault>
+    ensures found { IfOk result (λ found. spec.calls_under zone.now (view tree.now) ≡ Ok (calls_of found.items)) }
+    ensures fault { IfErr result (IsFaultOf (spec.calls_under zone.now (view tree.now))) }
+{
+    let recorded = trees_under(tree, Member::RecordedCalls, Member::RecordedCall)?;
+    let estimated = trees_under(tree, Member::EstimatedCalls, Member::EstimatedCall)?;
+    calls_in(alloc, recorded, estimated, zone)
 }

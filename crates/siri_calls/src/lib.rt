@@ -10,6 +10,7 @@ mod fields;
 mod forms;
 mod header;
 mod matching_calls;
+mod read_fault;
 mod refused;
 mod trip_run;
 
