@@ -1,5 +1,5 @@
 -- What the values of the reading show.
-use Rattle.std.specs.Prelude.{ℕ, ℤ, List, map, Option, option_map, Result, Ok, Err, ⊤, ◌≡◌}
+use Rattle.std.specs.Prelude.{ℕ, ℤ, List, [], ◌∷◌, map, Option, option_map, Result, Ok, Err, ⊤, ◌≡◌}
 use Rattle.journey_model.specs.declared.fault.Fault.{Fault}
 use Rattle.serde_json.specs.Data.{Data}
 use Rattle.serde_json.specs.View.{view}
@@ -7,6 +7,11 @@ use Rattle.serde_json.specs.declared.value.Value.{Value}
 use Rattle.service_day.specs.declared.moments.Instant.{Instant}
 use Rattle.siri_calls.specs.declared.forms.Form.{Form}
 use Rattle.siri_calls.specs.declared.forms.Form.TheVariants.{Missing, Wrong, Found}
+use Rattle.gw_base.specs.declared.member.Member.{Member}
+use Rattle.siri_calls.specs.Frame.{Place}
+use Rattle.siri_calls.specs.declared.frame.Place as the_place
+use Rattle.siri_calls.specs.declared.delivery.DeliveryFault.{DeliveryFault}
+use Rattle.siri_calls.specs.declared.delivery.DeliveryFault.TheVariants as delivery
 use Rattle.siri_calls.specs.declared.read_fault.ReadFault.{ReadFault}
 use Rattle.siri_calls.specs.declared.read_fault.ReadFault.TheVariants.{Aside, Memory}
 use denote.Ref.{Bor}
@@ -66,3 +71,22 @@ required_tree answer = ok_map (λ tree. view tree.now) answer
 abbrev pub IsFaultOf : {A : Type 0} → Result A Fault → ReadFault → Type 0
 IsFaultOf answer (Aside fault) = answer ≡ Err fault
 IsFaultOf answer Memory = ⊤
+
+-- a place of a delivery
+abbrev pub tree_at : Option (Bor Value) → Option Data
+tree_at found = option_map (λ tree. view tree.now) found
+
+abbrev pub place_of : the_place.Place → Place
+place_of place = record {
+  tree = view place.tree.now;
+  further = tree_at place.frame ∷ tree_at place.delivery ∷ tree_at place.service ∷ [];
+}
+
+abbrev pub places_of : List the_place.Place → List Place
+places_of places = map place_of places
+
+-- a fault is that of the way down to the journeys, unless it is want of memory
+abbrev pub IsFrameFault : {A : Type 0} → Result A Member → DeliveryFault → Type 0
+IsFrameFault answer delivery.NotJson = ⊥
+IsFrameFault answer (delivery.NotDelivery member) = answer ≡ Err member
+IsFrameFault answer delivery.Memory = ⊤

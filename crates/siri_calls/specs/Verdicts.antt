@@ -17,7 +17,7 @@ use Rattle.service_day.specs.declared.zones.Rules.{Rules}
 use Rattle.siri_calls.specs.Calls.{calls_under}
 use Rattle.siri_calls.specs.Fields.{required, form_at, optional_member, required_member}
 use Rattle.siri_calls.specs.Forms.{text, flag, day, object_form, is_object, moment}
-use Rattle.siri_calls.specs.Frame.{Item, items}
+use Rattle.siri_calls.specs.Frame.{Place, items}
 use Rattle.siri_calls.specs.Journeys.{Header, Call}
 use Rattle.siri_calls.specs.Judged.{judged}
 use Rattle.siri_calls.specs.declared.forms.Form.{Form}
@@ -34,7 +34,7 @@ first_moment zone [] = Missing
 first_moment zone (place ∷ places) = or_further zone (form_at (moment zone) place) (first_moment zone places)
 
 -- what an item says before its calls
-abbrev pub header : Rules → Item → Result Header Fault
+abbrev pub header : Rules → Place → Result Header Fault
 header zone item = do
   at ← required Member.RecordedAtTime (first_moment zone (get (codes "RecordedAtTime") item.tree ∷ item.further))
   reference ← required_member object_form Member.FramedVehicleJourneyRef item.tree
@@ -50,13 +50,13 @@ calls_unless true zone tree = Ok []
 calls_unless false zone tree = calls_under zone tree
 
 -- what an item is: its members are read, and then its journey is judged
-abbrev pub item_read : Schedule → Item → Result (Recorded × ℕ) Fault
+abbrev pub item_read : Schedule → Place → Result (Recorded × ℕ) Fault
 item_read schedule item = do
   head ← header schedule.zone item
   all ← calls_unless head.cancelled schedule.zone item.tree
   judged schedule head all
 
-abbrev pub verdict : Schedule → Item → Result (Recorded × ℕ) Fault
+abbrev pub verdict : Schedule → Place → Result (Recorded × ℕ) Fault
 verdict schedule item =
     if is_object item.tree then item_read schedule item else Err (BadField Member.EstimatedVehicleJourney)
 

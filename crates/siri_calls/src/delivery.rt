@@ -36,6 +36,17 @@ impl<T: Drop> From<AllocFailed<T>> for DeliveryFault {
     }
 }
 
+impl From<Member> for DeliveryFault {
+    ghost use Rattle.std.specs.Prelude.{◌≡◌};
+    ghost use Rattle.siri_calls.specs.declared.delivery.DeliveryFault.TheVariants.{NotDelivery};
+
+    ghost from_gives = { λ member e. e ≡ NotDelivery member };
+
+    fn from(member: Member) -> DeliveryFault {
+        DeliveryFault::NotDelivery(member)
+    }
+}
+
 /// What an item of a delivery is.
 #[derive(Debug, Drop)]
 pub enum Item {

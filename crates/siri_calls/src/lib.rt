@@ -8,6 +8,7 @@ mod dense;
 mod delivery;
 mod fields;
 mod forms;
+mod frame;
 mod header;
 mod matching_calls;
 mod read_fault;
