@@ -1,5 +1,6 @@
 pub mod CallLemmas
 pub mod FormLemmas
+pub mod FrameLemmas
 pub mod PlaceLemmas
 pub mod PlacedLemmas
 pub mod Prefixes

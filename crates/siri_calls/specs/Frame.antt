@@ -80,10 +80,11 @@ frames_below delivery = map (frame_place delivery) (repeated_under Member.Estima
 abbrev pub has_object : Place → Bool
 has_object place = is_object place.tree
 
+abbrev pub all_objects : List Place → Result (List Place) Member
+all_objects frames = if list_all has_object frames then Ok frames else Err Member.EstimatedJourneyVersionFrame
+
 abbrev pub frames_of : List Place → Result (List Place) Member
-frames_of deliveries =
-    if list_all has_object (flat_map frames_below deliveries) then Ok (flat_map frames_below deliveries)
-    else Err Member.EstimatedJourneyVersionFrame
+frames_of deliveries = all_objects (flat_map frames_below deliveries)
 
 -- the journeys below a frame
 abbrev pub item_place : Place → Data → Place

@@ -102,3 +102,57 @@ fn frame_place<'a>(tree: &'a Value, delivery: &'a Value, service: &'a Value) -> 
         service: service.get("ResponseTimestamp"),
     }
 }
+
+// The frames below a delivery, behind those that were found before.
+fn add_frames<'a>(
+    found: &mut Vec<Place<'a>>,
+    delivery: &'a Value,
+    service: &'a Value,
+) -> Result<(), DeliveryFault>
+    ensures found { IfOk result (λ _. ok_map (λ frames. places_of found.old.items ++ frames)
+        (spec.all_objects (spec.frames_below (spec.delivery_place (view service.now) (view delivery.now))))
+        ≡ Ok (places_of found.new.items)) }
+    ensures fault { IfErr result (IsFrameFault
+        (spec.all_objects (spec.frames_below (spec.delivery_place (view service.now) (view delivery.now))))) }
+{
+    let trees = repeated_under(delivery, Member::EstimatedJourneyVersionFrame);
+    if !are_objects(trees) {
+        return Err(DeliveryFault::NotDelivery(
+            Member::EstimatedJourneyVersionFrame,
+        ));
+    }
+    for tree in trees {
+        found.push(frame_place(tree, delivery, service))?;
+    }
+    Ok(())
+}
+
+// The frames below deliveries.
+fn frames_of<'a>(
+    alloc: Global,
+    deliveries: &'a [Value],
+    service: &'a Value,
+) -> Result<Vec<Place<'a>>, DeliveryFault>
+    ensures found { IfOk result (λ found.
+        spec.frames_of (map (spec.delivery_place (view service.now)) (map view deliveries.now)) ≡ Ok (places_of found.items)) }
+    ensures fault { IfErr result (IsFrameFault
+        (spec.frames_of (map (spec.delivery_place (view service.now)) (map view deliveries.now)))) }
+{
+    let mut found = Vec::new(alloc);
+    for delivery in deliveries {
+        if let Err(fault) = add_frames(&mut found, delivery, service) {
+            return Err(fault);
+        }
+    }
+    Ok(found)
+}
+
+/// The frames of a delivery, in document order, or the first row of the way down that is broken.
+pub(crate) fn frames_in(alloc: Global, root: &Value) -> Result<Vec<Place<'_>>, DeliveryFault>
+    ensures found { IfOk result (λ found. spec.frames_in (view root.now) ≡ Ok (places_of found.items)) }
+    ensures fault { IfErr result (IsFrameFault (spec.frames_in (view root.now))) }
+{
+    let service = service_in(root)?;
+    let deliveries = deliveries_in(service)?;
+    frames_of(alloc, deliveries, service)
+}
