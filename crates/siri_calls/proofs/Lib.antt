@@ -1,3 +1,4 @@
+pub mod DenseLemmas
 pub mod PlaceLemmas
 pub mod PlacedLemmas
 pub mod Prefixes
