@@ -1,4 +1,5 @@
 pub mod DenseLemmas
+pub mod OrderLemmas
 pub mod PlaceLemmas
 pub mod PlacedLemmas
 pub mod Prefixes

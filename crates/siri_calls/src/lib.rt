@@ -7,6 +7,8 @@ mod dense;
 mod delivery;
 mod forms;
 mod header;
+mod judgement;
+mod judging;
 mod matching_calls;
 mod refused;
 mod trip_run;

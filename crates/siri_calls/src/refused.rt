@@ -14,6 +14,14 @@ pub(crate) enum Refused {
     Memory,
 }
 
+impl From<Fault> for Refused {
+    ghost from_gives = { λ fault refused. refused ≡ Why.Aside fault };
+
+    fn from(fault: Fault) -> Refused {
+        Refused::Aside(fault)
+    }
+}
+
 impl From<AllocError> for Refused {
     ghost from_gives = { λ _ refused. refused ≡ Why.Memory };
 
