@@ -3,3 +3,4 @@ pub mod OrderLemmas
 pub mod PlaceLemmas
 pub mod PlacedLemmas
 pub mod Prefixes
+pub mod ServableLemmas
