@@ -1,6 +1,9 @@
+pub mod CallLemmas
 pub mod DenseLemmas
+pub mod FormLemmas
 pub mod OrderLemmas
 pub mod PlaceLemmas
 pub mod PlacedLemmas
 pub mod Prefixes
 pub mod ServableLemmas
+pub mod TreeLemmas

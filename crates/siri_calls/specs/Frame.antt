@@ -51,7 +51,7 @@ there member (Some (boolean b)) = Err member
 there member (Some (number n)) = Err member
 there member (Some (string s)) = Err member
 there member (Some (array items)) = each_object member (repeated (array items))
-there member (Some (object members)) = Ok (object members ∷ [])
+there member (Some (object parts)) = Ok (object parts ∷ [])
 
 -- the items of an element that may be missing
 abbrev pub repeated_under : Member → Data → List Data

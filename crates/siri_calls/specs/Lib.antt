@@ -7,8 +7,8 @@ pub mod Journeys
 pub mod Judged
 pub mod Judgements
 pub mod MatchedCalls
-pub mod Refusals
 pub mod Seen
 pub mod Servable
+pub mod Shown
 pub mod TripRuns
 pub mod Verdicts

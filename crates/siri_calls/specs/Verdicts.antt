@@ -14,7 +14,7 @@ use Rattle.serde_json.specs.Data.{Data}
 use Rattle.serde_json.specs.Find.{get}
 use Rattle.serde_json.specs.Read.{read}
 use Rattle.service_day.specs.declared.zones.Rules.{Rules}
-use Rattle.siri_calls.specs.Calls.{calls, call_trees}
+use Rattle.siri_calls.specs.Calls.{calls_under}
 use Rattle.siri_calls.specs.Fields.{required, form_at, optional_member, required_member}
 use Rattle.siri_calls.specs.Forms.{text, flag, day, object_form, is_object, moment}
 use Rattle.siri_calls.specs.Frame.{Item, items}
@@ -47,9 +47,7 @@ header zone item = do
 -- the calls of an item, which aren't read where the journey is cancelled
 abbrev pub calls_unless : Bool → Rules → Data → Result (List (Option Call)) Fault
 calls_unless true zone tree = Ok []
-calls_unless false zone tree = do
-  trees ← call_trees tree
-  calls zone trees
+calls_unless false zone tree = calls_under zone tree
 
 -- what an item is: its members are read, and then its journey is judged
 abbrev pub item_read : Schedule → Item → Result (Recorded × ℕ) Fault

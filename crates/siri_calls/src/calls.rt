@@ -1,4 +1,4 @@
-//! The calls of a journey (SIRI 2.0, RecordedCall and EstimatedCall). The functions meet `specs/Calls.antt`.
+//! The calls of a journey (SIRI 2.0, RecordedCall and EstimatedCall), as they are read.
 ghost use Rattle.std.specs.Option.{ForSome};
 ghost use Rattle.service_day.specs.Utc.{IsMoment};
 

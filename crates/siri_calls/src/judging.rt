@@ -1,12 +1,11 @@
 //! What a journey is by its header and its calls. The functions meet `specs/Judged.antt`.
-ghost use Rattle.std.specs.Prelude.{◌≡◌, ◌<◌, length, IfOk};
+ghost use Rattle.std.specs.Prelude.{◌≡◌, ◌<◌, length, Ok, IfErr, IfOk};
 ghost use Rattle.journey_model.specs.Records.{recorded};
 ghost use Rattle.journey_model.specs.Schedules.{schedule_of};
 ghost use Rattle.siri_calls.specs.Judged as spec;
 ghost use Rattle.siri_calls.specs.Judgements.{CanBeServed, shown_judged};
-ghost use Rattle.siri_calls.specs.MatchedCalls.{calls_of};
-ghost use Rattle.siri_calls.specs.Refusals.{Gives, shown_by};
-ghost use Rattle.siri_calls.specs.Seen.{header_of};
+ghost use Rattle.siri_calls.specs.Seen.{calls_of, header_of};
+ghost use Rattle.siri_calls.specs.Shown.{IsFaultOf, ok_map};
 ghost use Rattle.siri_calls.specs.TripRuns.{run_over};
 
 use crate::calls::Call;
@@ -15,7 +14,7 @@ use crate::dense::dense_readings;
 use crate::header::Header;
 use crate::judgement::Judged;
 use crate::matching_calls::{placed_calls, stop_calls};
-use crate::refused::Refused;
+use crate::read_fault::ReadFault;
 use crate::trip_run::TripRun;
 use journey_model::{Context, Fault, JourneyReading, JourneyRecord};
 use service_day::Day;
@@ -24,7 +23,7 @@ use stop_schedule::TripNo;
 
 // The trip that a journey is of, unless it is an extra journey.
 fn trip_named(context: &Context<'_>, head: &Header<'_>) -> Result<TripNo, Fault>
-    ensures value { shown_by (λ trip. trip.0) result ≡ spec.trip_named (schedule_of context.now) (header_of head.now) }
+    ensures value { ok_map (λ trip. trip.0) result ≡ spec.trip_named (schedule_of context.now) (header_of head.now) }
     ensures within { IfOk result (λ trip. trip.0 < length context.now.table.now.trips) }
 {
     if head.extra {
@@ -39,7 +38,7 @@ fn trip_named(context: &Context<'_>, head: &Header<'_>) -> Result<TripNo, Fault>
 // A trip on a day of the window on which it runs.
 fn run_named<'a>(context: &Context<'a>, trip: TripNo, day: Day) -> Result<TripRun<'a>, Fault>
     requires { trip.0 < length context.now.table.now.trips }
-    ensures { shown_by run_over result ≡ spec.run_named (schedule_of context.now) trip.0 day }
+    ensures { ok_map run_over result ≡ spec.run_named (schedule_of context.now) trip.0 day }
 {
     let Some(dated) = context.dated(trip, day) else {
         return Err(Fault::OutOfWindow);
@@ -58,13 +57,14 @@ fn stops_read(
     alloc: Global,
     run: &TripRun<'_>,
     calls: &[Option<Call<'_>>],
-) -> Result<JourneyReading, Refused>
-    ensures { Gives (λ reading. reading) (spec.stops_read (run_over run.now) (calls_of calls.now)) result }
+) -> Result<JourneyReading, ReadFault>
+    ensures found { IfOk result (λ reading. spec.stops_read (run_over run.now) (calls_of calls.now) ≡ Ok reading) }
+    ensures fault { IfErr result (IsFaultOf (spec.stops_read (run_over run.now) (calls_of calls.now))) }
 {
     let found = stop_calls(alloc, run, calls)?;
     let placed = placed_calls(alloc, run, found.as_slice())?;
     if let Some(fault) = delays_fault(run, placed.as_slice()) {
-        return Err(Refused::Aside(fault));
+        return Err(ReadFault::Aside(fault));
     }
     let readings = dense_readings(alloc, run, placed.as_slice())?;
     Ok(JourneyReading::Stops(readings))
@@ -77,14 +77,15 @@ fn trip_read(
     trip: TripNo,
     head: &Header<'_>,
     calls: &[Option<Call<'_>>],
-) -> Result<JourneyReading, Refused>
+) -> Result<JourneyReading, ReadFault>
     requires { trip.0 < length context.now.table.now.trips }
-    ensures { Gives (λ reading. reading) (spec.trip_read (schedule_of context.now) trip.0 (header_of head.now) (calls_of calls.now)) result }
+    ensures found { IfOk result (λ reading. spec.trip_read (schedule_of context.now) trip.0 (header_of head.now) (calls_of calls.now) ≡ Ok reading) }
+    ensures fault { IfErr result (IsFaultOf (spec.trip_read (schedule_of context.now) trip.0 (header_of head.now) (calls_of calls.now))) }
 {
     match run_named(context, trip, head.day) {
         Ok(run) if !head.cancelled => stops_read(alloc, &run, calls),
         Ok(_) => Ok(JourneyReading::Cancelled),
-        Err(fault) => Err(Refused::Aside(fault)),
+        Err(fault) => Err(ReadFault::Aside(fault)),
     }
 }
 
@@ -107,9 +108,9 @@ fn recorded_of(
     context: &Context<'_>,
     head: &Header<'_>,
     calls: &[Option<Call<'_>>],
-) -> Result<JourneyRecord, Refused>
-    ensures { Gives (λ record_of. (recorded record_of, spec.extras (calls_of calls.now)))
-      (spec.judged (schedule_of context.now) (header_of head.now) (calls_of calls.now)) result }
+) -> Result<JourneyRecord, ReadFault>
+    ensures found { IfOk result (λ found. spec.judged (schedule_of context.now) (header_of head.now) (calls_of calls.now) ≡ Ok (recorded found, spec.extras (calls_of calls.now))) }
+    ensures fault { IfErr result (IsFaultOf (spec.judged (schedule_of context.now) (header_of head.now) (calls_of calls.now))) }
 {
     let trip = trip_named(context, head)?;
     let reading = trip_read(alloc, context, trip, head, calls)?;
@@ -141,7 +142,7 @@ pub(crate) fn judged(
             record,
             extras: extras(calls),
         }),
-        Err(Refused::Aside(fault)) => Ok(Judged::Aside(fault)),
-        Err(Refused::Memory) => Err(AllocError),
+        Err(ReadFault::Aside(fault)) => Ok(Judged::Aside(fault)),
+        Err(ReadFault::Memory) => Err(AllocError),
     }
 }

@@ -1,16 +1,18 @@
 //! Deliveries of estimated timetables (SIRI 2.0, in JSON after SIRI Lite): what each journey of one says.
 #![tactic(auto)]
 
+mod call_reading;
 mod calls;
 mod delays;
 mod dense;
 mod delivery;
+mod fields;
 mod forms;
 mod header;
 mod judgement;
 mod judging;
 mod matching_calls;
-mod refused;
+mod read_fault;
 mod trip_run;
 
 pub use delivery::{Delivery, DeliveryFault, Item};

@@ -1,7 +1,7 @@
 -- the extra calls so far, and those of the others
 use Rattle.std.proofs.Common.{◌≡◌, ◌+◌, ◌≤◌, drop}
 use Rattle.siri_calls.specs.Judged as spec
-use Rattle.siri_calls.specs.MatchedCalls.{calls_of}
+use Rattle.siri_calls.specs.Seen.{calls_of}
 use Rattle.siri_calls.proofs.judging.extras.Given as goal
 
 abbrev pub invariant-loop-call : goal.invariant-loop-call
