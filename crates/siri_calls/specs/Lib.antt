@@ -5,9 +5,10 @@ pub mod Forms
 pub mod Frame
 pub mod Journeys
 pub mod Judged
+pub mod Judgements
 pub mod MatchedCalls
-pub mod Refusals
 pub mod Seen
+pub mod Servable
 pub mod Shown
 pub mod TripRuns
 pub mod Verdicts

@@ -1,14 +1,9 @@
 -- What calls show with their stops, and with their places.
-use Rattle.std.specs.Prelude.{◌+◌, ◌≤ℤ◌, ℤ, pos, ◌&&◌, ℕ, Bool, true, nat_le, List, [], ◌∷◌, Option, map, option_map}
+use Rattle.std.specs.Prelude.{◌+◌, ◌≤ℤ◌, ℤ, pos, ◌&&◌, ℕ, Bool, true, nat_le, List, [], ◌∷◌}
 use Rattle.siri_calls.specs.Journeys.{Call}
 use Rattle.siri_calls.specs.Seen.{call_of}
-use Rattle.siri_calls.specs.declared.calls.Call as the_call
 use Rattle.siri_calls.specs.declared.matching_calls.StopCall.{StopCall}
 use Rattle.siri_calls.specs.declared.matching_calls.PlacedCall.{PlacedCall}
-
--- the calls of a journey, of which extra ones aren't read
-abbrev pub calls_of : List (Option the_call.Call) → List (Option Call)
-calls_of all = map (option_map call_of) all
 
 -- the number of its stop, and the call with its number
 abbrev pub stop_call : StopCall → ℕ × (ℕ × Call)

@@ -10,9 +10,10 @@ mod fields;
 mod forms;
 mod frame;
 mod header;
+mod judgement;
+mod judging;
 mod matching_calls;
 mod read_fault;
-mod refused;
 mod trip_run;
 
 pub use delivery::{Delivery, DeliveryFault, Item};

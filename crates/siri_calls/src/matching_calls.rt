@@ -1,15 +1,16 @@
 //! The stops of a journey's calls and their places in its trip. The functions meet `stops_named` and `placed_calls` of
 //! `specs/Judged.antt`.
-ghost use Rattle.std.specs.Prelude.{◌≡◌, ◌≤◌, ◌<◌, length, map, position, is_some, option_map, None, IfSome};
+ghost use Rattle.std.specs.Prelude.{◌≡◌, ◌≤◌, ◌<◌, length, map, position, is_some, option_map, None, Ok, IfErr, IfOk, IfSome};
 ghost use Rattle.std.specs.List.{list_any};
 ghost use Rattle.journey_model.specs.Matching.{is_of_stop};
 ghost use Rattle.siri_calls.specs.Judged as spec;
-ghost use Rattle.siri_calls.specs.MatchedCalls.{calls_of, stop_call, placed_call};
-ghost use Rattle.siri_calls.specs.Refusals.{Gives};
+ghost use Rattle.siri_calls.specs.MatchedCalls.{stop_call, placed_call};
+ghost use Rattle.siri_calls.specs.Seen.{calls_of};
+ghost use Rattle.siri_calls.specs.Shown.{IsFaultOf};
 ghost use Rattle.siri_calls.specs.TripRuns.{run_over};
 
 use crate::calls::Call;
-use crate::refused::Refused;
+use crate::read_fault::ReadFault;
 use crate::trip_run::TripRun;
 use journey_model::{Fault, match_call};
 use std::alloc::Global;
@@ -76,9 +77,9 @@ pub(crate) fn stop_calls<'a>(
     alloc: Global,
     run: &TripRun<'_>,
     calls: &'a [Option<Call<'a>>],
-) -> Result<Vec<StopCall<'a>>, Refused>
-    ensures { Gives (λ found. map stop_call found.items)
-      (spec.stops_named (run_over run.now) (spec.numbered 0 (calls_of calls.now))) result }
+) -> Result<Vec<StopCall<'a>>, ReadFault>
+    ensures found { IfOk result (λ found. spec.stops_named (run_over run.now) (spec.numbered 0 (calls_of calls.now)) ≡ Ok (map stop_call found.items)) }
+    ensures fault { IfErr result (IsFaultOf (spec.stops_named (run_over run.now) (spec.numbered 0 (calls_of calls.now)))) }
 {
     let mut found = Vec::new(alloc);
     let mut from = 0;
@@ -86,7 +87,7 @@ pub(crate) fn stop_calls<'a>(
         if let Some(call) = call {
             let number = index as u64;
             let Some((stop, place)) = stop_near(run, from, call.stop) else {
-                return Err(Refused::Aside(Fault::UnknownStop(number)));
+                return Err(ReadFault::Aside(Fault::UnknownStop(number)));
             };
             found.push(StopCall { stop, number, call })?;
             from = place + 1;
@@ -100,15 +101,15 @@ pub(crate) fn placed_calls<'a>(
     alloc: Global,
     run: &TripRun<'_>,
     calls: &[StopCall<'a>],
-) -> Result<Vec<PlacedCall<'a>>, Refused>
-    ensures { Gives (λ placed. map placed_call placed.items)
-      (spec.placed_calls run.now.dated.stops.now None (map stop_call calls.now)) result }
+) -> Result<Vec<PlacedCall<'a>>, ReadFault>
+    ensures found { IfOk result (λ placed. spec.placed_calls run.now.dated.stops.now None (map stop_call calls.now) ≡ Ok (map placed_call placed.items)) }
+    ensures fault { IfErr result (IsFaultOf (spec.placed_calls run.now.dated.stops.now None (map stop_call calls.now))) }
 {
     let mut placed = Vec::new(alloc);
     let mut after = None;
     for one in calls {
         let Some(place) = match_call(&run.dated, after, one.stop, one.call.order) else {
-            return Err(Refused::Aside(Fault::OutOfOrder(one.number)));
+            return Err(ReadFault::Aside(Fault::OutOfOrder(one.number)));
         };
         placed.push(PlacedCall {
             place,

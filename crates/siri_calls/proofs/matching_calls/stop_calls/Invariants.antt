@@ -1,7 +1,8 @@
 -- the stops so far, and those of the other calls
 use Rattle.std.proofs.Common.{◌≡◌, ◌≤◌, length, map, drop}
 use Rattle.siri_calls.specs.Judged.{numbered, stops_named}
-use Rattle.siri_calls.specs.MatchedCalls.{calls_of, stop_call}
+use Rattle.siri_calls.specs.MatchedCalls.{stop_call}
+use Rattle.siri_calls.specs.Seen.{calls_of}
 use Rattle.siri_calls.specs.TripRuns.{run_over}
 use Rattle.siri_calls.proofs.Prefixes.{after_these}
 use Rattle.siri_calls.proofs.matching_calls.stop_calls.Given as goal
