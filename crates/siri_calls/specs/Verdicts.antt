@@ -33,16 +33,25 @@ abbrev pub first_moment : Rules → List (Option Data) → Form (ℤ × ℕ)
 first_moment zone [] = Missing
 first_moment zone (place ∷ places) = or_further zone (form_at (moment zone) place) (first_moment zone places)
 
+abbrev pub recorded_at : Rules → Place → Result (ℤ × ℕ) Fault
+recorded_at zone place = required Member.RecordedAtTime (first_moment zone (get (codes "RecordedAtTime") place.tree ∷ place.further))
+
+-- whether the journey is cancelled, and whether it is an extra one
+abbrev pub relation : Data → Result (Bool × Bool) Fault
+relation tree = do
+  cancelled ← optional_member flag Member.Cancellation tree
+  extra ← optional_member flag Member.ExtraJourney tree
+  Ok (unwrap_or cancelled false, unwrap_or extra false)
+
 -- what an item says before its calls
 abbrev pub header : Rules → Place → Result Header Fault
-header zone item = do
-  at ← required Member.RecordedAtTime (first_moment zone (get (codes "RecordedAtTime") item.tree ∷ item.further))
-  reference ← required_member object_form Member.FramedVehicleJourneyRef item.tree
-  day_named ← required_member day Member.DataFrameRef reference
+header zone place = do
+  at ← recorded_at zone place
+  reference ← required_member object_form Member.FramedVehicleJourneyRef place.tree
+  service_day ← required_member day Member.DataFrameRef reference
   trip_id ← required_member text Member.DatedVehicleJourneyRef reference
-  cancelled ← optional_member flag Member.Cancellation item.tree
-  extra ← optional_member flag Member.ExtraJourney item.tree
-  Ok (record { at = at; day = day_named; trip_id = trip_id; cancelled = unwrap_or cancelled false; extra = unwrap_or extra false })
+  said ← relation place.tree
+  Ok (record { at = at; day = service_day; trip_id = trip_id; cancelled = said.0; extra = said.1 })
 
 -- the calls of an item, which aren't read where the journey is cancelled
 abbrev pub calls_unless : Bool → Rules → Data → Result (List (Option Call)) Fault
