@@ -10,6 +10,7 @@ mod fields;
 mod forms;
 mod frame;
 mod header;
+mod items;
 mod judgement;
 mod judging;
 mod matching_calls;
