@@ -1,4 +1,5 @@
 pub mod CallLemmas
+pub mod DeliveryLemmas
 pub mod DenseLemmas
 pub mod FormLemmas
 pub mod FrameLemmas

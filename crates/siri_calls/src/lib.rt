@@ -17,4 +17,4 @@ mod matching_calls;
 mod read_fault;
 mod trip_run;
 
-pub use delivery::{Delivery, DeliveryFault, Item};
+pub use delivery::{Delivery, DeliveryFault, Item, read_delivery};
