@@ -4,13 +4,15 @@
 mod call_reading;
 mod calls;
 mod delays;
-mod dense;
 mod delivery;
+mod dense;
 mod fields;
 mod forms;
 mod header;
 mod judgement;
 mod judging;
+#[cfg(test)]
+mod judging_tests;
 mod matching_calls;
 mod read_fault;
 mod trip_run;
