@@ -42,7 +42,7 @@ passed : (run : Run) (one : ℕ × (ℕ × Call)) (others : List (ℕ × (ℕ ×
 passed run one others from zero less = refl
 passed run one others from (suc n) less =
     let rest : map (dense run (one ∷ others)) (range_with_len (from + 1) n) ≡ map (dense run others) (range_with_len (from + 1) n) =
-        passed run one others (from + 1) n (omega arith) in
+    passed run one others (from + 1) n (omega arith) in
     rw (other-above one.0 from less, rest) refl
 
 -- the place of a call

@@ -33,7 +33,7 @@ call-behind stops after stop (Some order) place at = by (fits_order stop (place_
     by true e h =
         let same : order - 1 ≡ place = cc in
         let behind : place_behind after ≤ order - 1 =
-            leb-true _ _ (first-of (nat_le (place_behind after) (order - 1)) (stands_at (is_of_stop stop) (order - 1) stops) (second-of (nat_le 1 order) _ e)) in
+        leb-true _ _ (first-of (nat_le (place_behind after) (order - 1)) (stands_at (is_of_stop stop) (order - 1) stops) (second-of (nat_le 1 order) _ e)) in
         omega arith
 
 le-true : (n m : ℕ) → n ≤ m → nat_le n m ≡ true
@@ -54,6 +54,7 @@ placed-rise stops after (one ∷ others) placed e = by (call_place stops after o
         let all : (place, one.1) ∷ found ≡ placed = cc in
         let test : nat_le (place_behind after) place ≡ true = le-true _ _ behind in
         rw (← all, test) (rise found refl)
+
     by : (at : Option ℕ) → call_place stops after one.0 one.1.1.order ≡ at
         → (ok_or at (OutOfOrder one.1.0) >>= λ place. placed_calls stops (Some place) others >>= λ found. Ok ((place, one.1) ∷ found)) ≡ Ok placed
         → ((place : ℕ) (found : List (ℕ × (ℕ × Call))) → placed_calls stops (Some place) others ≡ Ok found → rise_from (place + 1) found ≡ true)

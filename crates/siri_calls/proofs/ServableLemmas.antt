@@ -104,9 +104,9 @@ dense-fits : (run : Run) (placed : List (ℕ × (ℕ × Call))) → spec.delays_
     → are_near run.start run.stops (spec.all_dense run placed) ≡ true
 dense-fits run placed none =
     all-near run.start run.stops (spec.dense run placed) 0 (λ k j row e at.
-        let here : k ≡ j = omega (arith, e) in
-        let there : slice_get run.stops j ≡ Some row = subst (λ i. slice_get run.stops i ≡ Some row) here at in
-        subst (λ p. is_near (option_map_or (planned run.start) p (pos 0, pos 0)) (spec.dense run placed j) ≡ true) there (dense-near run placed j none))
+    let here : k ≡ j = omega (arith, e) in
+    let there : slice_get run.stops j ≡ Some row = subst (λ i. slice_get run.stops i ≡ Some row) here at in
+    subst (λ p. is_near (option_map_or (planned run.start) p (pos 0, pos 0)) (spec.dense run placed j) ≡ true) there (dense-near run placed j none))
 
 -- ---- what is read of a journey fits its trip
 
@@ -129,6 +129,7 @@ stops-fit run all reading h = by (spec.stops_named run (spec.numbered 0 all)) h
         → fits_trip run.start run.stops reading ≡ true
     with (Err fault) told = absurd (cc)
     with (Ok placed) told = unless-fits run placed reading told
+
     by : (named : Result (List (ℕ × (ℕ × Call))) Fault)
         → (named >>= λ found. spec.placed_calls run.stops None found >>= λ placed. spec.dense_unless (spec.delays_fault run placed) (spec.all_dense run placed)) ≡ Ok reading
         → fits_trip run.start run.stops reading ≡ true
@@ -150,6 +151,7 @@ known-trip schedule head trip h = by head.extra h
     found (Some place) e told =
         let same : place ≡ trip = cc in
         subst (λ p. p < length schedule.table.trips) same (position-Some (bytes_eq head.trip_id) schedule.table.trips place [] e).0
+
     by : (extra : Bool) → (spec.unless_extra extra >>= λ none. ok_or (position (bytes_eq head.trip_id) schedule.table.trips) UnknownJourney) ≡ Ok trip
         → trip < length schedule.table.trips
     by true told = absurd (cc)
@@ -168,6 +170,7 @@ is-run schedule trip on run h = by (run_on schedule trip on) refl h
     test true found e runs told =
         let same : found ≡ run = cc in
         record { is = e ∙ ap Some same; runs = runs }
+
     by : (found : Option Run) → run_on schedule trip on ≡ found → (ok_or found OutOfWindow >>= λ one. spec.running schedule trip on one) ≡ Ok run → IsRun schedule trip on run
     by None e told = absurd (cc)
     by (Some found) e told = test (schedule.table.runs trip on) found e refl told
@@ -208,6 +211,7 @@ servable schedule head all one count h = by (spec.trip_named schedule head) refl
     with trip (Ok reading) known e told =
         let same : spec.taken head trip all reading ≡ (recorded one, count) = cc in
         served-by schedule head all trip reading one known e (ap (λ p. p.0.trip) same) (ap (λ p. p.0.day) same) (ap (λ p. p.0.reading) same)
+
     by : (trip : Result ℕ Fault) → spec.trip_named schedule head ≡ trip
         → (trip >>= λ found. spec.trip_read schedule found head all >>= λ reading. Ok (spec.taken head found all reading)) ≡ Ok (recorded one, count) → IsServable schedule one
     by (Err fault) e told = absurd (cc)

@@ -23,7 +23,8 @@ use stop_schedule::TripNo;
 
 // The trip that a journey is of, unless it is an extra journey.
 fn trip_named(context: &Context<'_>, head: &Header<'_>) -> Result<TripNo, Fault>
-    ensures value { ok_map (λ trip. trip.0) result ≡ spec.trip_named (schedule_of context.now) (header_of head.now) }
+    ensures value { ok_map (λ trip. trip.0) result
+        ≡ spec.trip_named (schedule_of context.now) (header_of head.now) }
     ensures within { IfOk result (λ trip. trip.0 < length context.now.table.now.trips) }
 {
     if head.extra {
@@ -58,7 +59,8 @@ fn stops_read(
     run: &TripRun<'_>,
     calls: &[Option<Call<'_>>],
 ) -> Result<JourneyReading, ReadFault>
-    ensures found { IfOk result (λ reading. spec.stops_read (run_over run.now) (calls_of calls.now) ≡ Ok reading) }
+    ensures found { IfOk result (λ reading.
+        spec.stops_read (run_over run.now) (calls_of calls.now) ≡ Ok reading) }
     ensures fault { IfErr result (IsFaultOf (spec.stops_read (run_over run.now) (calls_of calls.now))) }
 {
     let found = stop_calls(alloc, run, calls)?;
@@ -79,8 +81,10 @@ fn trip_read(
     calls: &[Option<Call<'_>>],
 ) -> Result<JourneyReading, ReadFault>
     requires { trip.0 < length context.now.table.now.trips }
-    ensures found { IfOk result (λ reading. spec.trip_read (schedule_of context.now) trip.0 (header_of head.now) (calls_of calls.now) ≡ Ok reading) }
-    ensures fault { IfErr result (IsFaultOf (spec.trip_read (schedule_of context.now) trip.0 (header_of head.now) (calls_of calls.now))) }
+    ensures found { IfOk result (λ reading.
+        spec.trip_read (schedule_of context.now) trip.0 (header_of head.now) (calls_of calls.now) ≡ Ok reading) }
+    ensures fault { IfErr result (IsFaultOf
+        (spec.trip_read (schedule_of context.now) trip.0 (header_of head.now) (calls_of calls.now))) }
 {
     match run_named(context, trip, head.day) {
         Ok(run) if !head.cancelled => stops_read(alloc, &run, calls),
@@ -109,8 +113,11 @@ fn recorded_of(
     head: &Header<'_>,
     calls: &[Option<Call<'_>>],
 ) -> Result<JourneyRecord, ReadFault>
-    ensures found { IfOk result (λ found. spec.judged (schedule_of context.now) (header_of head.now) (calls_of calls.now) ≡ Ok (recorded found, spec.extras (calls_of calls.now))) }
-    ensures fault { IfErr result (IsFaultOf (spec.judged (schedule_of context.now) (header_of head.now) (calls_of calls.now))) }
+    ensures found { IfOk result (λ found.
+        spec.judged (schedule_of context.now) (header_of head.now) (calls_of calls.now)
+        ≡ Ok (recorded found, spec.extras (calls_of calls.now))) }
+    ensures fault { IfErr result (IsFaultOf
+        (spec.judged (schedule_of context.now) (header_of head.now) (calls_of calls.now))) }
 {
     let trip = trip_named(context, head)?;
     let reading = trip_read(alloc, context, trip, head, calls)?;
@@ -134,7 +141,7 @@ pub(crate) fn judged(
     calls: &[Option<Call<'_>>],
 ) -> Result<Judged, AllocError>
     ensures value { IfOk result (λ answer. shown_judged answer
-      ≡ spec.judged (schedule_of context.now) (header_of head.now) (calls_of calls.now)) }
+        ≡ spec.judged (schedule_of context.now) (header_of head.now) (calls_of calls.now)) }
     ensures servable { IfOk result (CanBeServed (schedule_of context.now)) }
 {
     match recorded_of(alloc, context, head, calls) {

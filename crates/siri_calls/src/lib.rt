@@ -4,8 +4,8 @@
 mod call_reading;
 mod calls;
 mod delays;
-mod dense;
 mod delivery;
+mod dense;
 mod fields;
 mod forms;
 mod frame;
@@ -13,6 +13,8 @@ mod header;
 mod items;
 mod judgement;
 mod judging;
+#[cfg(test)]
+mod judging_tests;
 mod matching_calls;
 mod read_fault;
 mod trip_run;

@@ -78,8 +78,10 @@ pub(crate) fn stop_calls<'a>(
     run: &TripRun<'_>,
     calls: &'a [Option<Call<'a>>],
 ) -> Result<Vec<StopCall<'a>>, ReadFault>
-    ensures found { IfOk result (λ found. spec.stops_named (run_over run.now) (spec.numbered 0 (calls_of calls.now)) ≡ Ok (map stop_call found.items)) }
-    ensures fault { IfErr result (IsFaultOf (spec.stops_named (run_over run.now) (spec.numbered 0 (calls_of calls.now)))) }
+    ensures found { IfOk result (λ found. spec.stops_named (run_over run.now) (spec.numbered 0 (calls_of calls.now))
+        ≡ Ok (map stop_call found.items)) }
+    ensures fault { IfErr result
+        (IsFaultOf (spec.stops_named (run_over run.now) (spec.numbered 0 (calls_of calls.now)))) }
 {
     let mut found = Vec::new(alloc);
     let mut from = 0;
@@ -102,8 +104,10 @@ pub(crate) fn placed_calls<'a>(
     run: &TripRun<'_>,
     calls: &[StopCall<'a>],
 ) -> Result<Vec<PlacedCall<'a>>, ReadFault>
-    ensures found { IfOk result (λ placed. spec.placed_calls run.now.dated.stops.now None (map stop_call calls.now) ≡ Ok (map placed_call placed.items)) }
-    ensures fault { IfErr result (IsFaultOf (spec.placed_calls run.now.dated.stops.now None (map stop_call calls.now))) }
+    ensures found { IfOk result (λ placed. spec.placed_calls run.now.dated.stops.now None (map stop_call calls.now)
+        ≡ Ok (map placed_call placed.items)) }
+    ensures fault { IfErr result
+        (IsFaultOf (spec.placed_calls run.now.dated.stops.now None (map stop_call calls.now))) }
 {
     let mut placed = Vec::new(alloc);
     let mut after = None;
