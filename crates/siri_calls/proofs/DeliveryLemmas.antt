@@ -38,8 +38,8 @@ pub items_step : {A : Type 0} (verdict_of : A → Verdict) (delivery : Delivery)
     → HasVerdicts delivery (earlier ++ map verdict_of (take (i + 1) all))
 items_step verdict_of delivery earlier all i one found within at is has =
     let same : (earlier ++ map verdict_of (take i all)) ++ found ∷ [] ≡ earlier ++ map verdict_of (take (i + 1) all) =
-        append_assoc earlier (map verdict_of (take i all)) (found ∷ [])
-        ∙ ap (λ rest. earlier ++ rest) (ap (λ last. map verdict_of (take i all) ++ last ∷ []) is ∙ sym (map-take_more verdict_of all i one within at)) in
+    append_assoc earlier (map verdict_of (take i all)) (found ∷ [])
+    ∙ ap (λ rest. earlier ++ rest) (ap (λ last. map verdict_of (take i all) ++ last ∷ []) is ∙ sym (map-take_more verdict_of all i one within at)) in
     subst (HasVerdicts delivery) same has
 
 mapped : (schedule : Schedule) (frame : Place) (trees : List Value)
@@ -53,8 +53,8 @@ pub items_end : (schedule : Schedule) (frame : Place) (trees : List Value) (deli
     → HasVerdicts delivery (earlier ++ map (verdict schedule) (items_below frame))
 items_end schedule frame trees delivery earlier i past same has =
     let all : map (λ tree. verdict schedule (item_place frame (view tree))) (take i trees) ≡ map (verdict schedule) (items_below frame) =
-        ap (map (λ tree. verdict schedule (item_place frame (view tree)))) (take_all i trees past) ∙ mapped schedule frame trees
-        ∙ ap (λ each. map (verdict schedule) (map (item_place frame) each)) same in
+    ap (map (λ tree. verdict schedule (item_place frame (view tree)))) (take_all i trees past) ∙ mapped schedule frame trees
+    ∙ ap (λ each. map (verdict schedule) (map (item_place frame) each)) same in
     subst (λ rest. HasVerdicts delivery (earlier ++ rest)) all has
 
 -- one frame more
@@ -65,8 +65,8 @@ pub frames_step : {A : Type 0} (verdict_of : Place → Verdict) (place : A → P
 frames_step verdict_of place delivery all i one within at has =
     let before = map place (take i all) in
     let joined : flat_map items_below before ++ items_below (place one) ≡ flat_map items_below (map place (take (i + 1) all)) =
-        ap (λ rest. flat_map items_below before ++ rest) (sym (append-nil (items_below (place one))))
-        ∙ sym (flat_map-append items_below before (place one ∷ [])) ∙ ap (flat_map items_below) (sym (map-take_more place all i one within at)) in
+    ap (λ rest. flat_map items_below before ++ rest) (sym (append-nil (items_below (place one))))
+    ∙ sym (flat_map-append items_below before (place one ∷ [])) ∙ ap (flat_map items_below) (sym (map-take_more place all i one within at)) in
     subst (HasVerdicts delivery) (sym (map-append verdict_of (flat_map items_below before) (items_below (place one))) ∙ ap (map verdict_of) joined) has
 
 -- a body that was read, and one that can't be

@@ -8,7 +8,10 @@ ghost use Rattle.siri_calls.specs.Seen.{call_of, calls_of};
 ghost use Rattle.siri_calls.specs.Shown.{ok_map, instant_of, trees_of, IsFaultOf};
 
 use crate::calls::Call;
-use crate::fields::{optional_flag, optional_moment, optional_object, optional_objects, optional_text, optional_whole, required_text};
+use crate::fields::{
+    optional_flag, optional_moment, optional_object, optional_objects, optional_text,
+    optional_whole, required_text,
+};
 use crate::read_fault::ReadFault;
 use gw_base::Member;
 use journey_model::Fault;

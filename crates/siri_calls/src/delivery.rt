@@ -83,9 +83,9 @@ pub struct Delivery {
 // What an item is, behind those before.
 fn add_item(delivery: &mut Delivery, judged: Judged) -> Result<(), AllocError>
     ensures verdicts { (earlier : Values (Answer (Recorded × ℕ) faults.Fault)) → HasVerdicts delivery.old earlier
-      → OnOk result (HasVerdicts delivery.new (earlier ++ shown_judged judged ∷ [])) }
+        → OnOk result (HasVerdicts delivery.new (earlier ++ shown_judged judged ∷ [])) }
     ensures servable { (schedule : Schedule) → AreServable schedule delivery.old.items → CanBeServed schedule judged
-      → OnOk result (AreServable schedule delivery.new.items) }
+        → OnOk result (AreServable schedule delivery.new.items) }
 {
     match judged {
         Judged::Taken { record, extras } => {
@@ -105,10 +105,10 @@ fn add_items(
     context: &Context<'_>,
 ) -> Result<(), AllocError>
     ensures verdicts { (earlier : Values (Answer (Recorded × ℕ) faults.Fault)) → HasVerdicts delivery.old earlier
-      → OnOk result (HasVerdicts delivery.new
-      (earlier ++ map (spec.verdict (schedule_of context.now)) (items_below (place_of frame.now)))) }
+        → OnOk result (HasVerdicts delivery.new
+        (earlier ++ map (spec.verdict (schedule_of context.now)) (items_below (place_of frame.now)))) }
     ensures servable { AreServable (schedule_of context.now) delivery.old.items
-      → OnOk result (AreServable (schedule_of context.now) delivery.new.items) }
+        → OnOk result (AreServable (schedule_of context.now) delivery.new.items) }
 {
     let trees = repeated_under(frame.tree, Member::EstimatedVehicleJourney);
     for tree in trees {
@@ -126,7 +126,7 @@ fn all_items(
     context: &Context<'_>,
 ) -> Result<Delivery, AllocError>
     ensures verdicts { IfOk result (λ delivery. HasVerdicts delivery
-      (map (spec.verdict (schedule_of context.now)) (flat_map items_below (map place_of frames.now)))) }
+        (map (spec.verdict (schedule_of context.now)) (flat_map items_below (map place_of frames.now)))) }
     ensures servable { IfOk result (λ delivery. AreServable (schedule_of context.now) delivery.items) }
 {
     let mut delivery = Delivery {

@@ -117,9 +117,7 @@ fn add_frames<'a>(
 {
     let trees = repeated_under(delivery, Member::EstimatedJourneyVersionFrame);
     if !are_objects(trees) {
-        return Err(DeliveryFault::NotDelivery(
-            Member::EstimatedJourneyVersionFrame,
-        ));
+        return Err(DeliveryFault::NotDelivery(Member::EstimatedJourneyVersionFrame));
     }
     for tree in trees {
         found.push(frame_place(tree, delivery, service))?;

@@ -56,7 +56,7 @@ fn moment_above(place: &Place<'_>, zone: &Zone) -> Form<Instant>
 // When an item was recorded.
 fn first_moment(place: &Place<'_>, zone: &Zone) -> Form<Instant>
     ensures { moment_form result ≡ spec.first_moment zone.now
-      (get (codes "RecordedAtTime") (place_of place.now).tree ∷ (place_of place.now).further) }
+        (get (codes "RecordedAtTime") (place_of place.now).tree ∷ (place_of place.now).further) }
 {
     match moment_at(place.tree.get("RecordedAtTime"), zone) {
         Form::Missing => match moment_at(place.frame, zone) {

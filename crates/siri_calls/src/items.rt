@@ -40,11 +40,7 @@ fn calls_unless<'a>(
 }
 
 // What an item is that is an object.
-fn item_read(
-    alloc: Global,
-    place: &Place<'_>,
-    context: &Context<'_>,
-) -> Result<Judged, ReadFault>
+fn item_read(alloc: Global, place: &Place<'_>, context: &Context<'_>) -> Result<Judged, ReadFault>
     ensures value { IfOk result (λ answer. shown_judged answer ≡ spec.item_read (schedule_of context.now) (place_of place.now)) }
     ensures fault { IfErr result (IsFaultOf (spec.item_read (schedule_of context.now) (place_of place.now))) }
     ensures servable { IfOk result (CanBeServed (schedule_of context.now)) }
@@ -70,9 +66,7 @@ pub(crate) fn verdict(
     ensures servable { IfOk result (CanBeServed (schedule_of context.now)) }
 {
     if !is_object(place.tree) {
-        return Ok(Judged::Aside(Fault::BadField(
-            Member::EstimatedVehicleJourney,
-        )));
+        return Ok(Judged::Aside(Fault::BadField(Member::EstimatedVehicleJourney)));
     }
     match item_read(alloc, place, context) {
         Ok(answer) => Ok(answer),

@@ -160,7 +160,7 @@ static CASES: [(&str, &str, &[Told], &str); 18] = [
 ];
 
 // The timetable of the folder.
-fn read_folder(alloc: Global) -> Result<Timetable, TableFault> {
+pub(crate) fn read_folder(alloc: Global) -> Result<Timetable, TableFault> {
     let mut files = List::new(alloc);
     for (name, bytes) in FOLDER.iter() {
         files.push((Text::copied(alloc, name)?, List::copied(alloc, bytes)?))?;
@@ -170,7 +170,7 @@ fn read_folder(alloc: Global) -> Result<Timetable, TableFault> {
 }
 
 // The first two days of May 2024.
-fn window(zone: &Zone) -> Option<Window> {
+pub(crate) fn window(zone: &Zone) -> Option<Window> {
     let first = read_day("2024-05-01", DayForm::Dashed)?;
     let number = first.number();
     if number < 365 || number > 2_932_000 {
@@ -213,7 +213,11 @@ fn call(told: &Told) -> Option<Call<'static>> {
 }
 
 // Adds how a stop reads.
-fn push_stop(alloc: Global, text: &mut String, reading: &StopReading) -> Result<(), AllocError> {
+pub(crate) fn push_stop(
+    alloc: Global,
+    text: &mut String,
+    reading: &StopReading,
+) -> Result<(), AllocError> {
     match reading {
         StopReading::Absent => text.push_str(" -"),
         StopReading::Skipped => text.push_str(" x"),

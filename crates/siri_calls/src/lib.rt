@@ -17,6 +17,8 @@ mod judging;
 mod judging_tests;
 mod matching_calls;
 mod read_fault;
+#[cfg(test)]
+mod tests;
 mod trip_run;
 
 pub use delivery::{Delivery, DeliveryFault, Item, read_delivery};

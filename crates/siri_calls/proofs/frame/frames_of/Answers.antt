@@ -11,6 +11,6 @@ returns-in-Err-clause-fault c =
     let i = c.loop-delivery.delivery-index in
     let trees = c.args.deliveries.now in
     let left : drop i trees ≡ c.delivery-item.result ∷ drop (i + 1) trees =
-        drop_more trees i c.delivery-item.result c.loop-delivery-test.true ∙ ap (λ y. y ∷ drop (i + 1) trees) (sym c.delivery-item.is) in
+    drop_more trees i c.delivery-item.result c.loop-delivery-test.true ∙ ap (λ y. y ∷ drop (i + 1) trees) (sym c.delivery-item.is) in
     one_refused _ (places_of c.loop-delivery.found.items) (delivery_place (view c.args.service.now) (view c.delivery-item.result))
     (map (delivery_place (view c.args.service.now)) (map view (drop (i + 1) trees))) c.in-Err.fault c.in-Err.ensures.fault (rw left at c.loop-delivery.invariant)
