@@ -1,0 +1,11 @@
+pub mod CallLemmas
+pub mod DeliveryLemmas
+pub mod DenseLemmas
+pub mod FormLemmas
+pub mod FrameLemmas
+pub mod OrderLemmas
+pub mod PlaceLemmas
+pub mod PlacedLemmas
+pub mod Prefixes
+pub mod ServableLemmas
+pub mod TreeLemmas

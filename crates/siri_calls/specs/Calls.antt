@@ -9,55 +9,62 @@ use Rattle.gw_base.specs.declared.member.Member.TheVariants as Member
 use Rattle.journey_model.specs.declared.fault.Fault.{Fault}
 use Rattle.serde_json.specs.Data.{Data}
 use Rattle.service_day.specs.declared.zones.Rules.{Rules}
+use Rattle.siri_calls.specs.declared.call_reading.Statuses.{Statuses}
 use Rattle.siri_calls.specs.Fields.{optional, optional_member, required_member, form_at}
 use Rattle.siri_calls.specs.Forms.{text, flag, whole, moment, object_form, objects}
-
--- a call that is read: the id of its stop, its number in the order of stops, from 1, whether the stop is skipped, and the
--- seconds since 1970 at which the journey arrives and departs there
-pub record Call : Type 0 where
-  pub stop : List ℕ
-  pub order : Option ℕ
-  pub skip : Bool
-  pub arrival : Option ℤ
-  pub departure : Option ℤ
+use Rattle.siri_calls.specs.Journeys.{Call}
 
 -- a status is `cancelled`, in any case of its letters
 abbrev pub says_cancelled : List ℕ → Bool
 says_cancelled status = bytes_eq (map to_ascii_lowercase status) (codes "cancelled")
 
-abbrev pub is_cancelled : Option (List ℕ) → Bool
-is_cancelled status = option_map_or says_cancelled status false
+-- a status, where there is one: whether it is `cancelled`
+abbrev pub status : Member → Data → Result (Option Bool) Fault
+status member tree = do
+  said ← optional_member text member tree
+  Ok (option_map says_cancelled said)
+
+abbrev pub is_cancelled : Option Bool → Bool
+is_cancelled status = unwrap_or status false
 
 -- a stop is skipped where the call is cancelled, or where one status is `cancelled` and the other is too or is missing
-abbrev pub is_skip : Option Bool → Option (List ℕ) → Option (List ℕ) → Bool
+abbrev pub is_skip : Option Bool → Option Bool → Option Bool → Bool
 is_skip cancellation arrival departure =
     unwrap_or cancellation false
     || ((is_cancelled arrival && (is_cancelled departure || is_none departure))
     || (is_cancelled departure && (is_cancelled arrival || is_none arrival)))
 
+-- what the members of a call say of whether the journey stops there
+abbrev pub statuses : Data → Result Statuses Fault
+statuses tree = do
+  cancellation ← optional_member flag Member.Cancellation tree
+  arrival ← status Member.ArrivalStatus tree
+  departure ← status Member.DepartureStatus tree
+  Ok (record {
+    skip = is_skip cancellation arrival departure;
+    no_arrival = is_cancelled arrival;
+    no_departure = is_cancelled departure;
+  })
+
 -- the time of an event, in whole seconds: none where its status is `cancelled`, else the actual time, else the expected one
-abbrev pub event_time : Option (List ℕ) → Option (ℤ × ℕ) → Option (ℤ × ℕ) → Option ℤ
-event_time status actual expected = if is_cancelled status then None else option_map (λ instant. instant.0) (option_or actual expected)
+abbrev pub event_time : Bool → Option (ℤ × ℕ) → Option (ℤ × ℕ) → Option ℤ
+event_time none actual expected = if none then None else option_map (λ instant. instant.0) (option_or actual expected)
+
+abbrev pub event : Rules → Bool → Member → Member → Data → Result (Option ℤ) Fault
+event zone none actual_member expected_member tree = do
+  actual ← optional_member (moment zone) actual_member tree
+  expected ← optional_member (moment zone) expected_member tree
+  Ok (event_time none actual expected)
 
 -- what the members of a call that is no extra call give
 abbrev pub call_read : Rules → Data → Result Call Fault
 call_read zone tree = do
   stop ← required_member text Member.StopPointRef tree
   order ← optional_member whole Member.Order tree
-  cancellation ← optional_member flag Member.Cancellation tree
-  arrival_status ← optional_member text Member.ArrivalStatus tree
-  departure_status ← optional_member text Member.DepartureStatus tree
-  actual_arrival ← optional_member (moment zone) Member.ActualArrivalTime tree
-  expected_arrival ← optional_member (moment zone) Member.ExpectedArrivalTime tree
-  actual_departure ← optional_member (moment zone) Member.ActualDepartureTime tree
-  expected_departure ← optional_member (moment zone) Member.ExpectedDepartureTime tree
-  Ok (record {
-    stop = stop;
-    order = order;
-    skip = is_skip cancellation arrival_status departure_status;
-    arrival = event_time arrival_status actual_arrival expected_arrival;
-    departure = event_time departure_status actual_departure expected_departure;
-  })
+  said ← statuses tree
+  arrival ← event zone said.no_arrival Member.ActualArrivalTime Member.ExpectedArrivalTime tree
+  departure ← event zone said.no_departure Member.ActualDepartureTime Member.ExpectedDepartureTime tree
+  Ok (record { stop = stop; order = order; skip = said.skip; arrival = arrival; departure = departure })
 
 -- a call: none where it is an extra call, which is passed over with its other members unread
 abbrev pub unless_extra : Rules → Data → Bool → Result (Option Call) Fault
@@ -97,3 +104,9 @@ call_trees tree = do
   before ← trees_under Member.RecordedCalls Member.RecordedCall tree
   after ← trees_under Member.EstimatedCalls Member.EstimatedCall tree
   Ok (before ++ after)
+
+-- the calls of a journey's tree
+abbrev pub calls_under : Rules → Data → Result (List (Option Call)) Fault
+calls_under zone tree = do
+  trees ← call_trees tree
+  calls zone trees

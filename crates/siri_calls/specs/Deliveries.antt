@@ -1,10 +1,12 @@
 -- What the answer of reading a delivery says.
 use Rattle.std.specs.Prelude.{◌≡◌, ℕ, List, map, Option, Some, None, Result, Ok, Err, ⊤}
+use Rattle.std.specs.List.{AllByRecursion}
 use Rattle.gw_base.specs.declared.member.Member.{Member}
 use Rattle.journey_model.specs.Records.{Recorded, recorded}
 use Rattle.journey_model.specs.Schedules.{Schedule}
 use Rattle.journey_model.specs.declared.fault.Fault.{Fault}
 use Rattle.serde_json.specs.Data.{Data}
+use Rattle.siri_calls.specs.Servable.{IsServable}
 use Rattle.siri_calls.specs.Verdicts.{verdicts, passed_count, tree_of}
 use Rattle.siri_calls.specs.declared.delivery.Delivery.{Delivery}
 use Rattle.siri_calls.specs.declared.delivery.DeliveryFault.{DeliveryFault}
@@ -46,3 +48,11 @@ Reads schedule (Some root) answer = ReadsTree (verdicts schedule root) answer
 -- the answer of `read_delivery` for a body
 abbrev pub ReadsBody : Schedule → List ℕ → Result Delivery DeliveryFault → Type 0
 ReadsBody schedule body answer = Reads schedule (tree_of body) answer
+
+-- each record that is taken can be served
+abbrev pub IsServableItem : Schedule → Item → Type 0
+IsServableItem schedule (Taken one) = IsServable schedule one
+IsServableItem schedule (Aside fault) = ⊤
+
+abbrev pub AreServable : Schedule → List Item → Type 0
+AreServable schedule items = AllByRecursion (IsServableItem schedule) items

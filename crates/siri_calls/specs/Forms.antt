@@ -38,7 +38,7 @@ text_under_value (Some (number n)) = Wrong
 text_under_value (Some (string text)) = filled text
 text_under_value (Some (array no_items)) = Missing
 text_under_value (Some (array (item first others))) = Wrong
-text_under_value (Some (object members)) = Wrong
+text_under_value (Some (object parts)) = Wrong
 
 -- a string, or an object whose `value` is a string
 abbrev pub plain_text : Data → Form (List ℕ)
@@ -47,7 +47,7 @@ plain_text (boolean b) = Wrong
 plain_text (number n) = Wrong
 plain_text (string text) = filled text
 plain_text (array items) = Wrong
-plain_text (object members) = text_under_value (get_member (codes "value") members)
+plain_text (object parts) = text_under_value (get_member (codes "value") parts)
 
 -- a Text: one of these, or an array whose first item is one of these
 abbrev pub text : Data → Form (List ℕ)
@@ -57,7 +57,7 @@ text (number n) = Wrong
 text (string s) = plain_text (string s)
 text (array no_items) = Missing
 text (array (item first others)) = plain_text first
-text (object members) = plain_text (object members)
+text (object parts) = plain_text (object parts)
 
 -- a Flag: a Boolean, or a Text among `true`, `1`, `false` and `0`
 abbrev pub flag_named : List ℕ → Form Bool
@@ -76,7 +76,7 @@ flag (boolean b) = Found b
 flag (number n) = Wrong
 flag (string s) = text_flag (string s)
 flag (array items) = text_flag (array items)
-flag (object members) = text_flag (object members)
+flag (object parts) = text_flag (object parts)
 
 -- a Whole: a number in decimal digits alone, or a Text of 1 to 20 decimal digits, below 2^64
 abbrev pub whole_named : List ℕ → Form ℕ
@@ -98,7 +98,7 @@ whole (boolean b) = Wrong
 whole (number n) = whole_number n
 whole (string s) = text_whole (string s)
 whole (array items) = text_whole (array items)
-whole (object members) = text_whole (object members)
+whole (object parts) = text_whole (object parts)
 
 -- a moment's Text in a zone, as seconds since 1970 and nanoseconds; and a day's, dashed or compact
 abbrev pub moment : Rules → Data → Form (ℤ × ℕ)
@@ -116,7 +116,7 @@ object_form (string []) = Missing
 object_form (string (byte ∷ bytes)) = Wrong
 object_form (array no_items) = Missing
 object_form (array (item first others)) = Wrong
-object_form (object members) = Found (object members)
+object_form (object parts) = Found (object parts)
 
 -- the items of a repeated element, which is an array or one item
 abbrev pub listed : Items → List Data
@@ -130,7 +130,7 @@ repeated (number n) = number n ∷ []
 repeated (string []) = []
 repeated (string (byte ∷ bytes)) = string (byte ∷ bytes) ∷ []
 repeated (array items) = listed items
-repeated (object members) = object members ∷ []
+repeated (object parts) = object parts ∷ []
 
 abbrev pub is_object : Data → Bool
 is_object null = false
@@ -138,7 +138,7 @@ is_object (boolean b) = false
 is_object (number n) = false
 is_object (string s) = false
 is_object (array items) = false
-is_object (object members) = true
+is_object (object parts) = true
 
 -- a repeated element whose items must be objects; none where it is missing
 abbrev pub objects : Data → Form (List Data)

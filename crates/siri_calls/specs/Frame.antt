@@ -13,13 +13,9 @@ use Rattle.siri_calls.specs.Forms.{is_object, object_form, repeated}
 use Rattle.siri_calls.specs.declared.forms.Form.{Form}
 use Rattle.siri_calls.specs.declared.forms.Form.TheVariants.{Missing, Wrong, Found}
 
--- a journey's item, and the members that may say when it was recorded where it doesn't itself, the nearest first
-pub record Item : Type 0 where
-  pub tree : Data
-  pub further : List (Option Data)
-
--- the trees below an object of a delivery, with the members of the objects above that may say when they were recorded
-pub record Level : Type 0 where
+-- an object of a delivery or a journey's item, and the members that may say when it was recorded where it doesn't itself, the
+-- nearest first
+pub record Place : Type 0 where
   pub tree : Data
   pub further : List (Option Data)
 
@@ -51,48 +47,67 @@ there member (Some (boolean b)) = Err member
 there member (Some (number n)) = Err member
 there member (Some (string s)) = Err member
 there member (Some (array items)) = each_object member (repeated (array items))
-there member (Some (object members)) = Ok (object members ∷ [])
+there member (Some (object parts)) = Ok (object parts ∷ [])
 
 -- the items of an element that may be missing
+abbrev pub repeated_at : Option Data → List Data
+repeated_at None = []
+repeated_at (Some found) = repeated found
+
 abbrev pub repeated_under : Member → Data → List Data
-repeated_under member tree = items (get (member_name member) tree)
-  where
-    items : Option Data → List Data
-    items None = []
-    items (Some found) = repeated found
+repeated_under member tree = repeated_at (get (member_name member) tree)
 
--- what is below each of some objects, where the member of that name in each says when it was recorded
-abbrev pub levels_below : Member → Member → Level → List Level
-levels_below member moment level =
-    map (λ tree. record { tree = tree; further = get (member_name moment) tree ∷ level.further }) (repeated_under member level.tree)
+-- the deliveries of a service delivery: each may say when its journeys were recorded, and so may the service delivery
+abbrev pub delivery_place : Data → Data → Place
+delivery_place service tree = record {
+  tree = tree;
+  further = get (codes "ResponseTimestamp") tree ∷ get (codes "ResponseTimestamp") service ∷ [];
+}
 
--- all of them, where each is an object
-abbrev pub objects_below : Member → Member → List Level → Result (List Level) Member
-objects_below member moment levels = checked (flat_map (levels_below member moment) levels)
-  where
-    checked : List Level → Result (List Level) Member
-    checked below = if list_all (λ level. is_object level.tree) below then Ok below else Err member
-
--- the journeys below a frame
-abbrev pub items_below : Level → List Item
-items_below level =
-    map (λ tree. record { tree = tree; further = level.further }) (repeated_under Member.EstimatedVehicleJourney level.tree)
-
--- the deliveries of a service delivery
-abbrev pub deliveries_in : Data → Result (List Level) Member
+abbrev pub deliveries_in : Data → Result (List Place) Member
 deliveries_in service = do
   trees ← there Member.EstimatedTimetableDelivery (get (codes "EstimatedTimetableDelivery") service)
-  Ok (map (λ tree. record {
-    tree = tree;
-    further = get (codes "ResponseTimestamp") tree ∷ get (codes "ResponseTimestamp") service ∷ [];
-  }) trees)
+  Ok (map (delivery_place service) trees)
 
--- the journeys of a delivery's tree in document order, or the first row of the frame that is broken: level by level, over
--- all items of a level
-abbrev pub items : Data → Result (List Item) Member
-items root = do
+-- the frames below a delivery: each may say when its journeys were recorded
+abbrev pub frame_place : Place → Data → Place
+frame_place delivery tree = record { tree = tree; further = get (codes "RecordedAtTime") tree ∷ delivery.further }
+
+abbrev pub frames_below : Place → List Place
+frames_below delivery = map (frame_place delivery) (repeated_under Member.EstimatedJourneyVersionFrame delivery.tree)
+
+-- the frames below all deliveries, where each is an object
+abbrev pub has_object : Place → Bool
+has_object place = is_object place.tree
+
+abbrev pub all_objects : List Place → Result (List Place) Member
+all_objects frames = if list_all has_object frames then Ok frames else Err Member.EstimatedJourneyVersionFrame
+
+abbrev pub frames_of : List Place → Result (List Place) Member
+frames_of deliveries = all_objects (flat_map frames_below deliveries)
+
+-- the journeys below a frame
+abbrev pub item_place : Place → Data → Place
+item_place frame tree = record { tree = tree; further = frame.further }
+
+abbrev pub items_below : Place → List Place
+items_below frame = map (item_place frame) (repeated_under Member.EstimatedVehicleJourney frame.tree)
+
+-- the service delivery of a tree, and its frames, or the first row of the way down that is broken: level by level, over all
+-- items of a level
+abbrev pub service_in : Data → Result Data Member
+service_in root = do
   body ← siri root
-  service ← needed Member.ServiceDelivery (member_form object_form Member.ServiceDelivery body)
+  needed Member.ServiceDelivery (member_form object_form Member.ServiceDelivery body)
+
+abbrev pub frames_in : Data → Result (List Place) Member
+frames_in root = do
+  service ← service_in root
   deliveries ← deliveries_in service
-  frames ← objects_below Member.EstimatedJourneyVersionFrame Member.RecordedAtTime deliveries
+  frames_of deliveries
+
+-- the journeys of a delivery's tree in document order, or the member that is wrong
+abbrev pub items : Data → Result (List Place) Member
+items root = do
+  frames ← frames_in root
   Ok (flat_map items_below frames)

@@ -3,4 +3,12 @@ pub mod Deliveries
 pub mod Fields
 pub mod Forms
 pub mod Frame
+pub mod Journeys
+pub mod Judged
+pub mod Judgements
+pub mod MatchedCalls
+pub mod Seen
+pub mod Servable
+pub mod Shown
+pub mod TripRuns
 pub mod Verdicts

@@ -1,33 +1,25 @@
 -- What an item of a delivery is: a record of a journey, or the first fault for which it is set aside (SIRI 2.0,
 -- EstimatedVehicleJourney).
-use Rattle.std.specs.Prelude.{◌==◌, ◌+◌, ℕ, ℤ, pos, Bool, true, false, List, [], ◌∷◌, length, map, position, find, sum_by, min, Option, Some, None, option_and_then, unwrap_or, Result, Ok, Err, if◌then◌else◌, codes, option_map}
-use Rattle.std.specs.List.{list_any, range_with_len}
-use Rattle.std.specs.Option.{ok_or, option_or}
-use Rattle.std.specs.Str.{bytes_eq, is_utf8}
+use Rattle.std.specs.Prelude.{ℕ, ℤ, Bool, true, false, List, [], ◌∷◌, map, sum_by, min, Option, None, unwrap_or, Result, Ok, Err, if◌then◌else◌, codes}
+use Rattle.std.specs.Str.{is_utf8}
 use Rattle.journey_model.specs.Chains.{◌>>=◌}
 use Rattle.gw_base.specs.Count.{last_count}
 use Rattle.gw_base.specs.declared.member.Member.{Member}
 use Rattle.gw_base.specs.declared.member.Member.TheVariants as Member
-use Rattle.journey_model.specs.Matching.{call_place, is_of_stop}
-use Rattle.journey_model.specs.Propagation.{timed}
 use Rattle.journey_model.specs.Records.{Recorded}
-use Rattle.journey_model.specs.Runs.{Run, planned_at}
-use Rattle.journey_model.specs.Schedules.{Schedule, run_on}
-use Rattle.journey_model.specs.Times.{both_times, delay_fault}
+use Rattle.journey_model.specs.Schedules.{Schedule}
 use Rattle.journey_model.specs.declared.fault.Fault.{Fault}
-use Rattle.journey_model.specs.declared.fault.Fault.TheVariants.{BadField, AddedJourney, UnknownJourney, OutOfWindow, NotRunning, UnknownStop, OutOfOrder}
-use Rattle.journey_model.specs.declared.readings.JourneyReading.{JourneyReading}
-use Rattle.journey_model.specs.declared.readings.JourneyReading.TheVariants.{Cancelled, Stops}
-use Rattle.journey_model.specs.declared.readings.StopReading.{StopReading}
-use Rattle.journey_model.specs.declared.readings.StopReading.TheVariants.{Absent, Skipped}
+use Rattle.journey_model.specs.declared.fault.Fault.TheVariants.{BadField}
 use Rattle.serde_json.specs.Data.{Data}
 use Rattle.serde_json.specs.Find.{get}
 use Rattle.serde_json.specs.Read.{read}
 use Rattle.service_day.specs.declared.zones.Rules.{Rules}
-use Rattle.siri_calls.specs.Calls.{Call, calls, call_trees}
+use Rattle.siri_calls.specs.Calls.{calls_under}
 use Rattle.siri_calls.specs.Fields.{required, form_at, optional_member, required_member}
-use Rattle.siri_calls.specs.Forms.{text, flag, day, object_form, is_object, then_form, found_or_wrong, moment}
-use Rattle.siri_calls.specs.Frame.{Item, items}
+use Rattle.siri_calls.specs.Forms.{text, flag, day, object_form, is_object, moment}
+use Rattle.siri_calls.specs.Frame.{Place, items}
+use Rattle.siri_calls.specs.Journeys.{Header, Call}
+use Rattle.siri_calls.specs.Judged.{judged}
 use Rattle.siri_calls.specs.declared.forms.Form.{Form}
 use Rattle.siri_calls.specs.declared.forms.Form.TheVariants.{Missing, Wrong, Found}
 
@@ -41,136 +33,39 @@ abbrev pub first_moment : Rules → List (Option Data) → Form (ℤ × ℕ)
 first_moment zone [] = Missing
 first_moment zone (place ∷ places) = or_further zone (form_at (moment zone) place) (first_moment zone places)
 
--- what an item says before its calls: the instant of recording, the service day, the trip's id, and whether the journey is
--- cancelled or an extra one
-pub record Header : Type 0 where
-  pub at : ℤ × ℕ
-  pub day : ℤ
-  pub trip_id : List ℕ
-  pub cancelled : Bool
-  pub extra : Bool
+abbrev pub recorded_at : Rules → Place → Result (ℤ × ℕ) Fault
+recorded_at zone place = required Member.RecordedAtTime (first_moment zone (get (codes "RecordedAtTime") place.tree ∷ place.further))
 
-abbrev pub header : Rules → Item → Result Header Fault
-header zone item = do
-  at ← required Member.RecordedAtTime (first_moment zone (get (codes "RecordedAtTime") item.tree ∷ item.further))
-  reference ← required_member object_form Member.FramedVehicleJourneyRef item.tree
-  day_named ← required_member day Member.DataFrameRef reference
+-- whether the journey is cancelled, and whether it is an extra one
+abbrev pub relation : Data → Result (Bool × Bool) Fault
+relation tree = do
+  cancelled ← optional_member flag Member.Cancellation tree
+  extra ← optional_member flag Member.ExtraJourney tree
+  Ok (unwrap_or cancelled false, unwrap_or extra false)
+
+-- what an item says before its calls
+abbrev pub header : Rules → Place → Result Header Fault
+header zone place = do
+  at ← recorded_at zone place
+  reference ← required_member object_form Member.FramedVehicleJourneyRef place.tree
+  service_day ← required_member day Member.DataFrameRef reference
   trip_id ← required_member text Member.DatedVehicleJourneyRef reference
-  cancelled ← optional_member flag Member.Cancellation item.tree
-  extra ← optional_member flag Member.ExtraJourney item.tree
-  Ok (record { at = at; day = day_named; trip_id = trip_id; cancelled = unwrap_or cancelled false; extra = unwrap_or extra false })
+  said ← relation place.tree
+  Ok (record { at = at; day = service_day; trip_id = trip_id; cancelled = said.0; extra = said.1 })
 
 -- the calls of an item, which aren't read where the journey is cancelled
 abbrev pub calls_unless : Bool → Rules → Data → Result (List (Option Call)) Fault
 calls_unless true zone tree = Ok []
-calls_unless false zone tree = do
-  trees ← call_trees tree
-  calls zone trees
-
--- the calls that are read, each with its number among all
-abbrev pub numbered : ℕ → List (Option Call) → List (ℕ × Call)
-numbered number [] = []
-numbered number (None ∷ others) = numbered (number + 1) others
-numbered number (Some one ∷ others) = (number, one) ∷ numbered (number + 1) others
-
--- the number of a call's stop, where the trip has it
-abbrev pub stop_of_trip : Run → ℕ → Option ℕ
-stop_of_trip run stop = if list_any (is_of_stop stop) run.stops then Some stop else None
-
-abbrev pub stop_named : Run → List ℕ → Option ℕ
-stop_named run id = option_and_then (stop_of_trip run) (position (bytes_eq id) run.ids)
-
--- the stops of all calls, or the fault of the first call whose stop the trip doesn't have
-abbrev pub stops_named : Run → List (ℕ × Call) → Result (List (ℕ × (ℕ × Call))) Fault
-stops_named run [] = Ok []
-stops_named run (one ∷ others) = do
-  stop ← ok_or (stop_named run one.1.stop) (UnknownStop one.0)
-  rest ← stops_named run others
-  Ok ((stop, one) ∷ rest)
-
--- the places of calls with their stops, behind the place before, or the fault of the first call of no later stop
-abbrev pub placed_calls : Run → Option ℕ → List (ℕ × (ℕ × Call)) → Result (List (ℕ × (ℕ × Call))) Fault
-placed_calls run after [] = Ok []
-placed_calls run after (one ∷ others) = do
-  place ← ok_or (call_place run.stops after one.0 one.1.1.order) (OutOfOrder one.1.0)
-  rest ← placed_calls run (Some place) others
-  Ok ((place, one.1) ∷ rest)
-
--- the fault of the first event whose delay is over a week; a call that skips its stop has no event
-abbrev pub fault_of_delay : Run → ℕ × (ℕ × Call) → Option Fault
-fault_of_delay run one =
-    if one.1.1.skip then None else delay_fault one.1.0 (planned_at run one.0) one.1.1.arrival one.1.1.departure
-
-abbrev pub delays_fault : Run → List (ℕ × (ℕ × Call)) → Option Fault
-delays_fault run [] = None
-delays_fault run (one ∷ others) = option_or (fault_of_delay run one) (delays_fault run others)
-
--- how a call reads at its stop
-abbrev pub call_reading : ℤ × ℤ → Call → StopReading
-call_reading planned one = if one.skip then Skipped else timed (both_times planned one.arrival one.departure)
-
--- the dense reading: at each stop the call that is matched to it; a stop without a call is absent
-abbrev pub reading_at : Run → ℕ → Option (ℕ × (ℕ × Call)) → StopReading
-reading_at run place None = Absent
-reading_at run place (Some one) = call_reading (planned_at run place) one.1.1
-
-abbrev pub dense : Run → List (ℕ × (ℕ × Call)) → ℕ → StopReading
-dense run placed place = reading_at run place (find (λ one. one.0 == place) placed)
-
-abbrev pub all_dense : Run → List (ℕ × (ℕ × Call)) → List StopReading
-all_dense run placed = map (dense run placed) (range_with_len 0 (length run.stops))
-
--- the reading, unless a delay is over a week
-abbrev pub dense_unless : Option Fault → List StopReading → Result JourneyReading Fault
-dense_unless None readings = Ok (Stops readings)
-dense_unless (Some fault) readings = Err fault
-
--- how the calls of a journey read its trip on its day, or the first fault
-abbrev pub stops_read : Run → List (Option Call) → Result JourneyReading Fault
-stops_read run all = do
-  named ← stops_named run (numbered 0 all)
-  placed ← placed_calls run None named
-  dense_unless (delays_fault run placed) (all_dense run placed)
-
-abbrev pub journey_read : Run → Bool → List (Option Call) → Result JourneyReading Fault
-journey_read run true all = Ok Cancelled
-journey_read run false all = stops_read run all
-
--- how many calls are extra ones
-abbrev pub extras : List (Option Call) → ℕ
-extras [] = 0
-extras (None ∷ others) = extras others + 1
-extras (Some one ∷ others) = extras others
-
--- what a journey of a trip that runs on the day is, with how many calls were passed over
-abbrev pub taken : Header → ℕ → List (Option Call) → JourneyReading → Recorded × ℕ
-taken head trip all reading = (record { trip = trip; day = head.day; at = head.at; reading = reading }, extras all)
-
-abbrev pub unless_extra : Bool → Result ℕ Fault
-unless_extra true = Err AddedJourney
-unless_extra false = Ok 0
-
-abbrev pub running : Schedule → ℕ → ℤ → Run → Result Run Fault
-running schedule trip on run = if schedule.table.runs trip on then Ok run else Err NotRunning
-
--- what a journey is by its header and its calls: the first fault in this order, or its record
-abbrev pub judged : Schedule → Header → List (Option Call) → Result (Recorded × ℕ) Fault
-judged schedule head all = do
-  none ← unless_extra head.extra
-  trip ← ok_or (position (bytes_eq head.trip_id) schedule.table.trips) UnknownJourney
-  run ← ok_or (run_on schedule trip head.day) OutOfWindow
-  dated ← running schedule trip head.day run
-  reading ← journey_read dated head.cancelled all
-  Ok (taken head trip all reading)
+calls_unless false zone tree = calls_under zone tree
 
 -- what an item is: its members are read, and then its journey is judged
-abbrev pub item_read : Schedule → Item → Result (Recorded × ℕ) Fault
+abbrev pub item_read : Schedule → Place → Result (Recorded × ℕ) Fault
 item_read schedule item = do
   head ← header schedule.zone item
   all ← calls_unless head.cancelled schedule.zone item.tree
   judged schedule head all
 
-abbrev pub verdict : Schedule → Item → Result (Recorded × ℕ) Fault
+abbrev pub verdict : Schedule → Place → Result (Recorded × ℕ) Fault
 verdict schedule item =
     if is_object item.tree then item_read schedule item else Err (BadField Member.EstimatedVehicleJourney)
 

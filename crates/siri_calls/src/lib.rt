@@ -1,2 +1,24 @@
-//! In work.
+//! Deliveries of estimated timetables (SIRI 2.0, in JSON after SIRI Lite): what each journey of one says.
 #![tactic(auto)]
+
+mod call_reading;
+mod calls;
+mod delays;
+mod delivery;
+mod dense;
+mod fields;
+mod forms;
+mod frame;
+mod header;
+mod items;
+mod judgement;
+mod judging;
+#[cfg(test)]
+mod judging_tests;
+mod matching_calls;
+mod read_fault;
+#[cfg(test)]
+mod tests;
+mod trip_run;
+
+pub use delivery::{Delivery, DeliveryFault, Item, read_delivery};

@@ -1,0 +1,218 @@
+-- What is recorded of a journey can be served.
+use Rattle.std.proofs.Common.{◌≡◌, ◌∙◌, ◌<◌, ◌+◌, ◌&&◌, ◌==◌, ℕ, ℤ, pos, ◌+ℤ◌, ◌-ℤ◌, zero, suc, Bool, true, false, cond, List, [], ◌∷◌, length, map, find, position, slice_get, Option, Some, None, is_some, option_map, Result, Ok, Err, refl, ap, sym, arith, subst, add-zero, add-one}
+use Rattle.std.specs.List.{range_with_len}
+use Rattle.std.specs.Option.{ok_or, option_or, option_map_or}
+use Rattle.std.specs.Cmp.Derive.{both_true}
+use Rattle.std.specs.Str.{bytes_eq}
+use Rattle.std.proofs.lemmas.Bool.Decides.{nat_tests}
+use Rattle.std.proofs.lemmas.Int.{ints}
+use Rattle.std.proofs.lemmas.List.Quantifiers.{position-Some}
+use Rattle.journey_model.specs.Chains.{◌>>=◌}
+use Rattle.journey_model.specs.Propagation.{timed}
+use Rattle.journey_model.specs.Readings.{are_near, fits_trip, is_near}
+use Rattle.journey_model.specs.Records.{Recorded, recorded}
+use Rattle.journey_model.specs.Runs.{Run, planned_at}
+use Rattle.journey_model.specs.Schedules.{Schedule, in_window, run_from, run_on}
+use Rattle.service_day.specs.Windows.{start_in}
+use Rattle.journey_model.specs.Times.{both_times, delay_fault, event_fault, is_delay}
+use Rattle.journey_model.specs.declared.fault.Fault.{Fault}
+use Rattle.journey_model.specs.declared.fault.Fault.TheVariants.{DelayRange, NotRunning, OutOfWindow, UnknownJourney, AddedJourney}
+use Rattle.journey_model.specs.declared.readings.JourneyReading.{JourneyReading}
+use Rattle.journey_model.specs.declared.readings.JourneyReading.TheVariants.{Cancelled, Stops}
+use Rattle.journey_model.specs.declared.readings.JourneyRecord.{JourneyRecord}
+use Rattle.journey_model.specs.declared.readings.StopReading.{StopReading}
+use Rattle.journey_model.specs.declared.readings.StopReading.TheVariants.{Absent, Skipped, Timed}
+use Rattle.stop_schedule.specs.Planned.{planned}
+use Rattle.stop_schedule.specs.declared.stop_times.StopRow.{StopRow}
+use Rattle.siri_calls.specs.Journeys.{Call, Header}
+use Rattle.siri_calls.specs.Judged as spec
+use Rattle.siri_calls.specs.Servable.{IsServable}
+
+-- a time whose event has no fault is at most a week from the planned one
+event-near : (number : ℕ) (plan time : ℤ) → event_fault number plan (Some time) ≡ None → is_delay (time -ℤ plan) ≡ true
+event-near number plan time none = by (is_delay (time -ℤ plan)) none
+  where
+    by : (b : Bool) → cond b None (Some (DelayRange number (time -ℤ plan))) ≡ None → b ≡ true
+    by true h = refl
+    by false h = absurd (cc)
+
+neither : (first second : Option Fault) → option_or first second ≡ None → (first ≡ None) × (second ≡ None)
+neither None second h = (refl, h)
+neither (Some fault) second h = absurd (cc)
+
+shifted : (plan delay : ℤ) → (plan +ℤ delay) -ℤ plan ≡ delay
+shifted plan delay = omega (arith, ints)
+
+-- the times of events without a fault are near
+times-near : (number : ℕ) (plan : ℤ × ℤ) (arrival departure : Option ℤ) → delay_fault number plan arrival departure ≡ None
+    → is_near plan (timed (both_times plan arrival departure)) ≡ true
+times-near number plan (Some arrival) (Some departure) none =
+    let both = neither (event_fault number plan.0 (Some arrival)) (event_fault number plan.1 (Some departure)) none in
+    both_true (event-near number plan.0 arrival both.0) (event-near number plan.1 departure both.1)
+times-near number plan (Some arrival) None none =
+    let both = neither (event_fault number plan.0 (Some arrival)) None none in
+    let near : is_delay (arrival -ℤ plan.0) ≡ true = event-near number plan.0 arrival both.0 in
+    both_true near (ap is_delay (shifted plan.1 (arrival -ℤ plan.0)) ∙ near)
+times-near number plan None (Some departure) none =
+    let near : is_delay (departure -ℤ plan.1) ≡ true = event-near number plan.1 departure none in
+    both_true (ap is_delay (shifted plan.0 (departure -ℤ plan.1)) ∙ near) near
+times-near number plan None None none = refl
+
+call-near : (number : ℕ) (plan : ℤ × ℤ) (skip : Bool) (arrival departure : Option ℤ) → cond skip None (delay_fault number plan arrival departure) ≡ None
+    → is_near plan (cond skip Skipped (timed (both_times plan arrival departure))) ≡ true
+call-near number plan true arrival departure none = refl
+call-near number plan false arrival departure none = times-near number plan arrival departure none
+
+-- of calls without such a fault, one that is found at a place has none and is at the place
+found-near : (run : Run) (placed : List (ℕ × (ℕ × Call))) (place : ℕ) (one : ℕ × (ℕ × Call)) → spec.delays_fault run placed ≡ None
+    → find (λ other. other.0 == place) placed ≡ Some one → (spec.fault_of_delay run one ≡ None) × (one.0 ≡ place)
+found-near run [] place one none found = absurd (cc)
+found-near run (first ∷ others) place one none found =
+    by (first.0 == place) refl found (found-near run others place one (neither (spec.fault_of_delay run first) _ none).1)
+  where
+    by : (b : Bool) → (first.0 == place) ≡ b → cond b (Some first) (find (λ other. other.0 == place) others) ≡ Some one
+        → (find (λ other. other.0 == place) others ≡ Some one → (spec.fault_of_delay run one ≡ None) × (one.0 ≡ place))
+        → (spec.fault_of_delay run one ≡ None) × (one.0 ≡ place)
+    by true e h later =
+        let same : first ≡ one = cc in
+        let here : first.0 ≡ place = grind (arith, nat_tests) in
+        (subst (λ x. spec.fault_of_delay run x ≡ None) same (neither (spec.fault_of_delay run first) (spec.delays_fault run others) none).0, subst (λ x. x.0 ≡ place) same here)
+    by false e h later = later h
+
+dense-near : (run : Run) (placed : List (ℕ × (ℕ × Call))) (place : ℕ) → spec.delays_fault run placed ≡ None
+    → is_near (planned_at run place) (spec.dense run placed place) ≡ true
+dense-near run placed place none = by (find (λ one. one.0 == place) placed) refl
+  where
+    by : (found : Option (ℕ × (ℕ × Call))) → find (λ one. one.0 == place) placed ≡ found → is_near (planned_at run place) (spec.reading_at run place found) ≡ true
+    by None e = refl
+    by (Some one) e =
+        let near = found-near run placed place one none e in
+        let fault = subst (λ p. cond one.1.1.skip None (delay_fault one.1.0 (planned_at run p) one.1.1.arrival one.1.1.departure) ≡ None) near.1 near.0 in
+        call-near one.1.0 (planned_at run place) one.1.1.skip one.1.1.arrival one.1.1.departure fault
+
+-- readings that are near at each place
+all-near : (start : ℤ) (rows : List StopRow) (f : ℕ → StopReading) (from : ℕ)
+    → ((k j : ℕ) (row : StopRow) → from + k ≡ j → slice_get rows k ≡ Some row → is_near (planned start row) (f j) ≡ true)
+    → are_near start rows (map f (range_with_len from (length rows))) ≡ true
+all-near start [] f from near = refl
+all-near start (row ∷ rows) f from near =
+    both_true (near 0 from row (add-zero from) refl)
+    (all-near start rows f (from + 1) (λ k j other e at. near (suc k) j other (omega (arith, e)) at))
+
+-- the dense reading of calls without such a fault fits their trip
+dense-fits : (run : Run) (placed : List (ℕ × (ℕ × Call))) → spec.delays_fault run placed ≡ None
+    → are_near run.start run.stops (spec.all_dense run placed) ≡ true
+dense-fits run placed none =
+    all-near run.start run.stops (spec.dense run placed) 0 (λ k j row e at.
+    let here : k ≡ j = omega (arith, e) in
+    let there : slice_get run.stops j ≡ Some row = subst (λ i. slice_get run.stops i ≡ Some row) here at in
+    subst (λ p. is_near (option_map_or (planned run.start) p (pos 0, pos 0)) (spec.dense run placed j) ≡ true) there (dense-near run placed j none))
+
+-- ---- what is read of a journey fits its trip
+
+unless-fits : (run : Run) (placed : List (ℕ × (ℕ × Call))) (reading : JourneyReading)
+    → spec.dense_unless (spec.delays_fault run placed) (spec.all_dense run placed) ≡ Ok reading → fits_trip run.start run.stops reading ≡ true
+unless-fits run placed reading h = by (spec.delays_fault run placed) refl h
+  where
+    by : (fault : Option Fault) → spec.delays_fault run placed ≡ fault → spec.dense_unless fault (spec.all_dense run placed) ≡ Ok reading
+        → fits_trip run.start run.stops reading ≡ true
+    by (Some fault) e told = absurd (cc)
+    by None e told =
+        let same : Stops (spec.all_dense run placed) ≡ reading = cc in
+        subst (λ r. fits_trip run.start run.stops r ≡ true) same (dense-fits run placed e)
+
+stops-fit : (run : Run) (all : List (Option Call)) (reading : JourneyReading) → spec.stops_read run all ≡ Ok reading → fits_trip run.start run.stops reading ≡ true
+stops-fit run all reading h = by (spec.stops_named run (spec.numbered 0 all)) h
+  where
+    with : (placed : Result (List (ℕ × (ℕ × Call))) Fault)
+        → (placed >>= λ found. spec.dense_unless (spec.delays_fault run found) (spec.all_dense run found)) ≡ Ok reading
+        → fits_trip run.start run.stops reading ≡ true
+    with (Err fault) told = absurd (cc)
+    with (Ok placed) told = unless-fits run placed reading told
+
+    by : (named : Result (List (ℕ × (ℕ × Call))) Fault)
+        → (named >>= λ found. spec.placed_calls run.stops None found >>= λ placed. spec.dense_unless (spec.delays_fault run placed) (spec.all_dense run placed)) ≡ Ok reading
+        → fits_trip run.start run.stops reading ≡ true
+    by (Err fault) told = absurd (cc)
+    by (Ok named) told = with (spec.placed_calls run.stops None named) told
+
+journey-fits : (run : Run) (cancelled : Bool) (all : List (Option Call)) (reading : JourneyReading) → spec.journey_read run cancelled all ≡ Ok reading
+    → fits_trip run.start run.stops reading ≡ true
+journey-fits run true all reading h = let same : Cancelled ≡ reading = cc in subst (λ r. fits_trip run.start run.stops r ≡ true) same refl
+journey-fits run false all reading h = stops-fit run all reading h
+
+-- ---- the trip and its day
+
+known-trip : (schedule : Schedule) (head : Header) (trip : ℕ) → spec.trip_named schedule head ≡ Ok trip → trip < length schedule.table.trips
+known-trip schedule head trip h = by head.extra h
+  where
+    found : (place : Option ℕ) → position (bytes_eq head.trip_id) schedule.table.trips ≡ place → ok_or place UnknownJourney ≡ Ok trip → trip < length schedule.table.trips
+    found None e told = absurd (cc)
+    found (Some place) e told =
+        let same : place ≡ trip = cc in
+        subst (λ p. p < length schedule.table.trips) same (position-Some (bytes_eq head.trip_id) schedule.table.trips place [] e).0
+
+    by : (extra : Bool) → (spec.unless_extra extra >>= λ none. ok_or (position (bytes_eq head.trip_id) schedule.table.trips) UnknownJourney) ≡ Ok trip
+        → trip < length schedule.table.trips
+    by true told = absurd (cc)
+    by false told = found (position (bytes_eq head.trip_id) schedule.table.trips) refl told
+
+-- a trip on a day of the window on which it runs
+record IsRun (schedule : Schedule) (trip : ℕ) (on : ℤ) (run : Run) : Type 0 where
+  is : run_on schedule trip on ≡ Some run
+  runs : schedule.table.runs trip on ≡ true
+
+is-run : (schedule : Schedule) (trip : ℕ) (on : ℤ) (run : Run) → spec.run_named schedule trip on ≡ Ok run → IsRun schedule trip on run
+is-run schedule trip on run h = by (run_on schedule trip on) refl h
+  where
+    test : (b : Bool) (found : Run) → run_on schedule trip on ≡ Some found → schedule.table.runs trip on ≡ b → cond b (Ok found) (Err NotRunning) ≡ Ok run → IsRun schedule trip on run
+    test false found e runs told = absurd (cc)
+    test true found e runs told =
+        let same : found ≡ run = cc in
+        record { is = e ∙ ap Some same; runs = runs }
+
+    by : (found : Option Run) → run_on schedule trip on ≡ found → (ok_or found OutOfWindow >>= λ one. spec.running schedule trip on one) ≡ Ok run → IsRun schedule trip on run
+    by None e told = absurd (cc)
+    by (Some found) e told = test (schedule.table.runs trip on) found e refl told
+
+in-window : (schedule : Schedule) (trip : ℕ) (on : ℤ) (run : Run) → run_on schedule trip on ≡ Some run → in_window schedule on ≡ true
+in-window schedule trip on run h = by (start_in schedule.window on) h
+  where
+    by : (start : Option ℤ) → option_map (run_from schedule.table trip) start ≡ Some run → is_some start ≡ true
+    by None told = absurd (cc)
+    by (Some start) told = refl
+
+-- what is recorded of a journey can be served
+served-by : (schedule : Schedule) (head : Header) (all : List (Option Call)) (trip : ℕ) (reading : JourneyReading) (one : JourneyRecord)
+    → trip < length schedule.table.trips → spec.trip_read schedule trip head all ≡ Ok reading
+    → trip ≡ one.trip.0 → head.day ≡ one.day → reading ≡ one.reading → IsServable schedule one
+served-by schedule head all trip reading one known h trip-is day-is reading-is = by (spec.run_named schedule trip head.day) refl h
+  where
+    by : (run : Result Run Fault) → spec.run_named schedule trip head.day ≡ run → (run >>= λ found. spec.journey_read found head.cancelled all) ≡ Ok reading → IsServable schedule one
+    by (Err fault) e told = absurd (cc)
+    by (Ok run) e told =
+        let found : IsRun schedule trip head.day run = is-run schedule trip head.day run e in
+        let at : run_on schedule one.trip.0 one.day ≡ Some run = rw (← trip-is, ← day-is) found.is in
+        let fits : fits_trip run.start run.stops one.reading ≡ true = rw (← reading-is) (journey-fits run head.cancelled all reading told) in
+        record {
+          known = rw (← trip-is) known;
+          runs = rw (← trip-is, ← day-is) found.runs;
+          in_the_window = in-window schedule one.trip.0 one.day run at;
+          fits = λ other is. let same : run ≡ other = cc in subst (λ r. fits_trip r.start r.stops one.reading ≡ true) same fits;
+        }
+
+pub servable : (schedule : Schedule) (head : Header) (all : List (Option Call)) (one : JourneyRecord) (count : ℕ)
+    → spec.judged schedule head all ≡ Ok (recorded one, count) → IsServable schedule one
+servable schedule head all one count h = by (spec.trip_named schedule head) refl h
+  where
+    with : (trip : ℕ) (reading : Result JourneyReading Fault) → trip < length schedule.table.trips → spec.trip_read schedule trip head all ≡ reading
+        → (reading >>= λ found. Ok (spec.taken head trip all found)) ≡ Ok (recorded one, count) → IsServable schedule one
+    with trip (Err fault) known e told = absurd (cc)
+    with trip (Ok reading) known e told =
+        let same : spec.taken head trip all reading ≡ (recorded one, count) = cc in
+        served-by schedule head all trip reading one known e (ap (λ p. p.0.trip) same) (ap (λ p. p.0.day) same) (ap (λ p. p.0.reading) same)
+
+    by : (trip : Result ℕ Fault) → spec.trip_named schedule head ≡ trip
+        → (trip >>= λ found. spec.trip_read schedule found head all >>= λ reading. Ok (spec.taken head found all reading)) ≡ Ok (recorded one, count) → IsServable schedule one
+    by (Err fault) e told = absurd (cc)
+    by (Ok trip) e told = with trip (spec.trip_read schedule trip head all) (known-trip schedule head trip e) refl told

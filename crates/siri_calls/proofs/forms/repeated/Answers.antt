@@ -1,0 +1,8 @@
+use Rattle.std.proofs.Common.{◌∙◌, sym, ap, map}
+use Rattle.serde_json.specs.View.{view}
+use Rattle.serde_json.proofs.Views.{view-Array}
+use Rattle.siri_calls.proofs.TreeLemmas.{listed-items_of}
+use Rattle.siri_calls.proofs.forms.repeated.Goals as goal
+
+pub returns-in-Array : goal.returns-in-Array
+returns-in-Array c = ap (map view) c.as_slice.ensures.value ∙ (rw (c.in-Array.is, view-Array c.in-Array.items) (sym (listed-items_of (map view c.in-Array.items.items))))

@@ -1,0 +1,57 @@
+//! The dense reading of calls. The functions meet `all_dense` of `specs/Judged.antt`.
+ghost use Rattle.std.specs.Prelude.{◌≡◌, ◌==◌, ◌+◌, ◌<◌, ◌∷◌, true, None, map, drop, find, length, IfSome, IfOk};
+ghost use Rattle.std.specs.Option.{IfNone};
+ghost use Rattle.siri_calls.specs.Judged as spec;
+ghost use Rattle.siri_calls.specs.MatchedCalls.{placed_call, rise_from};
+ghost use Rattle.siri_calls.specs.TripRuns.{run_over};
+
+use crate::delays::call_reading;
+use crate::matching_calls::PlacedCall;
+use crate::trip_run::TripRun;
+use gw_base::List;
+use journey_model::StopReading;
+use std::alloc::{AllocError, Global};
+
+// The call at a place, if there is one: it is the next of calls whose places rise.
+fn call_at<'a, 'b>(
+    placed: &'a [PlacedCall<'b>],
+    next: usize,
+    place: usize,
+) -> Option<&'a PlacedCall<'b>>
+    requires { rise_from place (map placed_call (drop next placed.now)) ≡ true }
+    ensures none { IfNone result (find (λ one. one.0 == place) (map placed_call (drop next placed.now)) ≡ None) }
+    ensures first { IfSome result (λ one. drop next placed.now ≡ one.now ∷ drop (next + 1) placed.now) }
+    ensures here { IfSome result (λ one. one.now.place ≡ place) }
+    ensures within { IfSome result (λ _. next < length placed.now) }
+{
+    let one = placed.get(next)?;
+    if one.place as usize == place {
+        Some(one)
+    } else {
+        None
+    }
+}
+
+/// How each stop reads by the calls that are matched to stops: a stop without a call is absent.
+pub(crate) fn dense_readings(
+    alloc: Global,
+    run: &TripRun<'_>,
+    placed: &[PlacedCall<'_>],
+) -> Result<List<StopReading>, AllocError>
+    requires { rise_from 0 (map placed_call placed.now) ≡ true }
+    ensures { IfOk result (λ readings. readings ≡ spec.all_dense (run_over run.now) (map placed_call placed.now)) }
+{
+    let mut readings = List::new(alloc);
+    let mut next = 0;
+    for place in 0..run.dated.stops.len() {
+        let reading = match call_at(placed, next, place) {
+            Some(one) => {
+                next += 1;
+                call_reading(run, one)
+            }
+            None => StopReading::Absent,
+        };
+        readings.push(reading)?;
+    }
+    Ok(readings)
+}

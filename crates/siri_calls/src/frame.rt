@@ -1,0 +1,156 @@
+//! The way down from the root of a delivery to its journeys. The functions meet `specs/Frame.antt`.
+ghost use Rattle.std.specs.Prelude.{◌≡◌, ◌++◌, codes, false, true, map, Ok, IfErr, IfOk};
+ghost use Rattle.std.specs.List.{list_all};
+ghost use Rattle.gw_base.specs.declared.member.Member.TheVariants as Member;
+ghost use Rattle.serde_json.specs.Find.{get};
+ghost use Rattle.serde_json.specs.View.{view};
+ghost use Rattle.siri_calls.specs.Fields.{member_form};
+ghost use Rattle.siri_calls.specs.Forms.{object_form};
+ghost use Rattle.siri_calls.specs.Frame as spec;
+ghost use Rattle.siri_calls.specs.Shown.{ok_map, tree_form, trees_of, place_of, places_of, IsFrameFault};
+
+use crate::delivery::DeliveryFault;
+use crate::forms::{Form, are_objects, is_object, object_form, objects, repeated};
+use gw_base::Member;
+use serde_json::Value;
+use std::alloc::Global;
+
+/// An object of a delivery or a journey's item, and the members above that may say when it was recorded.
+#[derive(Clone, Copy)]
+pub(crate) struct Place<'a> {
+    /// The object or the item.
+    pub tree: &'a Value,
+    /// RecordedAtTime of its frame.
+    pub frame: Option<&'a Value>,
+    /// ResponseTimestamp of its delivery.
+    pub delivery: Option<&'a Value>,
+    /// ResponseTimestamp of its service delivery.
+    pub service: Option<&'a Value>,
+}
+
+// The form of an object under a name.
+fn object_at(tree: &Value, member: Member) -> Form<&Value>
+    ensures { tree_form result ≡ member_form object_form member (view tree.now) }
+{
+    match tree.get(member.name()) {
+        Some(found) => object_form(found),
+        None => Form::Missing,
+    }
+}
+
+// The object that is read: the root, or what stands in it as Siri.
+fn siri(root: &Value) -> Result<&Value, Member>
+    ensures { ok_map (λ tree. view tree.now) result ≡ spec.siri (view root.now) }
+{
+    if !is_object(root) {
+        return Err(Member::Siri);
+    }
+    match object_at(root, Member::Siri) {
+        Form::Missing => Ok(root),
+        Form::Wrong => Err(Member::Siri),
+        Form::Found(siri) => Ok(siri),
+    }
+}
+
+// The service delivery of a root.
+fn service_in(root: &Value) -> Result<&Value, Member>
+    ensures { ok_map (λ tree. view tree.now) result ≡ spec.service_in (view root.now) }
+{
+    let body = siri(root)?;
+    match object_at(body, Member::ServiceDelivery) {
+        Form::Missing | Form::Wrong => Err(Member::ServiceDelivery),
+        Form::Found(service) => Ok(service),
+    }
+}
+
+// The deliveries of a service delivery, which have to be there.
+fn deliveries_in(service: &Value) -> Result<&[Value], Member>
+    ensures { ok_map trees_of result ≡ spec.there Member.EstimatedTimetableDelivery (get (codes "EstimatedTimetableDelivery") (view service.now)) }
+{
+    let Some(found) = service.get("EstimatedTimetableDelivery") else {
+        return Err(Member::EstimatedTimetableDelivery);
+    };
+    match found {
+        Value::Array(_) | Value::Object(_) => match objects(found) {
+            Form::Missing | Form::Wrong => Err(Member::EstimatedTimetableDelivery),
+            Form::Found(trees) => Ok(trees),
+        },
+        Value::Null | Value::Bool(_) | Value::Number(_) | Value::String(_) => {
+            Err(Member::EstimatedTimetableDelivery)
+        }
+    }
+}
+
+/// The items of an element that may be missing.
+pub(crate) fn repeated_under(tree: &Value, member: Member) -> &[Value]
+    ensures { map view result.now ≡ spec.repeated_under member (view tree.now) }
+{
+    match tree.get(member.name()) {
+        Some(found) => repeated(found),
+        None => &[],
+    }
+}
+
+// A frame of a delivery.
+fn frame_place<'a>(tree: &'a Value, delivery: &'a Value, service: &'a Value) -> Place<'a>
+    ensures { place_of result ≡ spec.frame_place (spec.delivery_place (view service.now) (view delivery.now)) (view tree.now) }
+{
+    Place {
+        tree,
+        frame: tree.get("RecordedAtTime"),
+        delivery: delivery.get("ResponseTimestamp"),
+        service: service.get("ResponseTimestamp"),
+    }
+}
+
+// The frames below a delivery, behind those that were found before.
+fn add_frames<'a>(
+    found: &mut Vec<Place<'a>>,
+    delivery: &'a Value,
+    service: &'a Value,
+) -> Result<(), DeliveryFault>
+    ensures found { IfOk result (λ _. ok_map (λ frames. places_of found.old.items ++ frames)
+        (spec.all_objects (spec.frames_below (spec.delivery_place (view service.now) (view delivery.now))))
+        ≡ Ok (places_of found.new.items)) }
+    ensures fault { IfErr result (IsFrameFault
+        (spec.all_objects (spec.frames_below (spec.delivery_place (view service.now) (view delivery.now))))) }
+{
+    let trees = repeated_under(delivery, Member::EstimatedJourneyVersionFrame);
+    if !are_objects(trees) {
+        return Err(DeliveryFault::NotDelivery(Member::EstimatedJourneyVersionFrame));
+    }
+    for tree in trees {
+        found.push(frame_place(tree, delivery, service))?;
+    }
+    Ok(())
+}
+
+// The frames below deliveries.
+fn frames_of<'a>(
+    alloc: Global,
+    deliveries: &'a [Value],
+    service: &'a Value,
+) -> Result<Vec<Place<'a>>, DeliveryFault>
+    ensures found { IfOk result (λ found.
+        spec.frames_of (map (spec.delivery_place (view service.now)) (map view deliveries.now)) ≡ Ok (places_of found.items)) }
+    ensures fault { IfErr result (IsFrameFault
+        (spec.frames_of (map (spec.delivery_place (view service.now)) (map view deliveries.now)))) }
+{
+    let mut found = Vec::new(alloc);
+    for delivery in deliveries {
+        if let Err(fault) = add_frames(&mut found, delivery, service) {
+            return Err(fault);
+        }
+    }
+    Ok(found)
+}
+
+/// The frames of a delivery, in document order, or the first row of the way down that is broken.
+pub(crate) fn frames_in(alloc: Global, root: &Value) -> Result<Vec<Place<'_>>, DeliveryFault>
+    ensures found { IfOk result (λ found. spec.frames_in (view root.now) ≡ Ok (places_of found.items)) }
+    ensures fault { IfErr result (IsFrameFault (spec.frames_in (view root.now))) }
+{
+    let service = service_in(root)?;
+    let deliveries = deliveries_in(service)?;
+    frames_of(alloc, deliveries, service)
+}
