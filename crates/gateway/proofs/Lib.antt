@@ -1,6 +1,7 @@
 mod FeedLemmas
 mod FormLemmas
 mod FrameLemmas
+mod GivesLemmas
 mod JourneyLemmas
 mod PublishedLemmas
 mod ReadingLemmas
