@@ -1,8 +1,8 @@
 -- What the feed of the latest records gives: just their readings.
-use Rattle.std.proofs.Common.{◌≡◌, ◌∙◌, ◌++◌, ◌∷◌, ◌&&◌, ◌||◌, ◌==◌, ◌<◌, ℕ, ℤ, List, [], Bool, true, false, not, length, map, replicate, Result, Ok, Err, Option, Some, None, refl, sym, ap, inl, inr, arith}
+use Rattle.std.proofs.Common.{◌≡◌, ◌∙◌, ◌++◌, ◌∷◌, ◌&&◌, ◌==◌, ℕ, ℤ, List, [], Bool, true, false, not, length, map, replicate, Ok, Option, Some, None, refl, sym, ap, inl, inr, arith}
 use Rattle.std.proofs.lemmas.Bool.Decides.{Decides-int_eq}
 use Rattle.std.proofs.lemmas.Int.{ints}
-use Rattle.std.proofs.lemmas.Bool.{and_from, and_left, and_parts, both_ways, cases_Bool, eqb-true, false_from_ne_true, ltb-true, not_from_false, or_cases, or_left, or_parts, or_right}
+use Rattle.std.proofs.lemmas.Bool.{and_from, and_parts, both_ways, eqb-true, false_from_ne_true, ltb-true, not_from_false, or_cases, or_left, or_parts, or_right}
 use Rattle.std.proofs.lemmas.List.Elements.{filter_map-append}
 use Rattle.std.specs.Prelude.{find, option_map, int_lt, nat_lt}
 use Rattle.std.specs.List.{AllByRecursion, filter_map, flat_map, list_all, list_any}
@@ -17,8 +17,7 @@ use Rattle.journey_model.specs.FeedReadings.{entity_said, given, last_reading, n
 use Rattle.journey_model.specs.Readings.{are_near, fits_trip}
 use Rattle.journey_model.specs.Records.{Recorded}
 use Rattle.journey_model.specs.Runs.{Run}
-use Rattle.journey_model.specs.Schedules.{IsServable, Schedule, run_from, run_on}
-use Rattle.journey_model.specs.declared.fault.Fault.{Fault}
+use Rattle.journey_model.specs.Schedules.{IsServable, Schedule, run_from}
 use Rattle.journey_model.specs.declared.readings.DatedReading.{DatedReading}
 use Rattle.journey_model.specs.declared.readings.JourneyReading.{JourneyReading}
 use Rattle.journey_model.specs.declared.readings.JourneyReading.TheVariants.{Cancelled, Stops}
