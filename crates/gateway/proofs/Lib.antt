@@ -1,6 +1,8 @@
 mod DeliveryLemmas
 mod FormLemmas
+mod GivesLemmas
 mod MomentLemmas
+mod PublishedLemmas
 mod ReportLemmas
 pub mod StepLemmas
 mod TableLemmas

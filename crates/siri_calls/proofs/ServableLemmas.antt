@@ -195,10 +195,11 @@ served-by schedule head all trip reading one known h trip-is day-is reading-is =
         let at : run_on schedule one.trip.0 one.day ≡ Some run = rw (← trip-is, ← day-is) found.is in
         let fits : fits_trip run.start run.stops one.reading ≡ true = rw (← reading-is) (journey-fits run head.cancelled all reading told) in
         record {
-          known = rw (← trip-is) known;
+          trip_in = rw (← trip-is) known;
           runs = rw (← trip-is, ← day-is) found.runs;
-          in_the_window = in-window schedule one.trip.0 one.day run at;
-          fits = λ other is. let same : run ≡ other = cc in subst (λ r. fits_trip r.start r.stops one.reading ≡ true) same fits;
+          run = run;
+          on_day = at;
+          fits = fits;
         }
 
 pub servable : (schedule : Schedule) (head : Header) (all : List (Option Call)) (one : JourneyRecord) (count : ℕ)

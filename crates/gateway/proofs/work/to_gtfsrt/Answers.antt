@@ -20,7 +20,7 @@ returns-in-Ok-clause-told g c = λ command says.
 pub returns-in-Err-clause-told : goal.returns-in-Err-clause-told
 returns-in-Err-clause-told g c = λ command says.
     let words = c.args.words.now in
-    rw (says.gtfs, says.zone, says.from, says.days, says.at_is, says.more_is)
+    rw (says.gtfs, says.zone, says.from, says.days, says.more_is)
     (ended (g.F.Files.told c.args.files.now) is_free
     (λ files. SettingOf words.gtfs.now (zone_of words.zone.now) words.first words.days files)
     (λ files setting. Conversion c.args.at setting c.args.more.now files)

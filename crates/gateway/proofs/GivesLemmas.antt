@@ -1,0 +1,214 @@
+-- What the feed of the latest records gives: just their readings.
+use Rattle.std.proofs.Common.{◌≡◌, ◌∙◌, ◌++◌, ◌∷◌, ◌&&◌, ◌==◌, ℕ, ℤ, List, [], Bool, true, false, not, length, map, replicate, Ok, Option, Some, None, refl, sym, ap, inl, inr, arith}
+use Rattle.std.proofs.lemmas.Bool.Decides.{Decides-int_eq}
+use Rattle.std.proofs.lemmas.Int.{ints}
+use Rattle.std.proofs.lemmas.Bool.{and_from, and_parts, both_ways, eqb-true, false_from_ne_true, ltb-true, not_from_false, or_cases, or_left, or_parts, or_right}
+use Rattle.std.proofs.lemmas.List.Elements.{filter_map-append}
+use Rattle.std.specs.Prelude.{find, option_map, int_lt, nat_lt}
+use Rattle.std.specs.List.{AllByRecursion, filter_map, flat_map, list_all, list_any}
+use Rattle.std.specs.Option.{option_or}
+use Rattle.std.specs.Ordering.{int_eq}
+use Rattle.gw_base.specs.declared.messages.Entity.{Entity}
+use Rattle.gw_base.specs.declared.messages.Feed.{Feed}
+use Rattle.feed_messages.specs.Tables.{full_dataset}
+use Rattle.stop_schedule.specs.Table.{Table}
+use Rattle.stop_schedule.specs.declared.stop_times.StopRow.{StopRow}
+use Rattle.journey_model.specs.FeedReadings.{entity_said, given, last_reading, nothing_known, or_nothing}
+use Rattle.journey_model.specs.Readings.{are_near, fits_trip}
+use Rattle.journey_model.specs.Records.{Recorded}
+use Rattle.journey_model.specs.Runs.{Run}
+use Rattle.journey_model.specs.Schedules.{IsServable, Schedule, run_from}
+use Rattle.journey_model.specs.declared.readings.DatedReading.{DatedReading}
+use Rattle.journey_model.specs.declared.readings.JourneyReading.{JourneyReading}
+use Rattle.journey_model.specs.declared.readings.JourneyReading.TheVariants.{Cancelled, Stops}
+use Rattle.journey_model.specs.declared.readings.StopReading.{StopReading}
+use Rattle.journey_model.specs.declared.readings.StopReading.TheVariants.{Absent, Skipped, Timed}
+use Rattle.latest_store.specs.Entities.{is_absent, is_silent, messages}
+use Rattle.latest_store.specs.Latest.{HasLatest, IsLatest, is_later, is_of}
+use Rattle.latest_store.specs.Reads.{SaysItself, dated_reading}
+use Rattle.latest_store.proofs.EntityLemmas.{messages_none, messages_one}
+use Rattle.gateway.specs.Feeds.{IsFeed, are_in_order, comes_before}
+use Rattle.gateway.specs.Published.{GivesLatest}
+
+-- an element that passes a test, amid a list
+passes : {X : Type 0} (test : X → Bool) (before behind : List X) (one : X) → test one ≡ true → list_any test (before ++ one ∷ behind) ≡ true
+passes test [] behind one e = or_left (test one) (list_any test behind) e
+passes test (first ∷ before) behind one e = or_right (test first) (list_any test (before ++ one ∷ behind)) (passes test before behind one e)
+
+fails : {X : Type 0} (test : X → Bool) (before behind : List X) (one : X) → list_any test (before ++ one ∷ behind) ≡ false → test one ≡ false
+fails test [] behind one e = (or_parts (test one) (list_any test behind) e).0
+fails test (first ∷ before) behind one e = fails test before behind one (or_parts (test first) (list_any test (before ++ one ∷ behind)) e).1
+
+-- of two records of a journey only one counts
+abbrev later : ℕ → ℤ → Recorded → Recorded → Bool
+later trip day one other = is_of trip day other && is_later other.at one.at
+
+abbrev as_late : ℕ → ℤ → Recorded → Recorded → Bool
+as_late trip day one other = is_of trip day other && not (is_later one.at other.at)
+
+clash : (trip : ℕ) (day : ℤ) (a b : Recorded) (before behind : List Recorded) → is_of trip day a ≡ true → is_of trip day b ≡ true
+    → list_any (as_late trip day a) (before ++ b ∷ behind) ≡ false → later trip day b a ≡ false → ⊥
+clash trip day a b before behind of_a of_b none_as_late not_later = by (is_later a.at b.at) refl
+  where
+    by : (t : Bool) → is_later a.at b.at ≡ t → ⊥
+    by true e = both_ways (later trip day b a) not_later (and_from (is_of trip day a) (is_later a.at b.at) of_a e)
+    by false e = both_ways (as_late trip day a b) (fails (as_late trip day a) before behind b none_as_late)
+        (and_from (is_of trip day b) (not (is_later a.at b.at)) of_b (not_from_false (is_later a.at b.at) e))
+
+same_place : (trip : ℕ) (day : ℤ) (a b : Recorded) (before_a behind_a before_b behind_b : List Recorded) → before_a ++ a ∷ behind_a ≡ before_b ++ b ∷ behind_b
+    → is_of trip day a ≡ true → is_of trip day b ≡ true
+    → list_any (later trip day a) before_a ≡ false → list_any (as_late trip day a) behind_a ≡ false
+    → list_any (later trip day b) before_b ≡ false → list_any (as_late trip day b) behind_b ≡ false → a ≡ b
+same_place trip day a b [] behind_a [] behind_b e of_a of_b later_a late_a later_b late_b = cc
+same_place trip day a b [] behind_a (y ∷ before_b) behind_b e of_a of_b later_a late_a later_b late_b =
+    let head : y ≡ a = cc in
+    let tail : behind_a ≡ before_b ++ b ∷ behind_b = cc in
+    let first : later trip day b y ≡ false = (or_parts (later trip day b y) (list_any (later trip day b) before_b) later_b).0 in
+    absurd (clash trip day a b before_b behind_b of_a of_b (sym (ap (list_any (as_late trip day a)) tail) ∙ late_a) (sym (ap (later trip day b) head) ∙ first))
+same_place trip day a b (x ∷ before_a) behind_a [] behind_b e of_a of_b later_a late_a later_b late_b =
+    let head : x ≡ b = cc in
+    let tail : behind_b ≡ before_a ++ a ∷ behind_a = cc in
+    let first : later trip day a x ≡ false = (or_parts (later trip day a x) (list_any (later trip day a) before_a) later_a).0 in
+    absurd (clash trip day b a before_a behind_a of_b of_a (sym (ap (list_any (as_late trip day b)) tail) ∙ late_b) (sym (ap (later trip day a) head) ∙ first))
+same_place trip day a b (x ∷ before_a) behind_a (y ∷ before_b) behind_b e of_a of_b later_a late_a later_b late_b =
+    let tail : before_a ++ a ∷ behind_a ≡ before_b ++ b ∷ behind_b = cc in
+    same_place trip day a b before_a behind_a before_b behind_b tail of_a of_b
+        (or_parts (later trip day a x) (list_any (later trip day a) before_a) later_a).1 late_a
+        (or_parts (later trip day b y) (list_any (later trip day b) before_b) later_b).1 late_b
+
+not_none : (records : List Recorded) (trip : ℕ) (day : ℤ) (one : Recorded) → list_any (is_of trip day) records ≡ false → IsLatest records trip day one → ⊥
+not_none records trip day one none latest =
+    both_ways (list_any (is_of trip day) records) none (ap (list_any (is_of trip day)) latest.among ∙ passes (is_of trip day) latest.before latest.behind one latest.its)
+
+pub same_latest : (records : List Recorded) (trip : ℕ) (day : ℤ) (a b : Option Recorded) → HasLatest records trip day a → HasLatest records trip day b → a ≡ b
+same_latest records trip day None None of_a of_b = refl
+same_latest records trip day None (Some b) of_a of_b = absurd (not_none records trip day b of_a of_b)
+same_latest records trip day (Some a) None of_a of_b = absurd (not_none records trip day a of_b of_a)
+same_latest records trip day (Some a) (Some b) of_a of_b =
+    ap (λ one. Some one) (same_place trip day a b of_a.before of_a.behind of_b.before of_b.behind (sym of_a.among ∙ of_b.among) of_a.its of_b.its
+        of_a.none_later of_a.none_as_late of_b.none_later of_b.none_as_late)
+
+-- the readings of the messages of a record
+abbrev dated : Schedule → Recorded → List DatedReading
+dated schedule one = map (λ (entity : Entity). dated_reading one) (messages schedule one)
+
+-- what the feed gives is what its records say
+map_append : {X Y : Type 0} (f : X → Y) (xs ys : List X) → map f (xs ++ ys) ≡ map f xs ++ map f ys
+map_append f [] ys = refl
+map_append f (x ∷ xs) ys = ap (λ rest. f x ∷ rest) (map_append f xs ys)
+
+given_each : (reading : DatedReading) (entities : List Entity) → filter_map given (map (λ (entity : Entity). Some (Ok reading)) entities) ≡ map (λ (entity : Entity). reading) entities
+given_each reading [] = refl
+given_each reading (entity ∷ entities) = ap (λ rest. reading ∷ rest) (given_each reading entities)
+
+given_is : (schedule : Schedule) (feed : Feed) (records : List Recorded) → AllByRecursion (SaysItself schedule) records
+    → filter_map given (map (entity_said schedule feed) (flat_map (messages schedule) records)) ≡ flat_map (dated schedule) records
+given_is schedule feed [] says = refl
+given_is schedule feed (one ∷ others) says =
+    let own = messages schedule one in
+    let rest = flat_map (messages schedule) others in
+    ap (filter_map given) (map_append (entity_said schedule feed) own rest)
+    ∙ filter_map-append given (map (entity_said schedule feed) own) (map (entity_said schedule feed) rest)
+    ∙ ap (λ front. front ++ filter_map given (map (entity_said schedule feed) rest)) (ap (filter_map given) (says.0 feed) ∙ given_each (dated_reading one) own)
+    ∙ ap (λ end. dated schedule one ++ end) (given_is schedule feed others says.1)
+
+-- the last of the readings of two lists
+or_none : {X : Type 0} (o : Option X) → option_or o None ≡ o
+or_none None = refl
+or_none (Some x) = refl
+
+or_or : {X : Type 0} (a b c : Option X) → option_or (option_or a b) c ≡ option_or a (option_or b c)
+or_or None b c = refl
+or_or (Some x) b c = refl
+
+last_append : (trip : ℕ) (day : ℤ) (front end : List DatedReading) → last_reading trip day (front ++ end) ≡ option_or (last_reading trip day end) (last_reading trip day front)
+last_append trip day [] end = sym (or_none (last_reading trip day end))
+last_append trip day (one ∷ front) end =
+    rw (last_append trip day front end) (or_or (last_reading trip day end) (last_reading trip day front) _)
+
+-- a record of another journey gives no reading
+none_of : (trip : ℕ) (day : ℤ) (one : Recorded) (entities : List Entity) → is_of trip day one ≡ false → last_reading trip day (map (λ (entity : Entity). dated_reading one) entities) ≡ None
+none_of trip day one [] e = refl
+none_of trip day one (entity ∷ entities) e = rw (none_of trip day one entities e, e) refl
+
+-- and those behind a record in order are of other journeys
+other_journey : (trip : ℕ) (day : ℤ) (one other : Recorded) → comes_before one other ≡ true → is_of trip day one ≡ true → is_of trip day other ≡ false
+other_journey trip day one other before of_one = false_from_ne_true (is_of trip day other) (λ of_other. clash_of of_other)
+  where
+    clash_of : is_of trip day other ≡ true → ⊥
+    clash_of of_other =
+        let trips : one.trip ≡ trip = eqb-true one.trip trip (and_parts (one.trip == trip) (int_eq one.day day) of_one).0 in
+        let others : other.trip ≡ trip = eqb-true other.trip trip (and_parts (other.trip == trip) (int_eq other.day day) of_other).0 in
+        let day_is : one.day ≡ day = (Decides-int_eq one.day day).0 (and_parts (one.trip == trip) (int_eq one.day day) of_one).1 in
+        let other_day : other.day ≡ day = (Decides-int_eq other.day day).0 (and_parts (other.trip == trip) (int_eq other.day day) of_other).1 in
+        elim (or_cases (int_lt one.day other.day) (int_eq one.day other.day && nat_lt one.trip other.trip) before) [
+          | inl earlier ↦ omega (arith, ints)
+          | inr lesser ↦ let less = ltb-true one.trip other.trip (and_parts (int_eq one.day other.day) (nat_lt one.trip other.trip) lesser).1 in omega arith
+        ]
+
+no_other : (schedule : Schedule) (trip : ℕ) (day : ℤ) (one : Recorded) (others : List Recorded) → list_all (comes_before one) others ≡ true → is_of trip day one ≡ true
+    → last_reading trip day (flat_map (dated schedule) others) ≡ None
+no_other schedule trip day one [] in_order of_one = refl
+no_other schedule trip day one (other ∷ others) in_order of_one =
+    let parts = and_parts (comes_before one other) (list_all (comes_before one) others) in_order in
+    rw (last_append trip day (dated schedule other) (flat_map (dated schedule) others), no_other schedule trip day one others parts.1 of_one)
+        (none_of trip day other (messages schedule other) (other_journey trip day one other parts.0 of_one))
+
+-- a reading that can be served and says nothing of any stop
+silent_stops : (start : ℤ) (rows : List StopRow) (readings : List StopReading) → are_near start rows readings ≡ true → list_all is_absent readings ≡ true → readings ≡ replicate (length rows) Absent
+silent_stops start [] [] near silent = refl
+silent_stops start [] (reading ∷ readings) near silent = absurd cc
+silent_stops start (row ∷ rows) [] near silent = absurd cc
+silent_stops start (row ∷ rows) (Absent ∷ readings) near silent = ap (λ rest. Absent ∷ rest) (silent_stops start rows readings near silent)
+silent_stops start (row ∷ rows) (Skipped ∷ readings) near silent = absurd cc
+silent_stops start (row ∷ rows) (Timed arrival departure ∷ readings) near silent = absurd cc
+
+stops_are : (table : Table) (trip : ℕ) (run : Run) (start : Option ℤ) → option_map (run_from table trip) start ≡ Some run → table.stops_of trip ≡ run.stops
+stops_are table trip run None e = absurd cc
+stops_are table trip run (Some start) e = let same : run_from table trip start ≡ run = cc in ap (λ (r : Run). r.stops) same
+
+silent_is : (start : ℤ) (rows : List StopRow) (reading : JourneyReading) → fits_trip start rows reading ≡ true → is_silent reading ≡ true → reading ≡ Stops (replicate (length rows) Absent)
+silent_is start rows Cancelled fits silent = absurd cc
+silent_is start rows (Stops readings) fits silent = ap (λ r. Stops r) (silent_stops start rows readings fits silent)
+
+-- a record says its own reading
+own_reading : (schedule : Schedule) (trip : ℕ) (day : ℤ) (one : Recorded) → IsServable schedule one.trip one.day one.reading → is_of trip day one ≡ true
+    → or_nothing (last_reading trip day (dated schedule one)) (nothing_known schedule trip) ≡ one.reading
+own_reading schedule trip day one servable of_one = by (is_silent one.reading) refl
+  where
+    by : (b : Bool) → is_silent one.reading ≡ b → or_nothing (last_reading trip day (dated schedule one)) (nothing_known schedule trip) ≡ one.reading
+    by true silent =
+        let trips : one.trip ≡ trip = eqb-true one.trip trip (and_parts (one.trip == trip) (int_eq one.day day) of_one).0 in
+        let stops : schedule.table.stops_of one.trip ≡ servable.run.stops = stops_are schedule.table one.trip servable.run _ servable.on_day in
+        let reads : one.reading ≡ Stops (replicate (length servable.run.stops) Absent) = silent_is servable.run.start servable.run.stops one.reading servable.fits silent in
+        rw (messages_none schedule one servable.run servable.on_day silent, ← trips, stops) (sym reads)
+    by false silent = rw (messages_one schedule one servable.run servable.on_day silent, of_one) refl
+
+-- the readings of records in order are those of the first one of each journey
+all_read : (schedule : Schedule) (trip : ℕ) (day : ℤ) (records : List Recorded) → AllByRecursion (λ one. IsServable schedule one.trip one.day one.reading) records → are_in_order records ≡ true
+    → or_nothing (last_reading trip day (flat_map (dated schedule) records)) (nothing_known schedule trip)
+        ≡ or_nothing (option_map (λ one. one.reading) (find (is_of trip day) records)) (nothing_known schedule trip)
+all_read schedule trip day [] servable in_order = refl
+all_read schedule trip day (one ∷ others) servable in_order = by (is_of trip day one) refl (all_read schedule trip day others servable.1 parts.1)
+  where
+    parts : (list_all (comes_before one) others ≡ true) × (are_in_order others ≡ true)
+    parts = and_parts (list_all (comes_before one) others) (are_in_order others) in_order
+    by : (b : Bool) → is_of trip day one ≡ b
+        → or_nothing (last_reading trip day (flat_map (dated schedule) others)) (nothing_known schedule trip)
+            ≡ or_nothing (option_map (λ one. one.reading) (find (is_of trip day) others)) (nothing_known schedule trip)
+        → or_nothing (last_reading trip day (dated schedule one ++ flat_map (dated schedule) others)) (nothing_known schedule trip)
+            ≡ or_nothing (option_map (λ one. one.reading) (find (is_of trip day) (one ∷ others))) (nothing_known schedule trip)
+    by true e behind = rw (last_append trip day (dated schedule one) (flat_map (dated schedule) others), no_other schedule trip day one others parts.0 e, e)
+        (own_reading schedule trip day one servable.0 e)
+    by false e behind = rw (last_append trip day (dated schedule one) (flat_map (dated schedule) others), none_of trip day one (messages schedule one) e,
+        or_none (last_reading trip day (flat_map (dated schedule) others)), e) behind
+
+-- the feed of the latest records gives just their readings
+pub gives : (at : ℤ) (schedule : Schedule) (records : List Recorded) (bytes : List ℕ) (is : IsFeed at schedule records bytes) (trip : ℕ) (day : ℤ)
+    → GivesLatest schedule at (flat_map (messages schedule) is.ordered) records trip day
+gives at schedule records bytes is trip day found latest =
+    let entities = flat_map (messages schedule) is.ordered in
+    let same : find (is_of trip day) is.ordered ≡ found = same_latest records trip day (find (is_of trip day) is.ordered) found (is.latest trip day) latest in
+    ap (λ all. or_nothing (last_reading trip day all) (nothing_known schedule trip)) (given_is schedule (full_dataset at entities) is.ordered is.says)
+    ∙ all_read schedule trip day is.ordered is.servable is.in_order
+    ∙ ap (λ one. or_nothing (option_map (λ (one : Recorded). one.reading) one) (nothing_known schedule trip)) same
