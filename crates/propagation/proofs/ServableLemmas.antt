@@ -187,10 +187,10 @@ reading-servable : (schedule : Schedule) (trip : ℕ) (day start : ℤ) (recorde
 reading-servable schedule trip day start recorded update one known runs in_window (Ok found) is same =
     let made : record { trip = record { 0 = trip }; day = day; recorded = recorded; reading = found } ≡ one = cc in
     rw (← made) (record {
-      known = known;
+      trip_in = known;
       runs = runs;
-      start = start;
-      in_window = in_window;
+      run = run_from schedule.table trip start;
+      on_day = ap (option_map (run_from schedule.table trip)) in_window;
       fits = reading-fits (run_from schedule.table trip start) update found is;
     })
 reading-servable schedule trip day start recorded update one known runs in_window (Err fault) is same = cc

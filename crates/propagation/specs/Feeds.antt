@@ -7,6 +7,7 @@ use Rattle.gw_base.specs.declared.messages.Feed.{Feed}
 use Rattle.service_day.specs.Windows.{start_in}
 use Rattle.journey_model.specs.FeedReadings.{aside_from, given_all, last_of_each, passed_count, readings}
 use Rattle.journey_model.specs.Readings.{fits_trip}
+use Rattle.journey_model.specs.Schedules as schedules
 use Rattle.journey_model.specs.Schedules.{Schedule}
 use Rattle.journey_model.specs.declared.readings.DatedReading.{DatedReading}
 use Rattle.propagation.specs.declared.feeds.FeedReading.{FeedReading}
@@ -15,14 +16,9 @@ use Rattle.propagation.specs.declared.feeds.FeedReading.{FeedReading}
 abbrev pub journey_cmp : DatedReading → DatedReading → Ordering
 journey_cmp a b = ordering_then (int_cmp a.day b.day) (nat_cmp a.trip.0 b.trip.0)
 
--- a reading can be served: its trip is one of the timetable's and runs on its day, the day is in the window, and each stop
--- reads at most a week from its planned times
-pub record IsServable (schedule : Schedule) (one : DatedReading) : Type 0 where
-  pub known : one.trip.0 < length schedule.table.trips
-  pub runs : schedule.table.runs one.trip.0 one.day ≡ true
-  pub start : ℤ
-  pub in_window : start_in schedule.window one.day ≡ Some start
-  pub fits : fits_trip start (schedule.table.stops_of one.trip.0) one.reading ≡ true
+-- a reading can be served for its trip on its day
+abbrev pub IsServable : Schedule → DatedReading → Type 0
+IsServable schedule one = schedules.IsServable schedule one.trip.0 one.day one.reading
 
 -- what a feed says of journeys: of the readings of one journey the last, sorted by journey; and how many entities were taken
 -- and passed, and which were set aside

@@ -175,13 +175,6 @@ is-run schedule trip on run h = by (run_on schedule trip on) refl h
     by None e told = absurd (cc)
     by (Some found) e told = test (schedule.table.runs trip on) found e refl told
 
-in-window : (schedule : Schedule) (trip : ℕ) (on : ℤ) (run : Run) → run_on schedule trip on ≡ Some run → in_window schedule on ≡ true
-in-window schedule trip on run h = by (start_in schedule.window on) h
-  where
-    by : (start : Option ℤ) → option_map (run_from schedule.table trip) start ≡ Some run → is_some start ≡ true
-    by None told = absurd (cc)
-    by (Some start) told = refl
-
 -- what is recorded of a journey can be served
 served-by : (schedule : Schedule) (head : Header) (all : List (Option Call)) (trip : ℕ) (reading : JourneyReading) (one : JourneyRecord)
     → trip < length schedule.table.trips → spec.trip_read schedule trip head all ≡ Ok reading

@@ -50,9 +50,9 @@ abbrev pub ReadsBody : Schedule → List ℕ → Result Delivery DeliveryFault �
 ReadsBody schedule body answer = Reads schedule (tree_of body) answer
 
 -- each record that is taken can be served
-abbrev pub IsServableItem : Schedule → Item → Type 0
-IsServableItem schedule (Taken one) = IsServable schedule one
-IsServableItem schedule (Aside fault) = ⊤
+abbrev pub CanServe : Schedule → Item → Type 0
+CanServe schedule (Taken one) = IsServable schedule one
+CanServe schedule (Aside fault) = ⊤
 
 abbrev pub AreServable : Schedule → List Item → Type 0
-AreServable schedule items = AllByRecursion (IsServableItem schedule) items
+AreServable schedule items = AllByRecursion (CanServe schedule) items
