@@ -73,8 +73,8 @@ same_place trip day a b (x ∷ before_a) behind_a [] behind_b e of_a of_b later_
 same_place trip day a b (x ∷ before_a) behind_a (y ∷ before_b) behind_b e of_a of_b later_a late_a later_b late_b =
     let tail : before_a ++ a ∷ behind_a ≡ before_b ++ b ∷ behind_b = cc in
     same_place trip day a b before_a behind_a before_b behind_b tail of_a of_b
-        (or_parts (later trip day a x) (list_any (later trip day a) before_a) later_a).1 late_a
-        (or_parts (later trip day b y) (list_any (later trip day b) before_b) later_b).1 late_b
+    (or_parts (later trip day a x) (list_any (later trip day a) before_a) later_a).1 late_a
+    (or_parts (later trip day b y) (list_any (later trip day b) before_b) later_b).1 late_b
 
 not_none : (records : List Recorded) (trip : ℕ) (day : ℤ) (one : Recorded) → list_any (is_of trip day) records ≡ false → IsLatest records trip day one → ⊥
 not_none records trip day one none latest =
@@ -86,7 +86,7 @@ same_latest records trip day None (Some b) of_a of_b = absurd (not_none records 
 same_latest records trip day (Some a) None of_a of_b = absurd (not_none records trip day a of_b of_a)
 same_latest records trip day (Some a) (Some b) of_a of_b =
     ap (λ one. Some one) (same_place trip day a b of_a.before of_a.behind of_b.before of_b.behind (sym of_a.among ∙ of_b.among) of_a.its of_b.its
-        of_a.none_later of_a.none_as_late of_b.none_later of_b.none_as_late)
+    of_a.none_later of_a.none_as_late of_b.none_later of_b.none_as_late)
 
 -- the readings of the messages of a record
 abbrev dated : Schedule → Recorded → List DatedReading
@@ -152,7 +152,7 @@ no_other schedule trip day one [] in_order of_one = refl
 no_other schedule trip day one (other ∷ others) in_order of_one =
     let parts = and_parts (comes_before one other) (list_all (comes_before one) others) in_order in
     rw (last_append trip day (dated schedule other) (flat_map (dated schedule) others), no_other schedule trip day one others parts.1 of_one)
-        (none_of trip day other (messages schedule other) (other_journey trip day one other parts.0 of_one))
+    (none_of trip day other (messages schedule other) (other_journey trip day one other parts.0 of_one))
 
 -- a reading that can be served and says nothing of any stop
 silent_stops : (start : ℤ) (rows : List StopRow) (readings : List StopReading) → are_near start rows readings ≡ true → list_all is_absent readings ≡ true → readings ≡ replicate (length rows) Absent
@@ -187,21 +187,26 @@ own_reading schedule trip day one servable of_one = by (is_silent one.reading) r
 -- the readings of records in order are those of the first one of each journey
 all_read : (schedule : Schedule) (trip : ℕ) (day : ℤ) (records : List Recorded) → AllByRecursion (λ one. IsServable schedule one.trip one.day one.reading) records → are_in_order records ≡ true
     → or_nothing (last_reading trip day (flat_map (dated schedule) records)) (nothing_known schedule trip)
-        ≡ or_nothing (option_map (λ one. one.reading) (find (is_of trip day) records)) (nothing_known schedule trip)
+    ≡ or_nothing (option_map (λ one. one.reading) (find (is_of trip day) records)) (nothing_known schedule trip)
 all_read schedule trip day [] servable in_order = refl
 all_read schedule trip day (one ∷ others) servable in_order = by (is_of trip day one) refl (all_read schedule trip day others servable.1 parts.1)
   where
     parts : (list_all (comes_before one) others ≡ true) × (are_in_order others ≡ true)
     parts = and_parts (list_all (comes_before one) others) (are_in_order others) in_order
+
     by : (b : Bool) → is_of trip day one ≡ b
         → or_nothing (last_reading trip day (flat_map (dated schedule) others)) (nothing_known schedule trip)
-            ≡ or_nothing (option_map (λ one. one.reading) (find (is_of trip day) others)) (nothing_known schedule trip)
+        ≡ or_nothing (option_map (λ one. one.reading) (find (is_of trip day) others)) (nothing_known schedule trip)
         → or_nothing (last_reading trip day (dated schedule one ++ flat_map (dated schedule) others)) (nothing_known schedule trip)
-            ≡ or_nothing (option_map (λ one. one.reading) (find (is_of trip day) (one ∷ others))) (nothing_known schedule trip)
+        ≡ or_nothing (option_map (λ one. one.reading) (find (is_of trip day) (one ∷ others))) (nothing_known schedule trip)
     by true e behind = rw (last_append trip day (dated schedule one) (flat_map (dated schedule) others), no_other schedule trip day one others parts.0 e, e)
         (own_reading schedule trip day one servable.0 e)
-    by false e behind = rw (last_append trip day (dated schedule one) (flat_map (dated schedule) others), none_of trip day one (messages schedule one) e,
-        or_none (last_reading trip day (flat_map (dated schedule) others)), e) behind
+    by false e behind = rw (
+      last_append trip day (dated schedule one) (flat_map (dated schedule) others),
+      none_of trip day one (messages schedule one) e,
+      or_none (last_reading trip day (flat_map (dated schedule) others)),
+      e,
+    ) behind
 
 -- the feed of the latest records gives just their readings
 pub gives : (at : ℤ) (schedule : Schedule) (records : List Recorded) (bytes : List ℕ) (is : IsFeed at schedule records bytes) (trip : ℕ) (day : ℤ)
