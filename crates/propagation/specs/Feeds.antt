@@ -24,8 +24,8 @@ pub record IsServable (schedule : Schedule) (one : DatedReading) : Type 0 where
   pub in_window : start_in schedule.window one.day ≡ Some start
   pub fits : fits_trip start (schedule.table.stops_of one.trip.0) one.reading ≡ true
 
--- what a feed says of journeys: of the readings of one journey the last, sorted by journey; and how many entities were taken
--- and passed, and which were set aside
+-- what a feed says of journeys: of the readings of one journey the last, sorted by journey, and each can be served; and how
+-- many entities were taken and passed, and which were set aside
 pub record IsReading (schedule : Schedule) (feed : Feed) (found : FeedReading) : Type 0 where
   pub same : IsPermutation (last_of_each (given_all (readings schedule feed))) found.journeys
   pub sorted : IsSorted journey_cmp found.journeys
