@@ -1,5 +1,5 @@
 -- How a feed is read over a timetable.
-use Rattle.std.specs.Prelude.{◌≡◌, ◌<◌, ℕ, ℤ, true, All, Option, Some, List, length}
+use Rattle.std.specs.Prelude.{◌≡◌, ◌<◌, ℤ, true, All, Some, length}
 use Rattle.std.specs.List.Sorted.{IsPermutation, IsSorted}
 use Rattle.std.specs.declared.cmp.Ordering.{Ordering}
 use Rattle.std.specs.Ordering.{int_cmp, nat_cmp, ordering_then}
