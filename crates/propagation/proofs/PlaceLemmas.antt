@@ -1,9 +1,7 @@
 -- The places of updates rise, and an update without a fault stands at its place.
-use Rattle.std.proofs.Common.{◌≡◌, ◌∙◌, ◌+◌, ◌<◌, ◌||◌, ◌&&◌, ◌++◌, ◌∷◌, [], ℕ, zero, suc, ℤ, pos, nat_le, Bool, true, false, List, map, drop, length, get_or, position, Option, Some, None, option_map, Result, Ok, Err, if◌then◌else◌, refl, sym, ap, arith}
-use Rattle.std.proofs.lemmas.Bool.{false≢true}
+use Rattle.std.proofs.Common.{◌≡◌, ◌∙◌, ◌+◌, ◌<◌, ◌++◌, ◌∷◌, [], ℕ, suc, ℤ, pos, nat_le, Bool, true, false, List, map, drop, length, get_or, position, Option, Some, None, option_map, Result, Ok, Err, if◌then◌else◌, refl, sym, ap, arith}
 use Rattle.std.proofs.lemmas.Bool.Decides.{nat_tests}
 use Rattle.std.proofs.lemmas.List.{append-nil, append_assoc, map-append, drop_more, drop_all}
-use Rattle.std.proofs.lemmas.Option.{none-some}
 use Rattle.std.specs.Cmp.{signed_Decides}
 use Rattle.std.specs.List.{list_any, zip}
 use Rattle.std.specs.Option.{ok_or}
@@ -12,16 +10,16 @@ use Rattle.gw_base.specs.declared.messages.StopUpdate.{StopUpdate}
 use Rattle.journey_model.specs.Chains.{◌>>=◌}
 use Rattle.journey_model.specs.Matching.{first_place, has_sequence, in_order, is_of_stop, place_behind, place_by_sequence, place_by_stop, stands_at, agrees, update_place}
 use Rattle.journey_model.specs.Runs.{Run, planned_at}
-use Rattle.journey_model.specs.Times.{both_times, delay_fault}
-use Rattle.journey_model.specs.Updates.{arrival_time, departure_time, is_no_data, is_scheduled, is_skipped, match_fault, named_stop, place_of, place_timed, place_unless, places, places_from, times, times_fault}
+use Rattle.journey_model.specs.Times.{delay_fault}
+use Rattle.journey_model.specs.Updates.{arrival_time, departure_time, is_no_data, is_scheduled, is_skipped, named_stop, place_of, place_timed, place_unless, places, places_from, times, times_fault}
 use Rattle.journey_model.specs.declared.fault.Fault.{Fault}
-use Rattle.journey_model.specs.declared.fault.Fault.TheVariants.{NoTime, OtherRelation}
+use Rattle.journey_model.specs.declared.fault.Fault.TheVariants.{OtherRelation}
 use Rattle.journey_model.specs.declared.matching.MatchFault.{MatchFault}
 use Rattle.journey_model.specs.declared.matching.MatchFault.TheVariants as match
 use Rattle.journey_model.specs.declared.matching.NamedStop.{NamedStop}
 use Rattle.journey_model.specs.declared.matching.NamedStop.TheVariants.{Missing, Unknown, Known}
 use Rattle.stop_schedule.specs.declared.stop_times.StopRow.{StopRow}
-use Rattle.propagation.specs.Saying.{is_read, placed_all, placed_at, placed_by, said_at, said_by_events, said_times, says_at, timed_by}
+use Rattle.propagation.specs.Saying.{is_read, placed_all, placed_at, placed_by, said_at, said_times}
 use Rattle.propagation.specs.Spreading.{are_rising_from}
 use Rattle.propagation.specs.declared.placing.Placed.{Placed}
 use Rattle.propagation.specs.declared.placing.Says.{Says}

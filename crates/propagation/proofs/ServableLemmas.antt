@@ -1,5 +1,5 @@
 -- What a feed says of a journey can be served: its stops read at most a week from their planned times.
-use Rattle.std.proofs.Common.{◌≡◌, ◌∙◌, ◌+◌, ◌<◌, ◌==◌, ◌&&◌, ◌||◌, ◌∷◌, [], ℕ, zero, suc, ℤ, pos, ◌+ℤ◌, ◌-ℤ◌, Bool, true, false, List, map, length, position, Option, Some, None, option_map, option_and_then, not, Result, Ok, Err, if◌then◌else◌, refl, sym, ap, subst, arith}
+use Rattle.std.proofs.Common.{◌≡◌, ◌+◌, ◌<◌, ◌==◌, ◌&&◌, ◌||◌, ◌∷◌, [], ℕ, suc, ℤ, pos, ◌+ℤ◌, ◌-ℤ◌, Bool, true, false, List, map, length, position, Option, Some, None, option_map, option_and_then, not, Result, Ok, Err, if◌then◌else◌, refl, subst, arith}
 use Rattle.std.specs.Prelude.{All, slice_get}
 use Rattle.std.proofs.lemmas.Bool.{eqb-true, false≢true}
 use Rattle.std.proofs.lemmas.Int.{ints}
@@ -17,7 +17,6 @@ use Rattle.gw_base.specs.declared.messages.StopUpdate.{StopUpdate}
 use Rattle.gw_base.specs.declared.messages.TripUpdate.{TripUpdate}
 use Rattle.service_day.specs.Windows.{start_in}
 use Rattle.stop_schedule.specs.Planned.{planned}
-use Rattle.stop_schedule.specs.Table.{Table}
 use Rattle.stop_schedule.specs.declared.stop_times.StopRow.{StopRow}
 use Rattle.journey_model.specs.Chains.{◌>>=◌}
 use Rattle.journey_model.specs.FeedReadings as feeds
@@ -25,11 +24,11 @@ use Rattle.journey_model.specs.FeedReadings.{day_named, entity_said, given_all, 
 use Rattle.journey_model.specs.Propagation.{carried, later_by, prop, propagated, skips_at, supplied, supplier, supplies, timed}
 use Rattle.journey_model.specs.Readings.{are_near, fits_trip, is_near}
 use Rattle.journey_model.specs.Runs.{Run, planned_at}
-use Rattle.journey_model.specs.Schedules.{Schedule, run_from, run_on}
+use Rattle.journey_model.specs.Schedules.{Schedule, run_from}
 use Rattle.journey_model.specs.Times.{is_delay}
 use Rattle.journey_model.specs.Updates.{filled_text, is_no_data, is_scheduled, is_skipped, place_of, places, places_from, times, times_fault}
 use Rattle.journey_model.specs.declared.fault.Fault.{Fault}
-use Rattle.journey_model.specs.declared.fault.Fault.TheVariants.{UnknownJourney, OutOfWindow, NotRunning, NoDate, OtherRelation}
+use Rattle.journey_model.specs.declared.fault.Fault.TheVariants.{NotRunning, OtherRelation}
 use Rattle.journey_model.specs.declared.readings.DatedReading.{DatedReading}
 use Rattle.journey_model.specs.declared.readings.JourneyReading.{JourneyReading}
 use Rattle.journey_model.specs.declared.readings.JourneyReading.TheVariants.{Cancelled, Stops}

@@ -2,9 +2,9 @@
 use Rattle.std.proofs.Common.{◌≡◌, ◌∙◌, ◌+◌, ◌==◌, ◌&&◌, ◌||◌, ◌++◌, ◌∷◌, ◌<◌, [], ℕ, zero, suc, ℤ, pos, ◌-ℤ◌, get_or, slice_get, nat_le, nat_lt, not, Bool, true, false, List, map, drop, length, Option, Some, None, option_map, is_some, if◌then◌else◌, refl, sym, ap, arith}
 use Rattle.std.proofs.lemmas.Bool.{eqb-true, false≢true}
 use Rattle.std.proofs.lemmas.Bool.Decides.{nat_tests}
-use Rattle.std.proofs.lemmas.List.{append-nil, append_assoc, map-append}
+use Rattle.std.proofs.lemmas.List.{append_assoc}
 use Rattle.std.proofs.lemmas.List.Folds.{list_any-append}
-use Rattle.std.specs.List.{list_all, list_any, range_with_len}
+use Rattle.std.specs.List.{list_all, range_with_len}
 use Rattle.std.specs.Option.{option_map_or, option_or}
 use Rattle.std.proofs.lemmas.List.FromFn.{map-range_with_len_more}
 use Rattle.stop_schedule.specs.Planned.{planned}
@@ -19,7 +19,7 @@ use Rattle.propagation.specs.Saying.{placed_at, says_at, says_times}
 use Rattle.propagation.specs.Spreading.{are_rising_from, delay_behind, first_at, later, reading_at}
 use Rattle.propagation.specs.declared.placing.Placed.{Placed}
 use Rattle.propagation.specs.declared.placing.Says.{Says}
-use Rattle.propagation.specs.declared.placing.Says.TheVariants.{Skipped, NoData, Timed}
+use Rattle.propagation.specs.declared.placing.Says.TheVariants.{NoData}
 
 -- the last update that isn't SKIPPED
 abbrev pub unless_skipped : ℕ × StopUpdate → Option (ℕ × StopUpdate)

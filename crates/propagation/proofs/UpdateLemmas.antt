@@ -1,14 +1,13 @@
 -- What a list of updates says of the stops of a trip.
-use Rattle.std.proofs.Common.{◌≡◌, ◌∙◌, ℕ, List, map, length, true, Result, Ok, Err, None, refl, sym, ap}
+use Rattle.std.proofs.Common.{◌≡◌, ℕ, List, map, length, true, Result, Ok, Err, None, refl, sym, ap}
 use Rattle.std.specs.List.{range_with_len, zip}
 use Rattle.gw_base.specs.declared.messages.StopUpdate.{StopUpdate}
 use Rattle.gw_base.specs.declared.messages.TripUpdate.{TripUpdate}
 use Rattle.journey_model.specs.FeedReadings.{stops_said}
-use Rattle.journey_model.specs.Propagation.{prop, propagated}
+use Rattle.journey_model.specs.Propagation.{prop}
 use Rattle.journey_model.specs.Runs.{Run}
 use Rattle.journey_model.specs.Updates.{places}
 use Rattle.journey_model.specs.declared.fault.Fault.{Fault}
-use Rattle.journey_model.specs.declared.readings.JourneyReading.{JourneyReading}
 use Rattle.journey_model.specs.declared.readings.JourneyReading.TheVariants.{Stops}
 use Rattle.journey_model.specs.declared.readings.StopReading.{StopReading}
 use Rattle.propagation.specs.Saying.{placed_all, placed_at}

@@ -1,5 +1,5 @@
 -- How a feed is read over a timetable.
-use Rattle.std.specs.Prelude.{◌≡◌, ◌<◌, ℕ, ℤ, true, All, Option, Some, List, length}
+use Rattle.std.specs.Prelude.{◌≡◌, ◌<◌, ℤ, true, All, Some, length}
 use Rattle.std.specs.List.Sorted.{IsPermutation, IsSorted}
 use Rattle.std.specs.declared.cmp.Ordering.{Ordering}
 use Rattle.std.specs.Ordering.{int_cmp, nat_cmp, ordering_then}
@@ -20,8 +20,8 @@ journey_cmp a b = ordering_then (int_cmp a.day b.day) (nat_cmp a.trip.0 b.trip.0
 abbrev pub IsServable : Schedule → DatedReading → Type 0
 IsServable schedule one = schedules.IsServable schedule one.trip.0 one.day one.reading
 
--- what a feed says of journeys: of the readings of one journey the last, sorted by journey; and how many entities were taken
--- and passed, and which were set aside
+-- what a feed says of journeys: of the readings of one journey the last, sorted by journey, and each can be served; and how
+-- many entities were taken and passed, and which were set aside
 pub record IsReading (schedule : Schedule) (feed : Feed) (found : FeedReading) : Type 0 where
   pub same : IsPermutation (last_of_each (given_all (readings schedule feed))) found.journeys
   pub sorted : IsSorted journey_cmp found.journeys

@@ -35,7 +35,8 @@ pub(crate) fn recorded_in(feed: &Feed, update: &TripUpdate) -> Option<Moment>
 
 /// The trip that an update names (GTFS Realtime reference, TripDescriptor: trip_id).
 pub(crate) fn trip_named(context: &Context<'_>, update: &TripUpdate) -> Option<TripNo>
-    ensures named { option_map (λ trip. trip.0) result ≡ spec.trip_named (schedule_of context.now) update.now }
+    ensures named { option_map (λ trip. trip.0) result
+        ≡ spec.trip_named (schedule_of context.now) update.now }
     ensures within { IfSome result (λ trip. trip.0 < length context.now.table.now.trips) }
 {
     match filled_text(&update.trip.trip_id) {

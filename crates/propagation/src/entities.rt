@@ -23,7 +23,9 @@ fn read_dated(
     dated: &DatedTrip<'_>,
 ) -> Result<DatedReading, UpdateFault>
     ensures { let run = run_of context.now.table.now.stops dated.now in
-        Propagates (spec.with_reading dated.now.trip.0 dated.now.day (spec.recorded_in feed.now update.now) (spec.reading_said run update.now)) result }
+        let recorded = spec.recorded_in feed.now update.now in
+        let said = spec.reading_said run update.now in
+        Propagates (spec.with_reading dated.now.trip.0 dated.now.day recorded said) result }
 {
     let reading = propagate(alloc, context.table, dated, update)?;
     Ok(DatedReading {
@@ -65,7 +67,8 @@ fn read_trip(
     update: &TripUpdate,
 ) -> Result<DatedReading, UpdateFault>
     ensures { let schedule = schedule_of context.now in
-        Propagates (spec.said_of_trip schedule feed.now update.now (spec.trip_named schedule update.now)) result }
+        let trip = spec.trip_named schedule update.now in
+        Propagates (spec.said_of_trip schedule feed.now update.now trip) result }
 {
     let Some(trip) = trip_named(context, update) else {
         return Err(UpdateFault::Fault(Fault::UnknownJourney));

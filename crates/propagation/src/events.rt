@@ -29,7 +29,8 @@ pub(crate) fn planned_times(dated: &DatedTrip<'_>, row: &StopRow) -> (i64, i64)
 /// The planned times at a place of a trip.
 pub(crate) fn planned_at(dated: &DatedTrip<'_>, place: u32) -> (i64, i64)
     requires { place < length dated.now.stops.now }
-    ensures value { result ≡ option_map_or (planned dated.now.start) (slice_get dated.now.stops.now place) (pos 0, pos 0) }
+    ensures value { let row = slice_get dated.now.stops.now place in
+        result ≡ option_map_or (planned dated.now.start) row (pos 0, pos 0) }
     ensures range { ArePlanned result }
 {
     planned_times(dated, &dated.stops[place as usize])
@@ -119,8 +120,8 @@ pub(crate) fn said_times(
     departure: Option<i64>,
 ) -> Result<Says, Fault>
     requires { ArePlanned planned }
-    ensures { result
-        ≡ said_times number planned (delay_fault number planned arrival departure) (both_times planned arrival departure) }
+    ensures { let late = delay_fault number planned arrival departure in
+        result ≡ said_times number planned late (both_times planned arrival departure) }
 {
     if let Some(fault) = delay_fault(number, planned, arrival, departure) {
         return Err(fault);

@@ -1,5 +1,5 @@
-//! A GTFS Realtime feed becomes what it says of every stop of every journey: delays are propagated along a trip, and
-//! the updates of a feed are read over a timetable. The definitions stand in `journey_model`.
+//! A GTFS Realtime feed becomes what it says of every stop of every journey: delays are propagated along
+//! a trip, and the updates of a feed are read over a timetable. The definitions stand in `journey_model`.
 #![tactic(auto)]
 
 mod dating;
@@ -8,6 +8,8 @@ mod events;
 mod feeds;
 mod placing;
 mod propagating;
+#[cfg(test)]
+mod tests;
 mod update_fault;
 mod updates;
 

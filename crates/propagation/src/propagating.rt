@@ -6,7 +6,7 @@ ghost use Rattle.gw_base.specs.declared.messages.StopUpdate.{StopUpdate};
 ghost use Rattle.journey_model.specs.Dated.{run_of};
 ghost use Rattle.journey_model.specs.Propagation.{prop};
 ghost use Rattle.propagation.specs.Saying.{ArePlanned, placed_at};
-ghost use Rattle.propagation.specs.Spreading.{delay_behind, first_at, reading_at, are_rising_from};
+ghost use Rattle.propagation.specs.Spreading.{are_rising_from, delay_behind, first_at, later, reading_at};
 
 use crate::events::planned_times;
 use crate::placing::{Placed, Says};
@@ -36,29 +36,36 @@ fn delay_behind(delay: Option<i32>, said: Option<Says>) -> Option<i32>
     }
 }
 
+// How a stop that no update is of reads: later than planned by the delay that is carried on.
+fn later(planned: (i64, i64), delay: Option<i32>) -> StopReading
+    requires { ArePlanned planned }
+    ensures { result ≡ later planned delay }
+{
+    match delay {
+        Some(delay) => StopReading::Timed {
+            arrival: planned.0 + delay as i64,
+            departure: planned.1 + delay as i64,
+        },
+        None => StopReading::Absent,
+    }
+}
+
 // How a stop with these planned times reads.
 fn reading_at(planned: (i64, i64), delay: Option<i32>, said: Option<Says>) -> StopReading
     requires { ArePlanned planned }
     ensures { result ≡ reading_at planned delay said }
 {
-    match (said, delay) {
-        (Some(Says::Skipped), _) => StopReading::Skipped,
-        (Some(Says::NoData), _) => StopReading::Absent,
-        (
-            Some(
-                Says::Timed {
-                    arrival,
-                    departure,
-                    ..
-                },
-            ),
-            _,
+    match said {
+        None => later(planned, delay),
+        Some(Says::Skipped) => StopReading::Skipped,
+        Some(Says::NoData) => StopReading::Absent,
+        Some(
+            Says::Timed {
+                arrival,
+                departure,
+                ..
+            },
         ) => StopReading::Timed { arrival, departure },
-        (None, None) => StopReading::Absent,
-        (None, Some(delay)) => StopReading::Timed {
-            arrival: planned.0 + delay as i64,
-            departure: planned.1 + delay as i64,
-        },
     }
 }
 
@@ -68,9 +75,11 @@ pub(crate) fn readings(
     dated: &DatedTrip<'_>,
     placed: &[Placed],
 ) -> Result<List<StopReading>, AllocError>
-    ensures { (ids : Values (Values ℕ)) (updates : Values (ℕ × StopUpdate)) → are_rising_from 0 updates ≡ true
-        → placed.now ≡ map (placed_at (run_of ids dated.now)) updates
-        → IfOk result (λ all. all ≡ map (prop (run_of ids dated.now) updates) (range_with_len 0 (length dated.now.stops.now))) }
+    ensures { (ids : Values (Values ℕ)) (updates : Values (ℕ × StopUpdate)) →
+        let run = run_of ids dated.now in
+        let places = range_with_len 0 (length dated.now.stops.now) in
+        are_rising_from 0 updates ≡ true → placed.now ≡ map (placed_at run) updates
+        → IfOk result (λ all. all ≡ map (prop run updates) places) }
 {
     let mut all = List::new(alloc);
     let mut rest = placed;

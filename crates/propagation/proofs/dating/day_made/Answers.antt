@@ -1,4 +1,4 @@
-use Rattle.std.proofs.Common.{◌≡◌, Ok, arith, w64, to_z, of_z}
+use Rattle.std.proofs.Common.{◌≡◌, arith, w64, to_z, of_z}
 use Rattle.std.proofs.lemmas.Int.{ints, to_z-of_z}
 use Rattle.service_day.specs.Starts.{local_day}
 use Rattle.propagation.proofs.DayLemmas.{local_day_late}

@@ -1,4 +1,4 @@
-use Rattle.std.proofs.Common.{◌≡◌, ◌∙◌, ◌<◌, None, Some, Ok, Err, sym, ap, arith, length}
+use Rattle.std.proofs.Common.{◌∙◌, None, Some, Ok, Err, sym, ap, arith}
 use Rattle.std.proofs.lemmas.List.{append-nil}
 use Rattle.journey_model.specs.FeedReadings.{given_all, passed_count, aside_from}
 use Rattle.journey_model.specs.Schedules.{schedule_of}

@@ -1,4 +1,4 @@
-use Rattle.std.proofs.Common.{◌∙◌, refl, sym, ap, arith}
+use Rattle.std.proofs.Common.{◌∙◌, sym, arith}
 use Rattle.journey_model.specs.Dated.{run_of}
 use Rattle.journey_model.specs.Updates.{place_of}
 use Rattle.propagation.proofs.PlaceLemmas.{placed_none, placed_more, placed_all-fault, placed_all-done, is_at, is_fault}

@@ -1,8 +1,7 @@
-use Rattle.std.proofs.Common.{◌≡◌, ◌∙◌, true, false, refl, sym, ap, arith, drop, map, is_some, if◌then◌else◌, List}
+use Rattle.std.proofs.Common.{◌≡◌, ◌∙◌, true, false, sym, ap, arith, drop, map, is_some, if◌then◌else◌}
 use Rattle.std.specs.List.{range_with_len}
 use Rattle.journey_model.specs.Dated.{run_of}
 use Rattle.journey_model.specs.Propagation.{prop}
-use Rattle.propagation.specs.declared.placing.Placed.{Placed}
 use Rattle.propagation.proofs.SpreadLemmas.{spread_none, spread_more, planned_row}
 use Rattle.propagation.proofs.propagating.readings.Goals as goal
 use Rattle.propagation.proofs.propagating.readings.Goals.{then-is_some, else-is_some}

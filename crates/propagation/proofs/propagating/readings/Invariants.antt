@@ -1,9 +1,7 @@
 -- the readings so far, and what is carried to the next stop
 use Rattle.std.proofs.Common.{◌≡◌, ℕ, true, List, map}
-use Rattle.std.specs.List.{range_with_len}
 use Rattle.gw_base.specs.declared.messages.StopUpdate.{StopUpdate}
 use Rattle.journey_model.specs.Dated.{run_of}
-use Rattle.journey_model.specs.Propagation.{prop}
 use Rattle.propagation.specs.Saying.{placed_at}
 use Rattle.propagation.specs.Spreading.{are_rising_from}
 use Rattle.propagation.proofs.SpreadLemmas.{SpreadTo}

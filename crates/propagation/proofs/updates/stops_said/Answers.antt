@@ -1,4 +1,4 @@
-use Rattle.std.proofs.Common.{◌∙◌, sym}
+use Rattle.std.proofs.Common.{◌∙◌}
 use Rattle.journey_model.specs.Dated.{run_of}
 use Rattle.propagation.proofs.UpdateLemmas.{said_stops}
 use Rattle.propagation.proofs.updates.stops_said.Goals as goal
