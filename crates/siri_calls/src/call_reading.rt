@@ -1,4 +1,5 @@
-//! How calls are read (SIRI 2.0, RecordedCall and EstimatedCall). The functions meet `specs/Calls.antt`.
+//! How calls are read (SIRI 2.0, RecordedCall and EstimatedCall). The functions meet
+//! `specs/Calls.antt`.
 ghost use Rattle.std.specs.Prelude.{◌≡◌, ◌++◌, map, Ok, Some, IfOk, IfErr, option_map};
 ghost use Rattle.std.specs.Option.{ForSome};
 ghost use Rattle.serde_json.specs.View.{view};
@@ -76,7 +77,8 @@ fn read_statuses(tree: &Value) -> Result<Statuses, Fault>
 
 // The time of an event, in whole seconds since 1970.
 fn event_time(none: bool, actual: Option<Instant>, expected: Option<Instant>) -> Option<i64>
-    ensures value { result ≡ spec.event_time none (option_map instant_of actual) (option_map instant_of expected) }
+    ensures value { result
+        ≡ spec.event_time none (option_map instant_of actual) (option_map instant_of expected) }
     ensures moment { ForSome result IsMoment }
 {
     if none {
@@ -177,7 +179,9 @@ fn add_calls<'a>(
     trees: &'a [Value],
     zone: &Zone,
 ) -> Result<(), ReadFault>
-    ensures found { IfOk result (λ _. ok_map (λ rest. calls_of found.old.items ++ rest) (spec.calls zone.now (map view trees.now)) ≡ Ok (calls_of found.new.items)) }
+    ensures found { IfOk result (λ _.
+        ok_map (λ rest. calls_of found.old.items ++ rest) (spec.calls zone.now (map view trees.now))
+        ≡ Ok (calls_of found.new.items)) }
     ensures fault { IfErr result (IsFaultOf (spec.calls zone.now (map view trees.now))) }
 {
     for tree in trees {
@@ -194,10 +198,13 @@ fn calls_in<'a>(
     estimated: &'a [Value],
     zone: &Zone,
 ) -> Result<Vec<Option<Call<'a>>>, ReadFault>
-    ensures found { IfOk result (λ found. spec.calls zone.now (map view recorded.now ++ map view estimated.now) ≡ Ok (calls_of found.items)) }
-    ensures fault { IfErr result (IsFaultOf (spec.calls zone.now (map view recorded.now ++ map view estimated.now))) }
+    ensures found { IfOk result (λ found.
+        spec.calls zone.now (map view recorded.now ++ map view estimated.now)
+        ≡ Ok (calls_of found.items)) }
+    ensures fault { IfErr result
+        (IsFaultOf (spec.calls zone.now (map view recorded.now ++ map view estimated.now))) }
 {
-    let mut found = Vec::with_capacity(alloc, recorded.len())?;
+    let mut found = Vec::with_capacity(alloc, recorded.len().saturating_add(estimated.len()))?;
     if let Err(fault) = add_calls(&mut found, recorded, zone) {
         return Err(fault);
     }
@@ -207,13 +214,15 @@ fn calls_in<'a>(
     }
 }
 
-/// The calls of a journey: the recorded ones, and then the estimated ones. None stands for an extra call.
+/// The calls of a journey: the recorded ones, and then the estimated ones. None stands for an
+/// extra call.
 pub(crate) fn read_calls<'a>(
     alloc: Global,
     tree: &'a Value,
     zone: &Zone,
 ) -> Result<Vec<Option<Call<'a>>>, ReadFault>
-    ensures found { IfOk result (λ found. spec.calls_under zone.now (view tree.now) ≡ Ok (calls_of found.items)) }
+    ensures found { IfOk result (λ found.
+        spec.calls_under zone.now (view tree.now) ≡ Ok (calls_of found.items)) }
     ensures fault { IfErr result (IsFaultOf (spec.calls_under zone.now (view tree.now))) }
 {
     let recorded = trees_under(tree, Member::RecordedCalls, Member::RecordedCall)?;

@@ -76,15 +76,18 @@ pub enum Item {
 pub struct Delivery {
     /// Its items, in document order.
     pub items: List<Item>,
-    /// How many calls of the journeys that are taken were passed over as extra ones; a count stays at its last value.
+    /// How many calls of the journeys that are taken were passed over as extra ones; a count
+    /// stays at its last value.
     pub passed: u64,
 }
 
 // What an item is, behind those before.
 fn add_item(delivery: &mut Delivery, judged: Judged) -> Result<(), AllocError>
-    ensures verdicts { (earlier : Values (Answer (Recorded × ℕ) faults.Fault)) → HasVerdicts delivery.old earlier
+    ensures verdicts { (earlier : Values (Answer (Recorded × ℕ) faults.Fault))
+        → HasVerdicts delivery.old earlier
         → OnOk result (HasVerdicts delivery.new (earlier ++ shown_judged judged ∷ [])) }
-    ensures servable { (schedule : Schedule) → AreServable schedule delivery.old.items → CanBeServed schedule judged
+    ensures servable { (schedule : Schedule) → AreServable schedule delivery.old.items
+        → CanBeServed schedule judged
         → OnOk result (AreServable schedule delivery.new.items) }
 {
     match judged {
@@ -104,9 +107,11 @@ fn add_items(
     frame: &Place<'_>,
     context: &Context<'_>,
 ) -> Result<(), AllocError>
-    ensures verdicts { (earlier : Values (Answer (Recorded × ℕ) faults.Fault)) → HasVerdicts delivery.old earlier
+    ensures verdicts { (earlier : Values (Answer (Recorded × ℕ) faults.Fault))
+        → HasVerdicts delivery.old earlier
         → OnOk result (HasVerdicts delivery.new
-        (earlier ++ map (spec.verdict (schedule_of context.now)) (items_below (place_of frame.now)))) }
+        (earlier
+        ++ map (spec.verdict (schedule_of context.now)) (items_below (place_of frame.now)))) }
     ensures servable { AreServable (schedule_of context.now) delivery.old.items
         → OnOk result (AreServable (schedule_of context.now) delivery.new.items) }
 {
@@ -126,8 +131,10 @@ fn all_items(
     context: &Context<'_>,
 ) -> Result<Delivery, AllocError>
     ensures verdicts { IfOk result (λ delivery. HasVerdicts delivery
-        (map (spec.verdict (schedule_of context.now)) (flat_map items_below (map place_of frames.now)))) }
-    ensures servable { IfOk result (λ delivery. AreServable (schedule_of context.now) delivery.items) }
+        (map (spec.verdict (schedule_of context.now))
+        (flat_map items_below (map place_of frames.now)))) }
+    ensures servable { IfOk result (λ delivery.
+        AreServable (schedule_of context.now) delivery.items) }
 {
     let mut delivery = Delivery {
         items: List::new(alloc),
@@ -139,16 +146,18 @@ fn all_items(
     Ok(delivery)
 }
 
-/// Reads a delivery of estimated timetables (SIRI 2.0, in JSON after SIRI Lite): each journey of it, in document order,
-/// is taken, or set aside with its first fault. NotJson and NotDelivery come exactly where the body says so, and want
-/// of memory may come in the place of any answer.
+/// Reads a delivery of estimated timetables (SIRI 2.0, EstimatedTimetableDelivery; in JSON after SIRI
+/// Lite): each journey of it, in document order, is taken, or set aside with its first fault. NotJson
+/// comes exactly where the body isn't JSON in UTF-8, NotDelivery where the way down to its journeys is
+/// broken, with the first member that is wrong. Want of memory may come in the place of any answer.
 pub fn read_delivery(
     alloc: Global,
     body: &[u8],
     context: &Context<'_>,
 ) -> Result<Delivery, DeliveryFault>
     ensures reads { ReadsBody (schedule_of context.now) body.now result }
-    ensures servable { IfOk result (λ delivery. AreServable (schedule_of context.now) delivery.items) }
+    ensures servable { IfOk result (λ delivery.
+        AreServable (schedule_of context.now) delivery.items) }
 {
     let root = match Value::from_slice(alloc, body) {
         Ok(root) => root,

@@ -3,7 +3,8 @@ ghost use Rattle.std.specs.Prelude.{◌≡◌};
 ghost use Rattle.serde_json.specs.View.{view};
 ghost use Rattle.siri_calls.specs.Fields as spec;
 ghost use Rattle.siri_calls.specs.Forms as forms;
-ghost use Rattle.siri_calls.specs.Shown.{optional_text, optional_moment, optional_tree, optional_trees, required_text, required_tree};
+ghost use Rattle.siri_calls.specs.Shown.{optional_text, optional_moment, optional_tree};
+ghost use Rattle.siri_calls.specs.Shown.{optional_trees, required_text, required_tree};
 
 use crate::forms::{Form, day, flag, moment, object_form, objects, text, whole};
 use gw_base::Member;
@@ -68,7 +69,8 @@ pub(crate) fn optional_moment(
     member: Member,
     zone: &Zone,
 ) -> Result<Option<Instant>, Fault>
-    ensures { optional_moment result ≡ spec.optional_member (forms.moment zone.now) member (view tree.now) }
+    ensures { optional_moment result
+        ≡ spec.optional_member (forms.moment zone.now) member (view tree.now) }
 {
     match tree.get(member.name()) {
         Some(found) => optional(member, moment(found, zone)),

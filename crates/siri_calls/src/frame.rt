@@ -15,7 +15,8 @@ use gw_base::Member;
 use serde_json::Value;
 use std::alloc::Global;
 
-/// An object of a delivery or a journey's item, and the members above that may say when it was recorded.
+/// An object of a delivery or a journey's item, and the members above that may say when it was
+/// recorded.
 #[derive(Clone, Copy)]
 pub(crate) struct Place<'a> {
     /// The object or the item.
@@ -65,7 +66,8 @@ fn service_in(root: &Value) -> Result<&Value, Member>
 
 // The deliveries of a service delivery, which have to be there.
 fn deliveries_in(service: &Value) -> Result<&[Value], Member>
-    ensures { ok_map trees_of result ≡ spec.there Member.EstimatedTimetableDelivery (get (codes "EstimatedTimetableDelivery") (view service.now)) }
+    ensures { ok_map trees_of result ≡ spec.there Member.EstimatedTimetableDelivery
+        (get (codes "EstimatedTimetableDelivery") (view service.now)) }
 {
     let Some(found) = service.get("EstimatedTimetableDelivery") else {
         return Err(Member::EstimatedTimetableDelivery);
@@ -93,7 +95,8 @@ pub(crate) fn repeated_under(tree: &Value, member: Member) -> &[Value]
 
 // A frame of a delivery.
 fn frame_place<'a>(tree: &'a Value, delivery: &'a Value, service: &'a Value) -> Place<'a>
-    ensures { place_of result ≡ spec.frame_place (spec.delivery_place (view service.now) (view delivery.now)) (view tree.now) }
+    ensures { place_of result
+        ≡ spec.frame_place (spec.delivery_place (view service.now) (view delivery.now)) (view tree.now) }
 {
     Place {
         tree,
@@ -110,10 +113,12 @@ fn add_frames<'a>(
     service: &'a Value,
 ) -> Result<(), DeliveryFault>
     ensures found { IfOk result (λ _. ok_map (λ frames. places_of found.old.items ++ frames)
-        (spec.all_objects (spec.frames_below (spec.delivery_place (view service.now) (view delivery.now))))
+        (spec.all_objects (spec.frames_below
+        (spec.delivery_place (view service.now) (view delivery.now))))
         ≡ Ok (places_of found.new.items)) }
     ensures fault { IfErr result (IsFrameFault
-        (spec.all_objects (spec.frames_below (spec.delivery_place (view service.now) (view delivery.now))))) }
+        (spec.all_objects (spec.frames_below
+        (spec.delivery_place (view service.now) (view delivery.now))))) }
 {
     let trees = repeated_under(delivery, Member::EstimatedJourneyVersionFrame);
     if !are_objects(trees) {
@@ -132,7 +137,8 @@ fn frames_of<'a>(
     service: &'a Value,
 ) -> Result<Vec<Place<'a>>, DeliveryFault>
     ensures found { IfOk result (λ found.
-        spec.frames_of (map (spec.delivery_place (view service.now)) (map view deliveries.now)) ≡ Ok (places_of found.items)) }
+        spec.frames_of (map (spec.delivery_place (view service.now)) (map view deliveries.now))
+        ≡ Ok (places_of found.items)) }
     ensures fault { IfErr result (IsFrameFault
         (spec.frames_of (map (spec.delivery_place (view service.now)) (map view deliveries.now)))) }
 {
@@ -147,7 +153,8 @@ fn frames_of<'a>(
 
 /// The frames of a delivery, in document order, or the first row of the way down that is broken.
 pub(crate) fn frames_in(alloc: Global, root: &Value) -> Result<Vec<Place<'_>>, DeliveryFault>
-    ensures found { IfOk result (λ found. spec.frames_in (view root.now) ≡ Ok (places_of found.items)) }
+    ensures found { IfOk result (λ found.
+        spec.frames_in (view root.now) ≡ Ok (places_of found.items)) }
     ensures fault { IfErr result (IsFrameFault (spec.frames_in (view root.now))) }
 {
     let service = service_in(root)?;

@@ -44,7 +44,8 @@ fn moment_at(found: Option<&Value>, zone: &Zone) -> Form<Instant>
 
 // When an item was recorded by the objects above its frame.
 fn moment_above(place: &Place<'_>, zone: &Zone) -> Form<Instant>
-    ensures { moment_form result ≡ spec.first_moment zone.now (tree_at place.now.delivery ∷ tree_at place.now.service ∷ []) }
+    ensures { moment_form result ≡ spec.first_moment zone.now
+        (tree_at place.now.delivery ∷ tree_at place.now.service ∷ []) }
 {
     match moment_at(place.delivery, zone) {
         Form::Missing => moment_at(place.service, zone),

@@ -29,8 +29,10 @@ fn calls_unless<'a>(
     tree: &'a Value,
     zone: &Zone,
 ) -> Result<Vec<Option<Call<'a>>>, ReadFault>
-    ensures found { IfOk result (λ found. spec.calls_unless cancelled zone.now (view tree.now) ≡ Ok (calls_of found.items)) }
-    ensures fault { IfErr result (IsFaultOf (spec.calls_unless cancelled zone.now (view tree.now))) }
+    ensures found { IfOk result (λ found.
+        spec.calls_unless cancelled zone.now (view tree.now) ≡ Ok (calls_of found.items)) }
+    ensures fault { IfErr result
+        (IsFaultOf (spec.calls_unless cancelled zone.now (view tree.now))) }
 {
     if cancelled {
         Ok(Vec::new(alloc))
@@ -41,8 +43,10 @@ fn calls_unless<'a>(
 
 // What an item is that is an object.
 fn item_read(alloc: Global, place: &Place<'_>, context: &Context<'_>) -> Result<Judged, ReadFault>
-    ensures value { IfOk result (λ answer. shown_judged answer ≡ spec.item_read (schedule_of context.now) (place_of place.now)) }
-    ensures fault { IfErr result (IsFaultOf (spec.item_read (schedule_of context.now) (place_of place.now))) }
+    ensures value { IfOk result (λ answer.
+        shown_judged answer ≡ spec.item_read (schedule_of context.now) (place_of place.now)) }
+    ensures fault { IfErr result
+        (IsFaultOf (spec.item_read (schedule_of context.now) (place_of place.now))) }
     ensures servable { IfOk result (CanBeServed (schedule_of context.now)) }
 {
     let head = match read_header(place, context.zone) {
@@ -56,13 +60,15 @@ fn item_read(alloc: Global, place: &Place<'_>, context: &Context<'_>) -> Result<
     }
 }
 
-/// What an item is: its members are read, and then its journey is judged. An error is want of memory.
+/// What an item is: its members are read, and then its journey is judged. An error is want of
+/// memory.
 pub(crate) fn verdict(
     alloc: Global,
     place: &Place<'_>,
     context: &Context<'_>,
 ) -> Result<Judged, AllocError>
-    ensures value { IfOk result (λ answer. shown_judged answer ≡ spec.verdict (schedule_of context.now) (place_of place.now)) }
+    ensures value { IfOk result (λ answer.
+        shown_judged answer ≡ spec.verdict (schedule_of context.now) (place_of place.now)) }
     ensures servable { IfOk result (CanBeServed (schedule_of context.now)) }
 {
     if !is_object(place.tree) {

@@ -1,4 +1,5 @@
-//! Deliveries of estimated timetables (SIRI 2.0, in JSON after SIRI Lite): what each journey of one says.
+//! Deliveries of estimated timetables (SIRI 2.0, in JSON after SIRI Lite): what each journey of one
+//! says.
 #![tactic(auto)]
 
 mod call_reading;
