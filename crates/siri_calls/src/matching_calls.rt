@@ -92,7 +92,7 @@ pub(crate) fn stop_calls<'a>(
                 return Err(ReadFault::Aside(Fault::UnknownStop(number)));
             };
             found.push(StopCall { stop, number, call })?;
-            from = place + 1;
+            from = place;
         }
     }
     Ok(found)
