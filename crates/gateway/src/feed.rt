@@ -9,13 +9,12 @@ ghost use Rattle.journey_model.specs.Records.{Recorded, recorded};
 ghost use Rattle.journey_model.specs.Schedules.{IsServable, schedule_of};
 
 use crate::deliveries::Named;
-use crate::latest::latest_records;
+use crate::latest::{Latest, latest_records};
 use feed_messages::header_bytes;
 use gw_base::{Bytes, Moment};
 use journey_model::{Context, JourneyRecord};
 use latest_store::record_entity;
 use std::alloc::{AllocError, Global};
-use std::collections::BTreeMap;
 
 // Adds the entity of a record.
 fn add_entity(
@@ -25,8 +24,10 @@ fn add_entity(
     rec: &JourneyRecord,
 ) -> Result<(), AllocError>
     requires { IsServable (schedule_of context.now) rec.now.trip.0 rec.now.day rec.now.reading }
-    ensures { (at : ℤ) (records : List Recorded) → IsWritten at (schedule_of context.now) records feed.old
-        → OnOk result (IsWritten at (schedule_of context.now) (records ++ recorded rec.now ∷ []) feed.new) }
+    ensures { (at : ℤ) (records : List Recorded)
+        → IsWritten at (schedule_of context.now) records feed.old
+        → OnOk result
+            (IsWritten at (schedule_of context.now) (records ++ recorded rec.now ∷ []) feed.new) }
 {
     let bytes = record_entity(alloc, context, rec)?;
     feed.extend(bytes.as_slice())
@@ -37,7 +38,7 @@ fn written(
     alloc: Global,
     at: Moment,
     context: &Context<'_>,
-    latest: &BTreeMap<(i32, u32), &JourneyRecord>,
+    latest: &Latest<'_>,
 ) -> Result<Bytes, AllocError>
     requires { AreServable (schedule_of context.now) (all_held latest.now) }
     ensures { IfOk result (λ feed. IsWritten at (schedule_of context.now) (all_held latest.now) feed) }
@@ -49,8 +50,8 @@ fn written(
     Ok(feed)
 }
 
-/// The bytes of a full dataset that is made at that moment: its header, and the entity of the latest record of each
-/// journey, by service day and then trip (GTFS Realtime, FeedMessage).
+/// The bytes of a full dataset that is made at that moment: its header, and the entity of the latest
+/// record of each journey, by service day and then trip (GTFS Realtime, FeedMessage).
 pub fn feed_bytes(
     alloc: Global,
     at: Moment,

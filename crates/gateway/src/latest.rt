@@ -11,6 +11,9 @@ use siri_calls::Item;
 use std::alloc::{AllocError, Global};
 use std::collections::BTreeMap;
 
+/// The latest record of each journey, by the number of its service day and of its trip.
+pub type Latest<'a> = BTreeMap<(i32, u32), &'a JourneyRecord>;
+
 // Whether a record that arrives counts in the place of the one that is held for its journey.
 fn counts(held: Option<&&JourneyRecord>, arriving: &JourneyRecord) -> bool
     ensures { result ≡ counts (option_map (λ one. recorded one.now.now) held.entry) (recorded arriving.now) }
@@ -22,10 +25,7 @@ fn counts(held: Option<&&JourneyRecord>, arriving: &JourneyRecord) -> bool
 }
 
 // Holds a record that arrives, where it is the latest of its journey.
-fn keep<'a>(
-    latest: &mut BTreeMap<(i32, u32), &'a JourneyRecord>,
-    arriving: &'a JourneyRecord,
-) -> Result<(), AllocError>
+fn keep<'a>(latest: &mut Latest<'a>, arriving: &'a JourneyRecord) -> Result<(), AllocError>
     ensures { (records : List Recorded) → HoldsLatest records latest.old
         → OnOk result (HoldsLatest (records ++ recorded arriving.now ∷ []) latest.new) }
 {
@@ -37,10 +37,7 @@ fn keep<'a>(
 }
 
 // Holds the record of an item that is taken, where it is the latest of its journey.
-fn keep_item<'a>(
-    latest: &mut BTreeMap<(i32, u32), &'a JourneyRecord>,
-    item: &'a Item,
-) -> Result<(), AllocError>
+fn keep_item<'a>(latest: &mut Latest<'a>, item: &'a Item) -> Result<(), AllocError>
     ensures { (records : List Recorded) → HoldsLatest records latest.old
         → OnOk result (HoldsLatest (records ++ taken_in (item.now ∷ [])) latest.new) }
 {
@@ -50,11 +47,8 @@ fn keep_item<'a>(
     }
 }
 
-// Holds the latest of the records that are held and those of items.
-fn keep_all<'a>(
-    latest: &mut BTreeMap<(i32, u32), &'a JourneyRecord>,
-    items: &'a [Item],
-) -> Result<(), AllocError>
+// Holds the latest of the records that are held and those of items that are taken.
+fn keep_all<'a>(latest: &mut Latest<'a>, items: &'a [Item]) -> Result<(), AllocError>
     ensures { (records : List Recorded) → HoldsLatest records latest.old
         → OnOk result (HoldsLatest (records ++ taken_in items.now) latest.new) }
 {
@@ -64,11 +58,8 @@ fn keep_all<'a>(
     Ok(())
 }
 
-/// The latest record of each journey, by service day, then trip number, of all that were taken.
-pub fn latest_records(
-    alloc: Global,
-    deliveries: &[Named],
-) -> Result<BTreeMap<(i32, u32), &JourneyRecord>, AllocError>
+/// Of all records that were taken the latest of each journey (SIRI 2.0, RecordedAtTime).
+pub fn latest_records(alloc: Global, deliveries: &[Named]) -> Result<Latest<'_>, AllocError>
     ensures { IfOk result (λ latest. HoldsLatest (all_taken deliveries.now) latest) }
 {
     let mut latest = BTreeMap::new(alloc);
