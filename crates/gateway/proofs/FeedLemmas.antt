@@ -1,5 +1,5 @@
 -- What the bytes of a feed say and mean, record by record.
-use Rattle.std.proofs.Common.{◌≡◌, ◌∙◌, ◌++◌, ◌∷◌, [], ℕ, ℤ, List, map, Result, Ok, Err, ap, sym, refl, subst}
+use Rattle.std.proofs.Common.{◌≡◌, ◌∙◌, ◌++◌, ◌∷◌, [], ℕ, ℤ, List, map, Result, Ok, Err, ap, sym, subst}
 use Rattle.std.proofs.lemmas.List.{append-nil, append_assoc}
 use Rattle.std.specs.Prelude.{⊤, IfOk, OnOk}
 use Rattle.std.specs.List.{AllByRecursion, flat_map}
@@ -37,7 +37,7 @@ written_more at schedule records one old bytes new h grew is means says = record
       ∙ ap (λ (back : List ℕ). header at ++ back) (sym (flat_map-push (entity schedule) records one));
   means =
       let more : MeansFeed (old ++ bytes) (full_dataset at (flat_map (messages schedule) records ++ messages schedule one)) =
-          means old (full_dataset at (flat_map (messages schedule) records)) h.means in
+      means old (full_dataset at (flat_map (messages schedule) records)) h.means in
       subst (λ (b : List ℕ). MeansFeed b (full_dataset at (flat_map (messages schedule) (records ++ one ∷ [])))) (sym grew)
       (subst (λ entities. MeansFeed (old ++ bytes) (full_dataset at entities)) (sym (flat_map-push (messages schedule) records one)) more);
   says = all_pushed (SaysItself schedule) records one h.says says;

@@ -1,8 +1,8 @@
 -- The records that were taken, item by item and delivery by delivery, and that they can be served.
-use Rattle.std.proofs.Common.{◌≡◌, ◌∙◌, ◌<◌, ◌≤◌, ◌+◌, ◌++◌, ◌∷◌, [], ℕ, List, length, take, get_or, map, refl, ap, sym, subst}
+use Rattle.std.proofs.Common.{◌≡◌, ◌∙◌, ◌<◌, ◌≤◌, ◌+◌, ◌++◌, ◌∷◌, [], ℕ, List, length, take, get_or, map, ap, sym}
 use Rattle.std.proofs.lemmas.List.{append-nil, append_assoc, map-append, take_all, take_more}
 use Rattle.std.proofs.lemmas.List.Elements.{filter_map-append}
-use Rattle.std.specs.List.{AllByRecursion, flat_map}
+use Rattle.std.specs.List.{AllByRecursion}
 use Rattle.std.specs.Result.{result_ok}
 use Rattle.journey_model.specs.Records.{Recorded, recorded}
 use Rattle.journey_model.specs.declared.fault.Fault.{Fault}

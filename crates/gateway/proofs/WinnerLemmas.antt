@@ -1,5 +1,5 @@
 -- The records that are held are the latest of those that arrived.
-use Rattle.std.proofs.Common.{◌≡◌, ◌∙◌, ◌<◌, ◌≤◌, ◌+◌, ◌++◌, ◌∷◌, [], ℕ, zero, suc, ℤ, pos, negsuc, Bool, true, false, cond, not, ◌||◌, ◌&&◌, ◌==◌, List, map, Option, Some, None, option_map, sym, ap, refl, subst, inl, inr, arith}
+use Rattle.std.proofs.Common.{◌≡◌, ◌∙◌, ◌++◌, ◌∷◌, [], ℕ, suc, ℤ, Bool, true, false, cond, not, ◌||◌, ◌&&◌, ◌==◌, List, map, Option, Some, None, option_map, sym, ap, refl, subst, arith}
 use Rattle.std.proofs.lemmas.Bool.{true≢false}
 use Rattle.std.proofs.lemmas.Cmp.{on_total, then_total, nat_cmp_total, int_cmp_total, eq_by_cmp_equiv}
 use Rattle.std.proofs.lemmas.Int.{ints}
@@ -7,21 +7,20 @@ use Rattle.std.proofs.lemmas.List.{append_assoc}
 use Rattle.std.proofs.lemmas.List.Folds.{list_any-append}
 use Rattle.std.proofs.lemmas.Map.Entries.{btree_map_get_place}
 use Rattle.std.specs.Prelude.{int_lt, nat_lt, find, option_copied, slice_get}
-use Rattle.std.specs.BTreeMap.{BTreeMap, IsOrdered, get, values, is_at}
+use Rattle.std.specs.BTreeMap.{IsOrdered, get, is_at}
 use Rattle.std.specs.Cmp.{IsTotalOrder, signed_Decides, unsigned_Decides, unsigned_ties, tied_then}
 use Rattle.std.specs.List.{AllByRecursion, list_all, list_any}
 use Rattle.std.specs.List.Sorted.{IsStrictlySortedBy}
 use Rattle.std.specs.Map.{keys_of, values_of, lookup}
-use Rattle.std.specs.Ordering.{int_cmp, int_eq, is_eq, nat_cmp, on, ordering_then, then_cmp}
-use Rattle.std.specs.declared.cmp.Ordering.{Ordering}
-use Rattle.std.specs.declared.cmp.Ordering.TheVariants.{Less, Equal, Greater}
-use denote.Ref.{Bor}
+use Rattle.std.specs.Ordering.{int_cmp, int_eq, is_eq, nat_cmp, on, then_cmp}
+use Rattle.std.specs.declared.cmp.Ordering.TheVariants.{Less}
 use Rattle.journey_model.specs.Records.{Recorded, recorded}
 use Rattle.journey_model.specs.Schedules.{IsServable, Schedule}
 use Rattle.journey_model.specs.declared.readings.JourneyRecord.{JourneyRecord}
 use Rattle.latest_store.specs.Latest.{HasLatest, IsLatest, is_later, is_of}
 use Rattle.gateway.specs.Feeds.{are_in_order, comes_before}
 use Rattle.gateway.specs.Winners.{AreServable, Held, HoldsLatest, all_held, counts, held, key_cmp, recorded_at}
+use denote.Ref.{Bor}
 
 -- ---- instants
 
@@ -117,14 +116,14 @@ latest_new records one old trip day its late h = record {
   none_later =
       let P : Recorded → Bool = λ other. is_of trip day other && is_later other.at one.at in
       let front : list_any P h.before ≡ false =
-          none_also (λ other. is_of trip day other && is_later other.at old.at) P
-          (λ other lost. and_also (is_of trip day other) (is_later other.at old.at) (is_later other.at one.at) (λ e. later_gap other.at old.at one.at e late) lost)
-          h.before h.none_later in
+      none_also (λ other. is_of trip day other && is_later other.at old.at) P
+      (λ other lost. and_also (is_of trip day other) (is_later other.at old.at) (is_later other.at one.at) (λ e. later_gap other.at old.at one.at e late) lost)
+      h.before h.none_later in
       let back : list_any P h.behind ≡ false =
-          none_also (λ other. is_of trip day other && not (is_later old.at other.at)) P
-          (λ other lost. and_also (is_of trip day other) (not (is_later old.at other.at)) (is_later other.at one.at)
-            (λ e. later_behind old.at other.at one.at (not_false (is_later old.at other.at) e) late) lost)
-          h.behind h.none_as_late in
+      none_also (λ other. is_of trip day other && not (is_later old.at other.at)) P
+      (λ other lost. and_also (is_of trip day other) (not (is_later old.at other.at)) (is_later other.at one.at)
+      (λ e. later_behind old.at other.at one.at (not_false (is_later old.at other.at) e) late) lost)
+      h.behind h.none_as_late in
       ap (list_any P) h.among ∙ none_joined P h.before (old ∷ h.behind) front (rw (h.its, late, back) refl);
   none_as_late = refl;
 }
@@ -274,7 +273,7 @@ entry_before : (d e : (ℤ × ℕ) × Bor JourneyRecord) → IsKeyed d → IsKey
 entry_before d e p q less =
     less_before ((recorded_at d.1).day, (recorded_at d.1).trip) ((recorded_at e.1).day, (recorded_at e.1).trip)
     (subst (λ (key : ℤ × ℕ). key_cmp ((recorded_at d.1).day, (recorded_at d.1).trip) key ≡ Less) (sym (key_of_entry e q))
-      (subst (λ (key : ℤ × ℕ). key_cmp key e.0 ≡ Less) (sym (key_of_entry d p)) less))
+    (subst (λ (key : ℤ × ℕ). key_cmp key e.0 ≡ Less) (sym (key_of_entry d p)) less))
 
 all_before : (d : (ℤ × ℕ) × Bor JourneyRecord) (es : List ((ℤ × ℕ) × Bor JourneyRecord)) → IsKeyed d → AllByRecursion IsKeyed es
     → AllByRecursion (λ (key : ℤ × ℕ). key_cmp d.0 key ≡ Less) (keys_of es) → list_all (comes_before (recorded_at d.1)) (map recorded_at (values_of es)) ≡ true
@@ -301,7 +300,7 @@ all_values P (e ∷ es) h = (h.0, all_values P es h.1)
 pub all_of_held : (P : Recorded → Type 0) (records : List Recorded) (latest : Held) → HoldsLatest records latest → AllByRecursion P records → AllByRecursion P (all_held latest)
 all_of_held P records latest h all =
     all_values P latest.entries (all_weaker (λ (e : (ℤ × ℕ) × Bor JourneyRecord). IsLatest records e.0.1 e.0.0 (recorded_at e.1)) (λ (e : (ℤ × ℕ) × Bor JourneyRecord). P (recorded_at e.1))
-        (λ e l. all_among P l.before (recorded_at e.1) l.behind (subst (AllByRecursion P) l.among all)) latest.entries (entries_latest records latest h))
+    (λ e l. all_among P l.before (recorded_at e.1) l.behind (subst (AllByRecursion P) l.among all)) latest.entries (entries_latest records latest h))
 
 pub servable_of_held : (schedule : Schedule) (records : List Recorded) (latest : Held) → HoldsLatest records latest → AreServable schedule records → AreServable schedule (all_held latest)
 servable_of_held schedule records latest h all = all_of_held (λ one. IsServable schedule one.trip one.day one.reading) records latest h all

@@ -9,11 +9,11 @@ use Rattle.feed_messages.specs.Written.{header}
 use Rattle.journey_model.specs.Records.{Recorded, recorded}
 use Rattle.journey_model.specs.Schedules.{IsServable, Schedule}
 use Rattle.journey_model.specs.declared.readings.JourneyRecord.{JourneyRecord}
+use Rattle.siri_calls.specs.Deliveries.{shown}
+use Rattle.siri_calls.specs.declared.delivery.Item.{Item}
 use Rattle.latest_store.specs.Entities.{entity, messages}
 use Rattle.latest_store.specs.Latest.{HasLatest, is_later}
 use Rattle.latest_store.specs.Reads.{SaysItself}
-use Rattle.siri_calls.specs.Deliveries.{shown}
-use Rattle.siri_calls.specs.declared.delivery.Item.{Item}
 use Rattle.gateway.specs.Reports.{taken}
 use denote.Ref.{Bor}
 
@@ -41,7 +41,7 @@ held latest trip day = option_map recorded_at (get key_cmp latest (day, trip))
 abbrev pub all_held : Held → List Recorded
 all_held latest = map recorded_at (values latest)
 
--- a record that arrives counts in the place of the one that is held for its journey: that isn't later
+-- a record that arrives counts where the one that is held for its journey isn't later
 abbrev pub counts : Option Recorded → Recorded → Bool
 counts None arriving = true
 counts (Some one) arriving = not (is_later one.at arriving.at)
@@ -53,7 +53,8 @@ pub record HoldsLatest (records : List Recorded) (latest : Held) : Type 0 where
 
 -- each of the records can be served
 abbrev pub AreServable : Schedule → List Recorded → Type 0
-AreServable schedule records = AllByRecursion (λ one. IsServable schedule one.trip one.day one.reading) records
+AreServable schedule records =
+    AllByRecursion (λ one. IsServable schedule one.trip one.day one.reading) records
 
 -- the feed of records, made at that moment
 pub record IsWritten (at : ℤ) (schedule : Schedule) (records : List Recorded) (feed : List ℕ) : Type 0 where

@@ -1,5 +1,5 @@
 //! The feed of the records that were taken. The functions meet `specs/Feeds.antt`.
-ghost use Rattle.std.specs.Prelude.{◌≡◌, ◌++◌, ◌∷◌, [], ℤ, List, IfOk, OnOk};
+ghost use Rattle.std.specs.Prelude.{◌++◌, ◌∷◌, [], ℤ, List, IfOk, OnOk};
 ghost use Rattle.std.specs.List.{AllByRecursion};
 ghost use Rattle.gateway.specs.Deliveries.{all_taken};
 ghost use Rattle.gateway.specs.Feeds.{IsFeed};
@@ -27,7 +27,7 @@ fn add_entity(
     ensures { (at : ℤ) (records : List Recorded)
         → IsWritten at (schedule_of context.now) records feed.old
         → OnOk result
-            (IsWritten at (schedule_of context.now) (records ++ recorded rec.now ∷ []) feed.new) }
+        (IsWritten at (schedule_of context.now) (records ++ recorded rec.now ∷ []) feed.new) }
 {
     let bytes = record_entity(alloc, context, rec)?;
     feed.extend(bytes.as_slice())

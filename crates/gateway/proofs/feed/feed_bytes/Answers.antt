@@ -15,7 +15,7 @@ pub returns : goal.returns
 returns c =
     let records = all_taken c.args.deliveries.now in
     let servable =
-        servable_of_held (schedule_of c.args.context.now) records c.in_ok-latest.latest c.in_ok-latest.ensures
-        (all_servable (schedule_of c.args.context.now) c.args.deliveries.now c.requires) in
+    servable_of_held (schedule_of c.args.context.now) records c.in_ok-latest.latest c.in_ok-latest.ensures
+    (all_servable (schedule_of c.args.context.now) c.args.deliveries.now c.requires) in
     feed_of_held c.written.result c.args.at (schedule_of c.args.context.now) records c.in_ok-latest.latest c.in_ok-latest.ensures
     servable c.written.ensures

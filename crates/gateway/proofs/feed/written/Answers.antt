@@ -12,6 +12,7 @@ add_entity-requires c =
 
 pub loop-rec-preserved : goal.loop-rec-preserved
 loop-rec-preserved c = (
-    c.loop-rec.invariant.0 ++ recorded_at c.in-Some.rec.now ∷ [],
-    left_more c.loop-rec.invariant.0 c.loop-rec.rec-iterator c.next.new.self c.in-Some.rec.now (all_held c.args.latest.now) c.in-Some.ensures.steps c.loop-rec.invariant.1,
-    c.in_ok-add_entity.ensures c.args.at c.loop-rec.invariant.0 c.loop-rec.invariant.2)
+  c.loop-rec.invariant.0 ++ recorded_at c.in-Some.rec.now ∷ [],
+  left_more c.loop-rec.invariant.0 c.loop-rec.rec-iterator c.next.new.self c.in-Some.rec.now (all_held c.args.latest.now) c.in-Some.ensures.steps c.loop-rec.invariant.1,
+  c.in_ok-add_entity.ensures c.args.at c.loop-rec.invariant.0 c.loop-rec.invariant.2,
+)
