@@ -6,4 +6,6 @@ mod PublishedLemmas
 mod ReportLemmas
 pub mod StepLemmas
 mod TableLemmas
+mod TakenLemmas
+mod WinnerLemmas
 mod WordLemmas

@@ -8,6 +8,7 @@ mod devices;
 mod exit;
 mod feed;
 mod folder_end;
+mod latest;
 mod reading;
 mod report;
 mod setting;
