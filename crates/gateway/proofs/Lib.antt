@@ -1,4 +1,5 @@
 mod DeliveryLemmas
+mod FeedLemmas
 mod FormLemmas
 mod GivesLemmas
 mod MomentLemmas

@@ -7,8 +7,8 @@ use Rattle.gateway.proofs.PublishedLemmas.{publishes}
 use Rattle.gateway.proofs.WordLemmas.{has_window}
 use Rattle.gateway.proofs.top.gateway.Goals as goal
 
-pub carried_out-requires-clause-window : goal.carried_out-requires-clause-window
-carried_out-requires-clause-window g c = has_window c.args.words.now (command_of c.in-Ok.work) c.in-Ok.ensures.accepted
+pub carried_out-requires : goal.carried_out-requires
+carried_out-requires g c = has_window c.args.words.now (command_of c.in-Ok.work) c.in-Ok.ensures.accepted
 
 pub returns-in-Ok-written-clause-publishes : goal.returns-in-Ok-written-clause-publishes
 returns-in-Ok-written-clause-publishes g c = λ _.
