@@ -1,5 +1,5 @@
 -- The dense reading of calls whose places rise, place by place.
-use Rattle.std.proofs.Common.{◌≡◌, ◌∙◌, ◌<◌, ◌≤◌, ◌+◌, ◌&&◌, ◌==◌, ◌-◌, ℕ, zero, suc, Bool, true, false, cond, List, [], ◌∷◌, ◌++◌, map, find, Option, Some, None, nat_le, refl, ap, sym, arith, append_assoc, subst}
+use Rattle.std.proofs.Common.{◌≡◌, ◌∙◌, ◌<◌, ◌≤◌, ◌+◌, ◌&&◌, ◌==◌, ◌-◌, ℕ, zero, suc, Bool, true, false, List, [], ◌∷◌, ◌++◌, map, find, Some, None, nat_le, refl, ap, sym, arith, append_assoc, subst}
 use Rattle.std.specs.List.{range_with_len}
 use Rattle.std.proofs.lemmas.Bool.{leb-true}
 use Rattle.std.proofs.lemmas.Bool.Decides.{nat_tests}
@@ -7,7 +7,7 @@ use Rattle.journey_model.specs.Runs.{Run, planned_at}
 use Rattle.journey_model.specs.declared.readings.StopReading.{StopReading}
 use Rattle.journey_model.specs.declared.readings.StopReading.TheVariants.{Absent}
 use Rattle.siri_calls.specs.Journeys.{Call}
-use Rattle.siri_calls.specs.Judged.{call_reading, dense, reading_at}
+use Rattle.siri_calls.specs.Judged.{call_reading, dense}
 use Rattle.siri_calls.specs.MatchedCalls.{rise_from}
 
 -- two tests that both pass

@@ -1,5 +1,5 @@
 -- Calls with their places, one after the other.
-use Rattle.std.proofs.Common.{◌≡◌, ◌∙◌, ◌<◌, ◌+◌, ℕ, List, [], ◌∷◌, ◌++◌, length, drop, get_or, Option, Some, Result, ap, sym, map}
+use Rattle.std.proofs.Common.{◌≡◌, ◌∙◌, ◌<◌, ◌+◌, ℕ, List, [], ◌∷◌, ◌++◌, length, drop, get_or, Option, Some, ap, sym}
 use Rattle.std.proofs.lemmas.List.{drop_more}
 use Rattle.journey_model.specs.Matching.{call_place}
 use Rattle.stop_schedule.specs.declared.stop_times.StopRow.{StopRow}

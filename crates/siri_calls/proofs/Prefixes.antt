@@ -1,5 +1,5 @@
 -- What is found of a list of calls: of those so far, and then of the others.
-use Rattle.std.proofs.Common.{◌≡◌, ◌∙◌, List, [], ◌∷◌, ◌++◌, map, Result, Ok, Err, refl, ap, sym, append_assoc}
+use Rattle.std.proofs.Common.{◌≡◌, List, [], ◌∷◌, ◌++◌, Result, Ok, Err, refl, ap, sym, append_assoc}
 use Rattle.journey_model.specs.Chains.{◌>>=◌}
 use Rattle.journey_model.specs.declared.fault.Fault.{Fault}
 

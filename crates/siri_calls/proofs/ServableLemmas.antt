@@ -1,5 +1,5 @@
 -- What is recorded of a journey can be served.
-use Rattle.std.proofs.Common.{◌≡◌, ◌∙◌, ◌<◌, ◌+◌, ◌&&◌, ◌==◌, ℕ, ℤ, pos, ◌+ℤ◌, ◌-ℤ◌, zero, suc, Bool, true, false, cond, List, [], ◌∷◌, length, map, find, position, slice_get, Option, Some, None, is_some, option_map, Result, Ok, Err, refl, ap, sym, arith, subst, add-zero, add-one}
+use Rattle.std.proofs.Common.{◌≡◌, ◌∙◌, ◌<◌, ◌+◌, ◌==◌, ℕ, ℤ, pos, ◌+ℤ◌, ◌-ℤ◌, suc, Bool, true, false, cond, List, [], ◌∷◌, length, map, find, position, slice_get, Option, Some, None, is_some, option_map, Result, Ok, Err, refl, ap, arith, subst, add-zero}
 use Rattle.std.specs.List.{range_with_len}
 use Rattle.std.specs.Option.{ok_or, option_or, option_map_or}
 use Rattle.std.specs.Cmp.Derive.{both_true}
@@ -10,18 +10,18 @@ use Rattle.std.proofs.lemmas.List.Quantifiers.{position-Some}
 use Rattle.journey_model.specs.Chains.{◌>>=◌}
 use Rattle.journey_model.specs.Propagation.{timed}
 use Rattle.journey_model.specs.Readings.{are_near, fits_trip, is_near}
-use Rattle.journey_model.specs.Records.{Recorded, recorded}
+use Rattle.journey_model.specs.Records.{recorded}
 use Rattle.journey_model.specs.Runs.{Run, planned_at}
 use Rattle.journey_model.specs.Schedules.{Schedule, in_window, run_from, run_on}
 use Rattle.service_day.specs.Windows.{start_in}
 use Rattle.journey_model.specs.Times.{both_times, delay_fault, event_fault, is_delay}
 use Rattle.journey_model.specs.declared.fault.Fault.{Fault}
-use Rattle.journey_model.specs.declared.fault.Fault.TheVariants.{DelayRange, NotRunning, OutOfWindow, UnknownJourney, AddedJourney}
+use Rattle.journey_model.specs.declared.fault.Fault.TheVariants.{DelayRange, NotRunning, OutOfWindow, UnknownJourney}
 use Rattle.journey_model.specs.declared.readings.JourneyReading.{JourneyReading}
 use Rattle.journey_model.specs.declared.readings.JourneyReading.TheVariants.{Cancelled, Stops}
 use Rattle.journey_model.specs.declared.readings.JourneyRecord.{JourneyRecord}
 use Rattle.journey_model.specs.declared.readings.StopReading.{StopReading}
-use Rattle.journey_model.specs.declared.readings.StopReading.TheVariants.{Absent, Skipped, Timed}
+use Rattle.journey_model.specs.declared.readings.StopReading.TheVariants.{Skipped}
 use Rattle.stop_schedule.specs.Planned.{planned}
 use Rattle.stop_schedule.specs.declared.stop_times.StopRow.{StopRow}
 use Rattle.siri_calls.specs.Journeys.{Call, Header}

@@ -1,7 +1,7 @@
 -- The next call is at a later place.
-use Rattle.std.proofs.Common.{◌≡◌, ◌∙◌, ◌+◌, ◌<◌, ◌==◌, ◌∷◌, true, false, None, map, drop, length, ap, sym, arith, find}
+use Rattle.std.proofs.Common.{◌+◌, map, drop, sym}
 use Rattle.std.proofs.lemmas.Bool.{ltb-true}
-use Rattle.siri_calls.specs.MatchedCalls.{placed_call, rise_from}
+use Rattle.siri_calls.specs.MatchedCalls.{placed_call}
 use Rattle.siri_calls.proofs.DenseLemmas.{elsewhere, none-here}
 use Rattle.siri_calls.proofs.PlacedLemmas.{left-at}
 use Rattle.siri_calls.proofs.dense.call_at.Goals as goal

@@ -1,7 +1,7 @@
 -- One place more, with its call or without.
-use Rattle.std.proofs.Common.{◌≡◌, ◌∙◌, ◌+◌, ◌<◌, ◌∷◌, ◌++◌, [], map, drop, length, ap, arith}
+use Rattle.std.proofs.Common.{◌≡◌, ◌∙◌, ◌+◌, ◌<◌, ◌∷◌, map, drop, length, ap, arith}
 use Rattle.siri_calls.specs.Judged as spec
-use Rattle.siri_calls.specs.MatchedCalls.{placed_call, rise_from}
+use Rattle.siri_calls.specs.MatchedCalls.{placed_call}
 use Rattle.siri_calls.specs.TripRuns.{run_over}
 use Rattle.siri_calls.proofs.DenseLemmas.{one-call, one-none, rise-behind, rise-on}
 use Rattle.siri_calls.proofs.dense.dense_readings.Goals as goal

@@ -1,6 +1,6 @@
 -- The places of calls rise.
-use Rattle.std.proofs.Common.{◌≡◌, None, true, map}
-use Rattle.siri_calls.specs.MatchedCalls.{placed_call, rise_from, stop_call}
+use Rattle.std.proofs.Common.{None, map}
+use Rattle.siri_calls.specs.MatchedCalls.{placed_call, stop_call}
 use Rattle.siri_calls.proofs.OrderLemmas.{placed-rise}
 use Rattle.siri_calls.proofs.judging.stops_read.Goals as goal
 

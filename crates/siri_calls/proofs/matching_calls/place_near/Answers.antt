@@ -1,5 +1,5 @@
 -- A stop stands in a trip where it stands behind a place or before it.
-use Rattle.std.proofs.Common.{◌≡◌, ◌∙◌, ◌||◌, true, false, Some, None, is_some, position, take, drop, ap, sym}
+use Rattle.std.proofs.Common.{◌≡◌, ◌∙◌, true, false, is_some, drop, ap, sym}
 use Rattle.std.proofs.Math.Bool.{or-true, or-false}
 use Rattle.std.specs.List.{list_any}
 use Rattle.journey_model.specs.Matching.{is_of_stop}

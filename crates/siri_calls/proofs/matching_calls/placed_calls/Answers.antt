@@ -1,5 +1,5 @@
 -- A call that has a place goes behind those before it.
-use Rattle.std.proofs.Common.{◌≡◌, None, refl, ◌∙◌, ◌+◌, ◌<◌, ◌∷◌, ◌++◌, [], Some, map, drop, length, ap, sym, arith}
+use Rattle.std.proofs.Common.{◌≡◌, None, refl, ◌∙◌, ◌+◌, ◌∷◌, ◌++◌, [], map, drop, ap, sym, arith}
 use Rattle.std.proofs.lemmas.List.{map-append}
 use Rattle.siri_calls.specs.Judged as spec
 use Rattle.siri_calls.specs.MatchedCalls.{stop_call, placed_call}
