@@ -1,16 +1,14 @@
 -- The frames below deliveries, one delivery after the other.
-use Rattle.std.proofs.Common.{◌≡◌, ◌∙◌, refl, sym, ap, Bool, true, false, ◌&&◌, List, [], ◌∷◌, ◌++◌, map, drop, Result, Ok, Err, if◌then◌else◌}
+use Rattle.std.proofs.Common.{◌≡◌, ◌∙◌, refl, sym, ap, Bool, true, false, ◌&&◌, List, [], ◌∷◌, ◌++◌, map, Result, Ok, Err, if◌then◌else◌}
 use Rattle.std.specs.List.{list_all, flat_map}
 use Rattle.std.proofs.lemmas.List.{append_assoc}
 use Rattle.std.proofs.lemmas.List.Folds.{list_all-append}
 use Rattle.journey_model.specs.Chains.{◌>>=◌}
 use Rattle.gw_base.specs.declared.member.Member.{Member}
-use Rattle.gw_base.specs.declared.member.Member.TheVariants as Member
-use Rattle.serde_json.specs.Data.{Data}
 use Rattle.serde_json.specs.View.{view}
 use Rattle.serde_json.specs.declared.value.Value.{Value}
 use Rattle.siri_calls.specs.Forms.{is_object}
-use Rattle.siri_calls.specs.Frame.{Place, has_object, all_objects, frames_below, frame_place, delivery_place, frames_of, repeated_under}
+use Rattle.siri_calls.specs.Frame.{Place, has_object, all_objects, frames_below, frame_place, frames_of, repeated_under}
 use Rattle.siri_calls.specs.Shown.{ok_map, IsFrameFault}
 use Rattle.siri_calls.specs.declared.delivery.DeliveryFault.{DeliveryFault}
 use Rattle.siri_calls.specs.declared.delivery.DeliveryFault.TheVariants as delivery

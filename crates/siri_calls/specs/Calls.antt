@@ -1,16 +1,15 @@
 -- The calls of a journey (SIRI 2.0, RecordedCall and EstimatedCall).
-use Rattle.std.specs.Prelude.{◌&&◌, ◌||◌, ℕ, ℤ, Bool, true, false, List, [], ◌∷◌, ◌++◌, map, codes, Option, Some, None, option_map, is_none, unwrap_or, Result, Ok, Err, if◌then◌else◌}
+use Rattle.std.specs.Prelude.{◌&&◌, ◌||◌, ℕ, ℤ, Bool, true, false, List, [], ◌∷◌, ◌++◌, map, codes, Option, Some, None, option_map, is_none, unwrap_or, Result, Ok, if◌then◌else◌}
 use Rattle.std.specs.Char.{to_ascii_lowercase}
-use Rattle.std.specs.Option.{option_or, option_map_or}
+use Rattle.std.specs.Option.{option_or}
 use Rattle.std.specs.Str.{bytes_eq}
 use Rattle.journey_model.specs.Chains.{◌>>=◌}
 use Rattle.gw_base.specs.declared.member.Member.{Member}
-use Rattle.gw_base.specs.declared.member.Member.TheVariants as Member
 use Rattle.journey_model.specs.declared.fault.Fault.{Fault}
 use Rattle.serde_json.specs.Data.{Data}
 use Rattle.service_day.specs.declared.zones.Rules.{Rules}
 use Rattle.siri_calls.specs.declared.call_reading.Statuses.{Statuses}
-use Rattle.siri_calls.specs.Fields.{optional, optional_member, required_member, form_at}
+use Rattle.siri_calls.specs.Fields.{optional_member, required_member}
 use Rattle.siri_calls.specs.Forms.{text, flag, whole, moment, object_form, objects}
 use Rattle.siri_calls.specs.Journeys.{Call}
 

@@ -1,5 +1,5 @@
 -- The members of an item, each read in its form (SIRI 2.0, EstimatedVehicleJourney; in JSON after SIRI Lite).
-use Rattle.std.specs.Prelude.{ℕ, List, [], Option, Some, None, Result, Ok, Err}
+use Rattle.std.specs.Prelude.{Option, Some, None, Result, Ok, Err}
 use Rattle.gw_base.specs.Member.{member_name}
 use Rattle.gw_base.specs.declared.member.Member.{Member}
 use Rattle.journey_model.specs.declared.fault.Fault.{Fault}

@@ -1,14 +1,13 @@
 -- The frame of a delivery of estimated timetables: the way from its root to its journeys (SIRI 2.0, Siri, ServiceDelivery,
 -- EstimatedTimetableDelivery, EstimatedJourneyVersionFrame, EstimatedVehicleJourney).
-use Rattle.std.specs.Prelude.{ℕ, Bool, List, [], ◌∷◌, ◌++◌, map, codes, Option, Some, None, Result, Ok, Err, if◌then◌else◌}
+use Rattle.std.specs.Prelude.{Bool, List, [], ◌∷◌, map, codes, Option, Some, None, Result, Ok, Err, if◌then◌else◌}
 use Rattle.std.specs.List.{list_all, flat_map}
 use Rattle.journey_model.specs.Chains.{◌>>=◌}
 use Rattle.gw_base.specs.Member.{member_name}
 use Rattle.gw_base.specs.declared.member.Member.{Member}
-use Rattle.gw_base.specs.declared.member.Member.TheVariants as Member
 use Rattle.serde_json.specs.Data.{Data, null, boolean, number, string, array, object}
 use Rattle.serde_json.specs.Find.{get}
-use Rattle.siri_calls.specs.Fields.{member_form, form_at}
+use Rattle.siri_calls.specs.Fields.{member_form}
 use Rattle.siri_calls.specs.Forms.{is_object, object_form, repeated}
 use Rattle.siri_calls.specs.declared.forms.Form.{Form}
 use Rattle.siri_calls.specs.declared.forms.Form.TheVariants.{Missing, Wrong, Found}

@@ -5,7 +5,6 @@ use Rattle.std.specs.Str.{is_utf8}
 use Rattle.journey_model.specs.Chains.{◌>>=◌}
 use Rattle.gw_base.specs.Count.{last_count}
 use Rattle.gw_base.specs.declared.member.Member.{Member}
-use Rattle.gw_base.specs.declared.member.Member.TheVariants as Member
 use Rattle.journey_model.specs.Records.{Recorded}
 use Rattle.journey_model.specs.Schedules.{Schedule}
 use Rattle.journey_model.specs.declared.fault.Fault.{Fault}

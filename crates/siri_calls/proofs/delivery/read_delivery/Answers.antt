@@ -1,6 +1,5 @@
-use Rattle.std.proofs.Common.{◌∙◌, ap, sym, subst, map}
+use Rattle.std.proofs.Common.{◌∙◌, sym}
 use Rattle.std.proofs.lemmas.Bool.{false≢true}
-use Rattle.std.specs.List.{flat_map}
 use Rattle.journey_model.specs.Schedules.{schedule_of}
 use Rattle.serde_json.specs.View.{view}
 use Rattle.siri_calls.specs.Shown.{places_of}

@@ -1,9 +1,9 @@
-use Rattle.std.proofs.Common.{◌≡◌, ◌∙◌, ◌+◌, ◌∷◌, sym, ap, map, drop, []}
+use Rattle.std.proofs.Common.{◌≡◌, ◌∙◌, ◌+◌, ◌∷◌, sym, ap, map, drop}
 use Rattle.std.proofs.lemmas.List.{drop_more}
 use Rattle.serde_json.specs.View.{view}
 use Rattle.siri_calls.specs.Frame.{delivery_place}
 use Rattle.siri_calls.specs.Shown.{places_of}
-use Rattle.siri_calls.proofs.FrameLemmas.{one_more, one_refused}
+use Rattle.siri_calls.proofs.FrameLemmas.{one_refused}
 use Rattle.siri_calls.proofs.frame.frames_of.Goals as goal
 
 pub returns-in-Err-clause-fault : goal.returns-in-Err-clause-fault
