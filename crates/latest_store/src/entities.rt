@@ -11,6 +11,7 @@ use std::alloc::{AllocError, Global};
 
 // SCHEDULED and CANCELED (GTFS Realtime, TripDescriptor, schedule_relationship).
 const SCHEDULED: i32 = 0;
+
 const CANCELED: i32 = 3;
 
 // The text of a day's digits.

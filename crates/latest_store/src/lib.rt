@@ -3,7 +3,9 @@
 
 mod entities;
 mod preparing;
+#[cfg(test)]
+mod tests;
 mod winning;
 
-pub use preparing::{Prepared, prepare_record, record_entity};
+pub use preparing::record_entity;
 pub use winning::wins;

@@ -1,4 +1,4 @@
-//! Records that are ready to be served. The functions meet `specs/Entities.antt` and `specs/Reads.antt`.
+//! The bytes with which a record is served. The functions meet `specs/Entities.antt` and `specs/Reads.antt`.
 ghost use Rattle.std.specs.Prelude.{◌≡◌, ◌<◌, ◌++◌, ℕ, Some, List, length, true, IfOk};
 ghost use Rattle.gw_base.specs.declared.messages.Feed.{Feed};
 ghost use Rattle.service_day.specs.DayTexts.{compact_text, day_of};
@@ -21,15 +21,6 @@ use journey_model::{Context, DatedTrip, JourneyRecord};
 use service_day::day_compact;
 use sparse_planner::plan;
 use std::alloc::{AllocError, Global};
-
-/// A record of a journey, and the entity with which it is served.
-#[derive(Debug, Drop)]
-pub struct Prepared {
-    /// The record.
-    pub rec: JourneyRecord,
-    /// The bytes of its entity as a field of a feed; none exactly where nothing is known of any stop.
-    pub entity: Bytes,
-}
 
 // What the entity of a record says.
 fn message(
@@ -102,21 +93,4 @@ pub fn record_entity(
         unreachable!();
     };
     entity_of(alloc, context, &dated, rec)
-}
-
-/// A record with its entity, whose bytes mean just this journey with just this reading.
-pub fn prepare_record(
-    alloc: Global,
-    context: &Context<'_>,
-    rec: JourneyRecord,
-) -> Result<Prepared, AllocError>
-    requires { IsServable (schedule_of context.now) rec.trip.0 rec.day rec.reading }
-    ensures rec { IfOk result (λ prepared. prepared.rec ≡ rec) }
-    ensures entity { IfOk result (λ prepared. prepared.entity ≡ spec.entity (schedule_of context.now) (recorded rec)) }
-    ensures means { IfOk result (λ prepared. (before : List ℕ) (feed : Feed) → MeansFeed before feed
-        → MeansFeed (before ++ prepared.entity) (with_messages feed (spec.messages (schedule_of context.now) (recorded rec)))) }
-    ensures says { IfOk result (λ _. SaysItself (schedule_of context.now) (recorded rec)) }
-{
-    let entity = record_entity(alloc, context, &rec)?;
-    Ok(Prepared { rec, entity })
 }
