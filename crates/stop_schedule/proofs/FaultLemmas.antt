@@ -1,11 +1,11 @@
 -- Faults of rows, and places of columns.
-use Rattle.std.proofs.Common.{◌≡◌, ◌∙◌, ◌<◌, ◌≤◌, ◌+◌, ◌&&◌, ◌||◌, nat_lt, cond, ℕ, Bool, true, false, List, [], ◌∷◌, ◌++◌, length, Option, Some, None, Result, Ok, Err, refl, ap, sym, arith, append_assoc, drop, get_or, add-one, drop-cons}
+use Rattle.std.proofs.Common.{◌≡◌, ◌∙◌, ◌<◌, ◌≤◌, ◌+◌, ◌||◌, nat_lt, cond, ℕ, Bool, true, false, List, [], ◌∷◌, ◌++◌, length, Option, Some, None, Result, Ok, Err, refl, ap, sym, arith, append_assoc, drop, get_or, add-one, drop-cons}
 use Rattle.std.specs.Str.{is_utf8}
 use Rattle.std.specs.Option.{option_or}
 use Rattle.std.specs.Bool.{MatchBool}
 use Rattle.std.specs.Prelude.{⊤}
 use Rattle.std.proofs.lemmas.Bool.Decides.{nat_tests}
-use Rattle.stop_schedule.specs.Faults.{Fits, all_text, any_long, bad_fault, common_fault, fault_if, first_bad, first_fault, row_fault}
+use Rattle.stop_schedule.specs.Faults.{Fits, all_text, any_long, bad_fault, common_fault, fault_if, first_bad, first_fault}
 use Rattle.stop_schedule.specs.Layout.{columns, row_limit}
 use Rattle.stop_schedule.specs.Columns.{column_name}
 use Rattle.stop_schedule.specs.Rows.{column}

@@ -1,7 +1,7 @@
 -- Stops with their times, one behind the other.
-use Rattle.std.proofs.Common.{◌≡◌, ◌∙◌, ◌<◌, ◌+◌, ℕ, List, [], ◌∷◌, ◌++◌, length, drop, get_or, drop-cons, slice_get, Some, refl, ap, sym, add-one, append_assoc}
+use Rattle.std.proofs.Common.{◌≡◌, ◌∙◌, ◌<◌, ◌+◌, ℕ, List, [], ◌∷◌, ◌++◌, length, drop, get_or, drop-cons, slice_get, Some, ap, sym, add-one, append_assoc}
 use Rattle.std.proofs.lemmas.Option.{slice_get-get_or}
-use Rattle.stop_schedule.specs.StopTimes.{filled_from, stop_row, times_at}
+use Rattle.stop_schedule.specs.StopTimes.{filled_from, times_at}
 use Rattle.stop_schedule.specs.declared.stop_times.LoadedStop.{LoadedStop}
 use Rattle.stop_schedule.specs.declared.stop_times.StopRow.{StopRow}
 

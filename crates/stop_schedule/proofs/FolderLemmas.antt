@@ -1,23 +1,20 @@
 -- The timetable of what was read of all files.
-use Rattle.std.proofs.Common.{◌≡◌, ◌∙◌, ◌≤◌, ◌<◌, ◌+◌, ◌++◌, ◌∷◌, [], ℕ, ℤ, zero, suc, Bool, true, false, List, Option, Some, None, IfSome, Result, Ok, Err, length, map, take, drop, get_or, slice_get, unwrap_or, refl, sym, ap, subst, cond, arith}
-use Rattle.std.specs.Prelude.{⊤, filter, option_map}
+use Rattle.std.proofs.Common.{◌≡◌, ◌∙◌, ◌≤◌, ◌<◌, ◌++◌, ◌∷◌, [], ℕ, ℤ, zero, suc, Bool, true, false, List, Option, Some, None, Result, Ok, Err, length, map, take, drop, get_or, slice_get, unwrap_or, refl, sym, ap, cond, arith}
+use Rattle.std.specs.Prelude.{⊤, option_map}
 use Rattle.std.specs.Bool.{MatchBool}
 use Rattle.std.specs.Option.{option_or}
 use Rattle.std.specs.List.{AllZip}
 use Rattle.std.proofs.Math.Seq.{take-length}
 use Rattle.std.proofs.Math.Numerals.{add-one}
-use Rattle.std.proofs.lemmas.List.{append-nil, length-map, map-append, take_more}
+use Rattle.std.proofs.lemmas.List.{append-nil, length-map, take_more}
 use Rattle.std.proofs.lemmas.List.Elements.{filter-append}
-use Rattle.std.proofs.lemmas.Option.{none-some, same_Some, slice_get-map}
 use Rattle.indexmap.proofs.SetLemmas.{AllZip-push}
 use Rattle.stop_schedule.specs.Carrying.{Candidate, Lists, candidate, carried_to, IsOf, Carries}
-use Rattle.stop_schedule.specs.Folder.{HoldsRest, HoldsRuns}
+use Rattle.stop_schedule.specs.Folder.{HoldsRest}
 use Rattle.stop_schedule.specs.Held.{route_held, runs_held, stops_held}
 use Rattle.stop_schedule.specs.Answers.{is_free}
-use Rattle.stop_schedule.specs.Holding.{AreNumbers, Calendars, Exceptions, HoldsServices, HoldsStops, HoldsTrips, calendar_at, exception_at}
+use Rattle.stop_schedule.specs.Holding.{AreNumbers, Calendars, Exceptions, HoldsServices}
 use Rattle.stop_schedule.specs.Reading.{Assembles, Reads}
-use Rattle.stop_schedule.specs.Seen.{seen}
-use Rattle.stop_schedule.specs.Services.{calendar_in, exception_in, runs_by}
 use Rattle.stop_schedule.specs.Sheet.{Row, nth, rows_in}
 use Rattle.stop_schedule.specs.StopTimes.{filled, least, stops_in, untimed_end}
 use Rattle.stop_schedule.specs.Timetable.{Sheets, files_fault, folder_fault, ids_in, route_in, runs_in, stop_rows_in, table_of, trips_in, unless_fault, untimed_in}

@@ -1,12 +1,11 @@
 -- What the calendar files say together, and what several reads say of one folder.
-use Rattle.std.proofs.Common.{◌≡◌, ◌∙◌, ◌⊎◌, Bool, true, false, ℕ, ℤ, List, Option, Some, None, refl, sym, ap, cond, inl, inr}
-use Rattle.std.specs.Prelude.{IfErr, IfOk, IfSome, Result, Ok, Err, ⊤}
-use Rattle.std.specs.Option.{is_some, option_or}
-use Rattle.stop_schedule.specs.Causes.{calendar_fault, date_fault}
+use Rattle.std.proofs.Common.{◌≡◌, ◌∙◌, ◌⊎◌, Bool, true, List, Option, Some, None, refl, sym, inl, inr}
+use Rattle.std.specs.Prelude.{IfSome, Result}
+use Rattle.std.specs.Option.{is_some}
+use Rattle.stop_schedule.specs.Causes.{date_fault}
 use Rattle.stop_schedule.specs.Faults.{optional_fault}
 use Rattle.stop_schedule.specs.Sheet.{Row}
-use Rattle.stop_schedule.specs.Timetable.{Sheets, dates_fault, files_fault, ids_in}
-use Rattle.stop_schedule.specs.Answers.{is_free}
+use Rattle.stop_schedule.specs.Timetable.{dates_fault}
 use Rattle.stop_schedule.specs.declared.table_file.TableFile.TheVariants as File
 use Rattle.stop_schedule.specs.declared.table_fault.TableFault.{TableFault}
 use Rattle.std.proofs.lemmas.Bool.{false≢true}

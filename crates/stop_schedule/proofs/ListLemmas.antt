@@ -1,12 +1,11 @@
 -- Lists of what belongs to ids, of which one changes.
-use Rattle.std.proofs.Common.{◌≡◌, ◌∙◌, ◌<◌, ◌≤◌, ◌+◌, ◌&&◌, ◌||◌, ℕ, zero, suc, Bool, true, false, not, List, [], ◌∷◌, ◌++◌, length, map, set, slice_get, Some, refl, ap, sym, arith, cond}
-use Rattle.std.specs.List.{enumerate_from, list_all, list_any}
+use Rattle.std.proofs.Common.{◌≡◌, ◌∙◌, ◌+◌, ℕ, zero, suc, Bool, true, false, not, List, [], ◌∷◌, ◌++◌, length, map, set, slice_get, Some, refl, ap, sym, arith}
+use Rattle.std.specs.List.{enumerate_from, list_all}
 use Rattle.std.specs.Cmp.Derive.{both_true}
 use Rattle.std.specs.Str.{bytes_eq}
 use Rattle.std.proofs.lemmas.Bool.{false≢true}
-use Rattle.std.proofs.lemmas.Slice.Eq.{bytes_eq-Decides}
 use Rattle.stop_schedule.specs.Ids.{are_distinct, has_id}
-use Rattle.stop_schedule.proofs.IdLemmas.{and-left, and-right, bytes_eq-refl, has-at, lacked}
+use Rattle.stop_schedule.proofs.IdLemmas.{and-left, and-right, has-at, lacked}
 
 module _ {A : Type 0} (f g : List ℕ → A) (id : List ℕ) (others : (other : List ℕ) → bytes_eq id other ≡ false → f other ≡ g other) where
   -- what belongs to ids of which this is none stays

@@ -1,26 +1,14 @@
 -- What is held of services by their numbers, after one more row.
-use Rattle.std.proofs.Common.{◌≡◌, ◌∙◌, ◌<◌, ◌≤◌, ◌+◌, ◌||◌, ◌&&◌, Bool, true, false, not, cond, ℕ, ℤ, zero, suc, nat_eq, List, [], ◌∷◌, ◌++◌, map, length, slice_get, Option, Some, None, refl, ap, sym, arith, length-append, subst}
-use Rattle.std.specs.Prelude.{find}
-use Rattle.std.specs.List.{list_all, list_any}
-use Rattle.std.specs.Option.{option_map, option_or, is_some}
-use Rattle.std.specs.Ordering.{int_eq}
+use Rattle.std.proofs.Common.{◌≡◌, ◌∙◌, ◌<◌, ◌≤◌, Bool, true, false, cond, ℕ, zero, suc, nat_eq, List, [], ◌∷◌, ◌++◌, map, length, slice_get, Option, Some, None, refl, ap, sym, arith, length-append}
 use Rattle.std.specs.Str.{bytes_eq}
-use Rattle.std.specs.Cmp.Derive.{both_true}
 use Rattle.std.proofs.lemmas.Bool.{false≢true}
-use Rattle.std.proofs.lemmas.Bool.Decides.{nat_tests, Decides-int_eq}
+use Rattle.std.proofs.lemmas.Bool.Decides.{nat_tests}
 use Rattle.std.proofs.lemmas.Slice.Eq.{bytes_eq-Decides}
-use Rattle.std.proofs.lemmas.List.Folds.{find-append, list_all-append, list_any-append}
+use Rattle.std.proofs.lemmas.List.Folds.{list_any-append}
 use Rattle.std.proofs.lemmas.Option.{slice_get_within}
-use Rattle.std.proofs.Math.Bool.{or-true}
-use Rattle.stop_schedule.specs.Causes.{calendar_fault, date_fault}
-use Rattle.stop_schedule.specs.Holding.{AreNumbers, Calendars, Exceptions, Extends, HoldsCalendars, HoldsDates, calendar_at, exception_at}
+use Rattle.stop_schedule.specs.Holding.{AreNumbers, Extends}
 use Rattle.stop_schedule.specs.Ids.{are_distinct, has_id, with_id}
-use Rattle.stop_schedule.specs.Services.{calendar_in, calendar_of, day_of_row, exception_in, is_exception, is_of, is_one}
-use Rattle.stop_schedule.specs.Sheet.{Row, nth}
-use Rattle.stop_schedule.specs.declared.service_rows.Calendar.{Calendar}
-use Rattle.stop_schedule.specs.declared.table_file.TableFile.TheVariants as File
-use Rattle.stop_schedule.specs.declared.table_fault.TableFault.TheVariants.{Duplicate}
-use Rattle.stop_schedule.proofs.IdLemmas.{and-left, and-right, bytes_eq-refl, has-at, place-of-id}
+use Rattle.stop_schedule.proofs.IdLemmas.{place-of-id}
 
 -- ---- ids with one more
 

@@ -1,8 +1,8 @@
 -- One more row of stop_times.txt.
-use Rattle.std.proofs.Common.{◌≡◌, ◌∙◌, ◌<◌, ◌≤◌, ◌+◌, ◌==◌, ◌||◌, ◌&&◌, Bool, true, false, not, cond, ℕ, zero, suc, nat_le, nat_lt, List, [], ◌∷◌, ◌++◌, map, set, length, position, slice_get, Option, Some, None, refl, ap, sym, arith, unwrap_or}
+use Rattle.std.proofs.Common.{◌≡◌, ◌∙◌, ◌<◌, ◌≤◌, ◌+◌, ◌==◌, ◌||◌, ◌&&◌, Bool, true, false, cond, ℕ, zero, suc, nat_le, List, [], ◌∷◌, ◌++◌, map, set, length, position, slice_get, Option, Some, None, refl, ap, sym, arith, unwrap_or}
 use Rattle.std.specs.Global.{Vec}
 use Rattle.std.specs.Prelude.{filter}
-use Rattle.std.specs.List.{enumerate_from, list_all, list_any, insert}
+use Rattle.std.specs.List.{enumerate_from, list_all, list_any}
 use Rattle.std.specs.Str.{bytes_eq}
 use Rattle.std.specs.Cmp.Derive.{both_true}
 use Rattle.std.proofs.lemmas.Bool.{false≢true}
@@ -17,7 +17,7 @@ use Rattle.stop_schedule.specs.Causes.{same_trip, stop_time_fault}
 use Rattle.stop_schedule.specs.Forms.{sequence}
 use Rattle.stop_schedule.specs.Holding.{HoldsStops}
 use Rattle.stop_schedule.specs.Ids.{are_distinct, has_id}
-use Rattle.stop_schedule.specs.Rising.{IsBetween, has_sequence, is_rising}
+use Rattle.stop_schedule.specs.Rising.{has_sequence, is_rising}
 use Rattle.stop_schedule.specs.Sheet.{Row, nth}
 use Rattle.stop_schedule.specs.StopTimes.{in_sequence, is_of_trip, loaded, placed, sequence_of, stops_in, times}
 use Rattle.stop_schedule.specs.declared.stop_times.LoadedStop.{LoadedStop}
@@ -26,7 +26,7 @@ use Rattle.stop_schedule.specs.declared.column.Column.TheVariants.{TripId, StopI
 use Rattle.stop_schedule.specs.declared.table_fault.TableFault.TheVariants.{Limit, Unknown, Duplicate}
 use Rattle.stop_schedule.proofs.IdLemmas.{and-left, and-right, bytes_eq-flips, bytes_eq-refl}
 use Rattle.stop_schedule.proofs.ListLemmas.{enumerate-behind, list_all-set, set-one}
-use Rattle.stop_schedule.proofs.SequenceLemmas.{any-in_sequence, in_sequence-behind, length-in_sequence, placed-at, rising-placed}
+use Rattle.stop_schedule.proofs.SequenceLemmas.{any-in_sequence, in_sequence-behind, length-in_sequence, rising-placed}
 
 abbrev pub items_of : Vec LoadedStop → List LoadedStop
 items_of stops = stops.items

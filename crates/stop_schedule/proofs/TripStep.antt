@@ -1,6 +1,5 @@
 -- One more row of trips.txt.
 use Rattle.std.proofs.Common.{◌≡◌, ◌∙◌, true, false, ℕ, List, [], ◌∷◌, ◌++◌, map, slice_get, None, Some, refl, ap, sym}
-use Rattle.std.specs.Str.{bytes_eq}
 use Rattle.std.proofs.lemmas.List.{map-append}
 use Rattle.stop_schedule.specs.Causes.{trip_fault}
 use Rattle.stop_schedule.specs.Holding.{AreNumbers, HoldsTrips}

@@ -1,7 +1,6 @@
 -- What an answer of reading a timetable says of the folder.
 use Rattle.std.specs.Prelude.{◌≡◌, Bool, true, false, Option, Some, None, Result, Ok, Err, ⊤}
 use Rattle.std.specs.Bool.{MatchBool}
-use Rattle.stop_schedule.specs.declared.table_file.TableFile.{TableFile}
 use Rattle.stop_schedule.specs.declared.table_fault.TableFault.{TableFault}
 use Rattle.stop_schedule.specs.declared.table_fault.TableFault.TheVariants.{Missing, TooLong, NoColumn, NotUtf8, BadField, Limit, Zones, Unknown, Duplicate, UntimedEnd, Failed, Memory}
 

@@ -4,7 +4,6 @@ use Rattle.std.specs.List.{AllZip}
 use Rattle.stop_schedule.specs.StopTimes.{filled, least, lesser, untimed_end}
 use Rattle.stop_schedule.specs.declared.assembling.Assembled.{Assembled}
 use Rattle.stop_schedule.specs.declared.carried.CarriedTrip.{CarriedTrip}
-use Rattle.stop_schedule.specs.declared.loading.Trips.{Trips}
 use Rattle.stop_schedule.specs.declared.stop_times.LoadedStop.{LoadedStop}
 use Rattle.stop_schedule.specs.declared.stop_times.StopRow.{StopRow}
 

@@ -1,11 +1,11 @@
 -- What is held of the rows of all files.
-use Rattle.std.specs.Prelude.{◌≡◌, ℕ, Bool, List, map}
+use Rattle.std.specs.Prelude.{◌≡◌, ℕ, List, map}
 use Rattle.stop_schedule.specs.Holding.{Calendars, Exceptions, HoldsServices, HoldsStops, HoldsTrips}
 use Rattle.stop_schedule.specs.Sheet.{rows_in}
-use Rattle.stop_schedule.specs.Timetable.{Sheets, ids_in}
+use Rattle.stop_schedule.specs.Timetable.{Sheets}
 use Rattle.stop_schedule.specs.Trips.{is_carried}
 use Rattle.stop_schedule.specs.declared.folder_rows.FolderRows.{FolderRows}
-use Rattle.stop_schedule.specs.declared.table_file.TableFile.TheVariants.{Stops, Routes, Trips, Calendar, CalendarDates, Frequencies, StopTimes}
+use Rattle.stop_schedule.specs.declared.table_file.TableFile.TheVariants.{Trips, Calendar, CalendarDates, Frequencies, StopTimes}
 
 -- the trips, and the calendars and exceptions of their services
 abbrev pub HoldsRuns : List (List ℕ) → List (List ℕ) → List ℕ → List ℕ → Calendars → Exceptions → Sheets → Type 0

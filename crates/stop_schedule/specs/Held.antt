@@ -1,5 +1,5 @@
 -- What a timetable holds of its trips.
-use Rattle.std.specs.Prelude.{◌≡◌, ◌≤◌, ◌<◌, ◌&&◌, ◌==◌, ℕ, ℤ, Bool, true, false, nat_le, nat_lt, List, [], length, take, drop, slice_get, unwrap_or, Option, Some, None}
+use Rattle.std.specs.Prelude.{◌&&◌, ◌==◌, ℕ, ℤ, Bool, false, nat_le, nat_lt, List, [], length, take, drop, slice_get, unwrap_or, Option, Some, None}
 use Rattle.std.specs.List.{list_all}
 use Rattle.stop_schedule.specs.Holding.{Calendars, Exceptions, calendar_at, exception_at}
 use Rattle.stop_schedule.specs.Services.{runs_by}

@@ -2,9 +2,7 @@
 -- has at most.
 use Rattle.std.specs.Prelude.{ℕ, Bool, true, false, List, [], ◌∷◌}
 use Rattle.stop_schedule.specs.declared.column.Column.{Column}
-use Rattle.stop_schedule.specs.declared.column.Column.TheVariants as Column
 use Rattle.stop_schedule.specs.declared.forms.Form.{Form}
-use Rattle.stop_schedule.specs.declared.forms.Form.TheVariants as Form
 use Rattle.stop_schedule.specs.declared.table_file.TableFile.{TableFile}
 use Rattle.stop_schedule.specs.declared.table_file.TableFile.TheVariants.{Agency, Stops, Routes, Trips, Calendar, CalendarDates, Frequencies, StopTimes}
 

@@ -1,5 +1,5 @@
 -- On which days services run (GTFS Schedule reference, calendar.txt and calendar_dates.txt).
-use Rattle.std.specs.Prelude.{◌==◌, ◌&&◌, ℕ, ℤ, pos, int_le, Bool, false, List, [], ◌∷◌, find, slice_get, unwrap_or, codes, Option, Some, None, option_map}
+use Rattle.std.specs.Prelude.{◌&&◌, ℕ, ℤ, pos, int_le, Bool, false, List, [], ◌∷◌, find, slice_get, unwrap_or, codes, Option, Some, None, option_map}
 use Rattle.std.specs.Ordering.{int_eq}
 use Rattle.std.specs.Str.{bytes_eq}
 use Rattle.jiff_core.specs.Calendar.{weekday_number}

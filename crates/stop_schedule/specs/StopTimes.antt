@@ -1,10 +1,9 @@
 -- The stops of a trip (GTFS Schedule reference, stop_times.txt).
-use Rattle.std.specs.Prelude.{◌==◌, ◌+◌, ◌-◌, ◌*◌, ◌/◌, ℕ, Bool, nat_lt, min, List, [], ◌∷◌, ◌++◌, map, filter, take, drop, reverse, length, slice_get, position, unwrap_or, Option, Some, None, if◌then◌else◌}
+use Rattle.std.specs.Prelude.{◌+◌, ◌-◌, ◌*◌, ◌/◌, ℕ, Bool, nat_lt, min, List, [], ◌∷◌, map, filter, take, drop, reverse, length, slice_get, position, unwrap_or, Option, Some, None, if◌then◌else◌}
 use Rattle.std.specs.List.{enumerate_from}
 use Rattle.std.specs.Str.{bytes_eq}
 use Rattle.stop_schedule.specs.Forms.{seconds, sequence}
 use Rattle.stop_schedule.specs.Sheet.{Row, nth}
-use Rattle.stop_schedule.specs.declared.numbers.StopNo.{StopNo}
 use Rattle.stop_schedule.specs.declared.stop_times.LoadedStop.{LoadedStop}
 use Rattle.stop_schedule.specs.declared.stop_times.StopRow.{StopRow}
 

@@ -1,5 +1,5 @@
 -- What was read of all files is the timetable.
-use Rattle.std.proofs.Common.{◌≡◌, ◌∙◌, ap, sym}
+use Rattle.std.proofs.Common.{◌∙◌, ap, sym}
 use Rattle.std.specs.Prelude.{option_map}
 use Rattle.stop_schedule.specs.declared.table_fault.TableFault.TheVariants.{UntimedEnd}
 use Rattle.stop_schedule.proofs.FolderLemmas.{shown_of, untimed_of}

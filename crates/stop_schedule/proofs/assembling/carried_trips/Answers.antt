@@ -1,6 +1,6 @@
 -- One place more, with a trip that is carried or without.
 use Rattle.std.proofs.Common.{◌≡◌, ◌∙◌, false, true, get_or, map, sym}
-use Rattle.stop_schedule.specs.Carrying.{Lists, candidate, carried_to}
+use Rattle.stop_schedule.specs.Carrying.{Lists}
 use Rattle.stop_schedule.proofs.CarryingLemmas.{adds_candidate, carries_one, step_carried, step_other}
 use Rattle.stop_schedule.proofs.assembling.carried_trips.Goals as goal
 use Rattle.stop_schedule.proofs.assembling.carried_trips.Goals.{then-is_carried_at+in_ok-add_trip, else-is_carried_at}

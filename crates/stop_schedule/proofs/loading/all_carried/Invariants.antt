@@ -1,5 +1,4 @@
-use Rattle.std.proofs.Common.{◌≡◌, [], map, replicate, true}
-use Rattle.stop_schedule.proofs.StopStep.{items_of}
+use Rattle.std.proofs.Common.{◌≡◌, replicate, true}
 use Rattle.stop_schedule.proofs.loading.all_carried.Given as goal
 
 abbrev pub invariant-loop : goal.invariant-loop

@@ -1,4 +1,4 @@
-use Rattle.std.proofs.Common.{◌≡◌, [], map, replicate, true}
+use Rattle.std.proofs.Common.{◌≡◌, [], map, replicate}
 use Rattle.stop_schedule.proofs.StopStep.{items_of}
 use Rattle.stop_schedule.proofs.loading.no_stops.Given as goal
 

@@ -1,4 +1,4 @@
-use Rattle.std.proofs.Common.{◌≡◌, ◌⊎◌, true, inl, inr, refl}
+use Rattle.std.proofs.Common.{◌≡◌, ◌⊎◌, true, inl, inr}
 use Rattle.stop_schedule.specs.Timetable.{sheets_in}
 use Rattle.stop_schedule.specs.declared.table_file.TableFile.TheVariants as File
 use Rattle.stop_schedule.proofs.FaultLemmas.{both-none}

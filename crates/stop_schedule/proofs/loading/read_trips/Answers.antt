@@ -1,6 +1,5 @@
-use Rattle.std.proofs.Common.{◌≡◌, List, ℕ, map, slice_get, refl, ap}
+use Rattle.std.proofs.Common.{map, slice_get, refl, ap}
 use Rattle.std.proofs.lemmas.Option.{IfSome_then}
-use Rattle.stop_schedule.specs.Holding.{HoldsTrips}
 use Rattle.stop_schedule.proofs.loading.read_trips.Goals as goal
 
 pub returns-clause-exact : goal.returns-clause-exact

@@ -1,4 +1,4 @@
-use Rattle.std.proofs.Common.{◌≡◌, ◌<◌, length, refl, sym, arith}
+use Rattle.std.proofs.Common.{◌<◌, length, sym, arith}
 use Rattle.stop_schedule.specs.Layout.{columns}
 use Rattle.stop_schedule.specs.Sheet.{places_of}
 use Rattle.stop_schedule.specs.declared.column.Column.TheVariants.{AgencyTimezone}

@@ -1,4 +1,4 @@
-use Rattle.std.proofs.Common.{◌≡◌, ◌∙◌, ◌≤◌, ◌-◌, ◌+◌, suc, length, length-append, None, ap, arith}
+use Rattle.std.proofs.Common.{◌≡◌, ◌≤◌, ◌-◌, suc, length, length-append, None, arith}
 use Rattle.stop_schedule.specs.declared.stop_times.LoadedStop.{LoadedStop}
 use Rattle.stop_schedule.proofs.SequenceLemmas.{between, less-front}
 use Rattle.stop_schedule.proofs.stop_times.place_of.Goals as goal

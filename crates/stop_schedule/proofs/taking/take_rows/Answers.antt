@@ -1,7 +1,6 @@
-use Rattle.std.proofs.Common.{◌≡◌, ◌∙◌, ◌++◌, ◌∷◌, ◌+◌, ◌≤◌, [], List, length, length-append, None, Some, refl, sym, ap, arith}
+use Rattle.std.proofs.Common.{◌≡◌, ◌∙◌, ◌++◌, ◌∷◌, ◌+◌, ◌≤◌, [], length, length-append, None, refl, sym, arith}
 use Rattle.stop_schedule.specs.Faults.{common_fault}
 use Rattle.stop_schedule.specs.Layout.{row_limit}
-use Rattle.stop_schedule.specs.Sheet.{Row}
 use Rattle.stop_schedule.proofs.FaultLemmas.{few-rows, fits-from}
 use Rattle.stop_schedule.proofs.TakingLemmas.{taken, refused}
 use Rattle.stop_schedule.proofs.taking.take_rows.Goals as goal

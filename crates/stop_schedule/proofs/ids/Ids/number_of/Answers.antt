@@ -1,4 +1,4 @@
-use Rattle.std.proofs.Common.{◌≡◌, ◌∙◌, sym, refl, true, false}
+use Rattle.std.proofs.Common.{◌≡◌, sym, refl, true, false}
 use Rattle.stop_schedule.specs.Ids.{has_id}
 use Rattle.stop_schedule.proofs.IdLemmas.{id-of-place, id-behind}
 use Rattle.stop_schedule.proofs.ids.Ids.number_of.Goals as goal

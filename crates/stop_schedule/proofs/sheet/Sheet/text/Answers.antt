@@ -1,4 +1,4 @@
-use Rattle.std.proofs.Common.{◌∙◌, sym}
+use Rattle.std.proofs.Common.{◌∙◌}
 use Rattle.stop_schedule.proofs.TextLemmas.{no-text, a-text}
 use Rattle.stop_schedule.proofs.sheet.Sheet.text.Goals as goal
 

@@ -1,4 +1,4 @@
-use Rattle.std.proofs.Common.{◌≡◌, ◌∙◌, ◌<◌, ◌≤◌, ◌+◌, ◌&&◌, ◌∷◌, ◌++◌, [], true, false, Some, None, ℕ, List, map, length, position, slice_get, sym, refl, ap, arith, vec_len, unwrap_or}
+use Rattle.std.proofs.Common.{◌≡◌, ◌∙◌, ◌<◌, ◌≤◌, ◌+◌, true, Some, map, length, position, slice_get, sym, refl, ap, arith, vec_len, unwrap_or}
 use Rattle.std.specs.Option.{option_map}
 use Rattle.std.specs.List.{insert}
 use Rattle.std.specs.Str.{bytes_eq, is_utf8}
@@ -10,7 +10,6 @@ use Rattle.stop_schedule.specs.Ids.{has_id}
 use Rattle.stop_schedule.specs.Rising.{IsBetween, has_sequence, is_rising}
 use Rattle.stop_schedule.specs.Sheet.{nth}
 use Rattle.stop_schedule.specs.StopTimes.{loaded, placed, sequence_of, stops_in}
-use Rattle.stop_schedule.specs.declared.stop_times.LoadedStop.{LoadedStop}
 use Rattle.stop_schedule.proofs.IdLemmas.{and-left, and-right, id-of-place}
 use Rattle.stop_schedule.proofs.SequenceLemmas.{not-between, placed-at}
 use Rattle.stop_schedule.proofs.StopStep.{items_of, unknown-trip, too-many, unknown-stop, twice, no-fault, held-at, loaded-row, stops-step, all-at}

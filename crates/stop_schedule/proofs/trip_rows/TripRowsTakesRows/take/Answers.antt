@@ -1,4 +1,4 @@
-use Rattle.std.proofs.Common.{◌≡◌, ◌∙◌, ◌&&◌, ◌∷◌, ◌++◌, [], true, false, not, sym, refl, ap}
+use Rattle.std.proofs.Common.{◌≡◌, ◌∙◌, ◌&&◌, true, false, not, sym}
 use Rattle.std.specs.Str.{is_utf8}
 use Rattle.stop_schedule.specs.Ids.{has_id, is_id}
 use Rattle.stop_schedule.specs.Sheet.{nth}
