@@ -40,4 +40,3 @@ utc_of-IsMoment text secs e = by (has_form utc_form text) e
     by : (b : Bool) → (if b then moment_at (date_number (four_at text 0) (two_at text 5) (two_at text 8)) (two_at text 11) (two_at text 14) (two_at text 17) else None) ≡ Some secs → IsMoment secs
     by true e = moment_at-IsMoment (date_number (four_at text 0) (two_at text 5) (two_at text 8)) (two_at text 11) (two_at text 14) (two_at text 17) secs e
     by false e = absurd (none-some secs e)
-
