@@ -1,29 +1,36 @@
 #!/usr/bin/env python3
-"""Prints the bytes that the tests expect of entities of cancelled trips, as Rust byte strings.
+"""Prints the bytes that the tests expect of entities of trips, as Rust byte strings.
 
-It writes protobuf from the schema by itself (gtfs-realtime.proto: FeedEntity, TripUpdate, TripDescriptor) and shares
-nothing with the crates. crates/gateway/src/tests/entities.rt holds what it prints.
+It writes protobuf from the schema by itself (gtfs-realtime.proto: FeedEntity, TripUpdate, TripDescriptor,
+StopTimeUpdate, StopTimeEvent) and shares nothing with the crates. crates/gateway/src/tests/entities.rt holds what it
+prints.
 
 usage: bench/entities.py
 """
 from datetime import datetime, timezone
 
-CASES = [
+# Trips that are cancelled: the name, the trip, its day, and when that was recorded.
+CANCELLED = [
     ("T1_FIRST", "T1", "20240501", "2024-05-01T06:00:00"),
-    ("T1_EARLIER", "T1", "20240501", "2024-05-01T05:00:00"),
     ("T1_OLDEST", "T1", "20240501", "1970-01-01T00:00:00"),
     ("T1_NEWEST", "T1", "20240501", "9998-12-31T23:59:59"),
     ("L1_FIRST", "L1", "20240501", "2024-05-01T05:00:00"),
-    ("T2_FIRST", "T2", "20240501", "2024-05-01T06:00:00"),
     ("T1_SECOND", "T1", "20240502", "2024-05-01T06:00:00"),
     ("L1_SECOND", "L1", "20240502", "2024-05-01T06:00:00"),
     ("T2_SECOND", "T2", "20240502", "2024-04-30T00:00:00"),
     ("LONG_FIRST", "a-trip-whose-entity-has-more-than-127-bytes-0123", "20240501", "2024-05-01T06:00:00"),
     ("ZURICH_FIRST", "Zürich", "20240501", "2024-05-01T06:00:00"),
 ]
+# Trips with one update: the name, the trip, its day, when that was recorded, the stop_sequence, the delay, and the time
+# that was planned for arrival and departure.
+DELAYED = [
+    ("T1_LATE", "T1", "20240501", "2024-05-01T06:00:00", 10, 60, "2024-05-01T06:00:00"),
+    ("T1_EARLY", "T1", "20240501", "2024-05-01T06:00:00", 10, -1, "2024-05-01T06:00:00"),
+]
 
 
 def varint(value):
+    value %= 1 << 64
     out = b""
     while value >= 128:
         out += bytes([value % 128 + 128])
@@ -39,18 +46,32 @@ def bytes_field(number, body):
     return varint(number * 8 + 2) + varint(len(body)) + body
 
 
-def entity(trip_id, date, recorded):
-    moment = int(datetime.fromisoformat(recorded).replace(tzinfo=timezone.utc).timestamp())
-    trip = bytes_field(1, trip_id.encode()) + bytes_field(3, date.encode()) + number_field(4, 3)
-    update = bytes_field(1, trip) + number_field(4, moment)
+def moment_of(text):
+    return int(datetime.fromisoformat(text).replace(tzinfo=timezone.utc).timestamp())
+
+
+def entity(trip_id, date, recorded, relation, updates):
+    trip = bytes_field(1, trip_id.encode()) + bytes_field(3, date.encode()) + number_field(4, relation)
+    update = bytes_field(1, trip) + updates + number_field(4, moment_of(recorded))
     body = bytes_field(1, f"{date}:{trip_id}".encode()) + bytes_field(3, update)
     return bytes_field(2, body)
 
 
+def stop_update(sequence, delay, planned):
+    event = number_field(1, delay) + number_field(2, moment_of(planned) + delay)
+    return bytes_field(2, number_field(1, sequence) + bytes_field(2, event) + bytes_field(3, event))
+
+
+def show(name, body):
+    text = "".join(f"\\x{byte:02x}" for byte in body)
+    print(f'{name}: b"{text}"')
+
+
 def main():
-    for name, trip_id, date, recorded in CASES:
-        text = "".join(f"\\x{byte:02x}" for byte in entity(trip_id, date, recorded))
-        print(f'{name}: b"{text}"')
+    for name, trip_id, date, recorded in CANCELLED:
+        show(name, entity(trip_id, date, recorded, 3, b""))
+    for name, trip_id, date, recorded, sequence, delay, planned in DELAYED:
+        show(name, entity(trip_id, date, recorded, 0, stop_update(sequence, delay, planned)))
 
 
 if __name__ == "__main__":

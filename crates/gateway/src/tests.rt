@@ -1,5 +1,6 @@
 //! Each real device once, and the top call over files and sinks in memory. The top call over the real
 //! devices is run by the repository's own checks.
+mod deliveries;
 mod entities;
 mod failures;
 mod feed;
@@ -7,6 +8,8 @@ mod folder;
 mod frame;
 mod items;
 mod runs;
+mod told;
+mod updates;
 mod words;
 
 use crate::devices::{DirFiles, StdSink};

@@ -147,7 +147,7 @@ static REFUSALS: [(&str, &[Other], &[u64], u8, &str); 6] = [
         &[("f", Some(b"{}"))],
         &[],
         65,
-        "gateway: f BadDelivery\n",
+        "gateway: f NotDelivery ServiceDelivery\n",
     ),
     (WORDS, &[("f", Some(b"{}"))], &[DELIVERY], 74, FAILED),
     (WORDS, &[], &[1], 74, FAILED),

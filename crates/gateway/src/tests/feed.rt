@@ -1,9 +1,9 @@
-//! Whole feeds: the bytes of deliveries with several journeys.
+//! Whole feeds: the bytes of deliveries with several journeys, and of those with delays.
 use super::entities::{
-    L1_FIRST, L1_SECOND, LONG_FIRST, T1_FIRST, T1_SECOND, T2_SECOND, ZURICH_FIRST, assert_feed,
-    feed_of,
+    L1_FIRST, L1_SECOND, LONG_FIRST, T1_EARLY, T1_FIRST, T1_LATE, T1_SECOND, T2_SECOND,
+    ZURICH_FIRST, assert_feed, feed_of,
 };
-use super::runs::{Given, WORDS, assert_run, json, run_given, sink};
+use super::runs::{Given, JOURNEY, ONE_TAKEN, WORDS, assert_run, json, run_given, sink};
 use feed_messages::plain_feed;
 use gw_base::{Entity, MemorySink, Text, TripUpdate};
 use std::alloc::{AllocError, Global};
@@ -20,7 +20,7 @@ const MIXED: &str = "$<{'RecordedAtTime':'2024-04-30T00:00:00Z',$F:{$D:'2024-05-
     {$R,$F:{$D:'2024-05-02',$I:'L1'},$C}$>";
 
 const MIXED_REPORT: &str =
-    "f aside 1 OutOfWindow\nf aside 4 UnknownJourney\nf aside 7 NotYet\nf taken 5 passed 0 aside 3\n";
+    "f aside 1 OutOfWindow\nf aside 4 UnknownJourney\nf taken 6 passed 0 aside 2\n";
 
 // Trips of other ids, with their journeys.
 const OTHER_TRIPS: &[u8] =
@@ -31,6 +31,28 @@ const NO_STOP_TIMES: &[u8] = b"trip_id,arrival_time,departure_time,stop_id,stop_
 const OTHER_JOURNEYS: &str =
     "$<{$R,$F:{$D:'2024-05-01',$I:'a-trip-whose-entity-has-more-than-127-bytes-0123'},$C},\
     {$R,$F:{$D:'2024-05-01',$I:'Z\\u00fcrich'},$C}$>";
+
+// Deliveries of T1, each with its entity.
+static ONE: [(&str, &[u8]); 3] = [
+    (JOURNEY, T1_FIRST),
+    (
+        "$<{$R,$1,$({$P:'A',$a:'$@08:01:00',$d:'$@08:01:00'},\
+        {$P:'B',$a:'$@08:11:00',$d:'$@08:12:00'},{$P:'C',$a:'$@08:21:00'}$)}$>",
+        T1_LATE,
+    ),
+    (
+        "$<{$R,$1,$({$P:'A',$a:'$@07:59:59',$d:'$@07:59:59'},\
+        {$P:'B',$a:'$@08:09:59',$d:'$@08:10:59'},{$P:'C',$a:'$@08:19:59'}$)}$>",
+        T1_EARLY,
+    ),
+];
+
+#[test]
+fn a_journey_is_written_as_its_entity(rt: HostRuntime) {
+    for (short, entity) in ONE.iter() {
+        assert_feed(&rt, rt.alloc(), short, &[entity], ONE_TAKEN);
+    }
+}
 
 #[test]
 fn journeys_are_written_by_day_and_then_trip_number(rt: HostRuntime) {

@@ -28,7 +28,7 @@ pub static SAMPLE: [(&str, &[u8]); 8] = [
     ),
     (
         "g/stop_times.txt",
-        b"trip_id,arrival_time,departure_time,stop_id,stop_sequence\nT1,08:00:00,08:00:00,A,10\nT1,08:10:00,08:11:00,B,20\nT1,08:20:00,08:20:00,C,30\n",
+        b"trip_id,arrival_time,departure_time,stop_id,stop_sequence\nT1,08:00:00,08:00:00,A,10\nT1,08:10:00,08:11:00,B,20\nT1,08:20:00,08:20:00,C,30\nL1,09:00:00,09:00:00,A,1\nL1,09:10:00,09:10:00,B,2\nL1,09:20:00,09:20:00,A,3\n",
     ),
     (
         "f",
@@ -87,7 +87,17 @@ fn meaning(letter: char) -> &'static str {
         '1' => {
             "\"FramedVehicleJourneyRef\":{\"DataFrameRef\":\"2024-05-01\",\"DatedVehicleJourneyRef\":\"T1\"}"
         }
+        '2' => {
+            "\"FramedVehicleJourneyRef\":{\"DataFrameRef\":\"2024-05-01\",\"DatedVehicleJourneyRef\":\"L1\"}"
+        }
         'C' => "\"Cancellation\":true",
+        '(' => "\"EstimatedCalls\":{\"EstimatedCall\":[",
+        ')' => "]}",
+        'P' => "\"StopPointRef\"",
+        'O' => "\"Order\"",
+        'a' => "\"ExpectedArrivalTime\"",
+        'd' => "\"ExpectedDepartureTime\"",
+        '@' => "2024-05-01T",
         _ => "?",
     }
 }
@@ -212,16 +222,16 @@ pub fn run_given(
     Ok(run(alloc, words.as_slice(), &mut files, out, err))
 }
 
-// What a run left: its status, standard output and standard error.
+/// What a run left: its status, standard output and standard error.
 #[derive(Drop)]
-struct Left {
-    status: u8,
-    out: MemorySink,
-    err: MemorySink,
+pub struct Left {
+    pub status: u8,
+    pub out: MemorySink,
+    pub err: MemorySink,
 }
 
-// What a run with sinks that are large enough left.
-fn left_by(alloc: Global, given: &Given) -> Result<Left, AllocError> {
+/// What a run with sinks that are large enough left.
+pub fn left_by(alloc: Global, given: &Given) -> Result<Left, AllocError> {
     let mut out = sink(alloc, 10_000, &[])?;
     let mut err = sink(alloc, 10_000, &[])?;
     let status = run_given(alloc, given, &mut out, &mut err)?;

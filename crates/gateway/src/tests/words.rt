@@ -53,7 +53,7 @@ static WRONG: [(usize, &str); 41] = [
 ];
 
 // Lists of words, each with where it stops being the start of an accepted one.
-static LISTS: [(&str, usize); 8] = [
+static LISTS: [(&str, usize); 11] = [
     ("", 0),
     (" to-gtfsrt --gtfs g", 0),
     ("to-gtfsrt  --gtfs g", 1),
@@ -66,12 +66,24 @@ static LISTS: [(&str, usize); 8] = [
         5,
     ),
     (
+        "to-gtfsrt --gtfs g --zone-rule R --from 2024-05-01 --days 2 --at 2024-05-01T06:00:00Z --at 2024-05-01T06:00:00Z",
+        11,
+    ),
+    (
         "to-gtfsrt --gtfs g --zone-rule R --from 2024-05-01 --days 2 --at 2024-05-01T06:00:00Z --et f ",
         13,
     ),
     (
-        "to-gtfsrt --gtfs g --zone-rule R --from 2024-05-01 --days 2 --at 2024-05-01T06:00:00Z --et f --et f",
+        "to-gtfsrt --gtfs g --zone-rule R --from 2024-05-01 --days 2 --at 2024-05-01T06:00:00Z --et f --sx f",
         13,
+    ),
+    (
+        "to-gtfsrt --gtfs g --zone-rule R --from 2024-05-01 --days 2 --at 2024-05-01T06:00:00Z --et f --et",
+        14,
+    ),
+    (
+        "to-gtfsrt --gtfs g --zone-rule R --from 2024-05-01 --days 2 --at 2024-05-01T06:00:00Z --et f --et ",
+        14,
     ),
     (
         "to-gtfsrt --gtfs g --zone-rule R --from 9997-12-31 --days 2 --at 2024-05-01T06:00:00Z --et f",
@@ -80,7 +92,7 @@ static LISTS: [(&str, usize); 8] = [
 ];
 
 // Lists of words that are accepted.
-static RIGHT: [&str; 13] = [
+static RIGHT: [&str; 15] = [
     // Each rule, each number of days.
     "to-gtfsrt --gtfs g --zone-rule CET-1CEST,M3.5.0,M10.5.0/3 --from 2024-05-01 --days 2 --at 2024-05-01T06:00:00Z --et f",
     "to-gtfsrt --gtfs g --zone-rule x --from 2024-05-01 --days 2 --at 2024-05-01T06:00:00Z --et f",
@@ -96,6 +108,9 @@ static RIGHT: [&str; 13] = [
     "to-gtfsrt --gtfs g --zone-rule CET-1CEST,M3.5.0,M10.5.0/3 --from 2024-02-29 --days 2 --at 2024-05-01T06:00:00Z --et f",
     "to-gtfsrt --gtfs g --zone-rule CET-1CEST,M3.5.0,M10.5.0/3 --from 2024-05-01 --days 2 --at 1970-01-01T00:00:00Z --et f",
     "to-gtfsrt --gtfs g --zone-rule CET-1CEST,M3.5.0,M10.5.0/3 --from 2024-05-01 --days 2 --at 9998-12-31T23:59:59Z --et f",
+    // No delivery, and several.
+    "to-gtfsrt --gtfs g --zone-rule CET-1CEST,M3.5.0,M10.5.0/3 --from 2024-05-01 --days 2 --at 2024-05-01T06:00:00Z",
+    "to-gtfsrt --gtfs g --zone-rule CET-1CEST,M3.5.0,M10.5.0/3 --from 2024-05-01 --days 2 --at 2024-05-01T06:00:00Z --et f --et h --et f",
 ];
 
 // A run that calls no device but standard error: the first call of each other one is to fail, and is
@@ -131,6 +146,9 @@ fn assert_refused(rt: &impl Abort, alloc: Global, words: &[Text], at: usize) {
     assert_eq!(rt; status, 2, "status of {words:?}");
 }
 
+// The number of words in front of the first delivery, which are a command by themselves.
+const BARE: usize = 11;
+
 // The first words of the accepted list, where they break off.
 fn assert_front_refused(rt: &impl Abort, alloc: Global, count: usize) {
     let mut words = words_of(alloc, WORDS).expect(rt, "memory");
@@ -153,7 +171,9 @@ fn assert_list_refused(rt: &impl Abort, alloc: Global, text: &str, at: usize) {
 #[test]
 fn a_list_that_breaks_off_is_refused_at_its_end(rt: HostRuntime) {
     for count in 0..13 {
-        assert_front_refused(&rt, rt.alloc(), count);
+        if count != BARE {
+            assert_front_refused(&rt, rt.alloc(), count);
+        }
     }
 }
 
