@@ -1,5 +1,5 @@
 //! Feeds as short texts, by the reader of feeds.
-use super::runs::{Given, WORDS, json, left_by};
+use super::runs::{Given, Left, Other, WORDS, json, left_by};
 use feed_messages::read_feed;
 use gw_base::{Entity, Event, Feed, StopUpdate};
 use std::alloc::{AllocError, Global};
@@ -62,16 +62,22 @@ fn assert_said(rt: &impl Abort, alloc: Global, short: &str, bytes: &[u8], expect
     assert_eq!(rt; text.as_str(), expected, "feed of {short}");
 }
 
+// What the run over these files in place of the sample's left.
+fn left_over(alloc: Global, others: &[Other]) -> Result<Left, AllocError> {
+    let given = Given {
+        words: WORDS,
+        others,
+        fails: &[],
+    };
+    left_by(alloc, &given)
+}
+
 /// The run on a delivery, which is given by its short text, leaves that report and a feed that says this: for each entity
 /// a line `ID RELATION`, and behind it `|SEQUENCE RELATION ARRIVAL DEPARTURE` for each update, with `DELAY@TIME` or `-`.
 pub fn assert_told(rt: &impl Abort, alloc: Global, short: &str, expected: &str, report: &str) {
     let delivery = json(alloc, short).expect(rt, "memory");
-    let given = Given {
-        words: WORDS,
-        others: &[("f", Some(delivery.as_str().as_bytes()))],
-        fails: &[],
-    };
-    let left = left_by(alloc, &given).expect(rt, "memory");
+    let others = [("f", Some(delivery.as_str().as_bytes()))];
+    let left = left_over(alloc, &others).expect(rt, "memory");
     assert_eq!(rt;
         left.err.written(),
         report.as_bytes(),
