@@ -38,3 +38,11 @@ pub record IsServable (schedule : Schedule) (trip : ℕ) (day : ℤ) (reading : 
   pub run : Run
   pub on_day : run_on schedule trip day ≡ Some run
   pub fits : fits_trip run.start run.stops reading ≡ true
+
+-- a reading of a trip on a day fits a schedule: the trip is there, the day is in the window, and there is one reading for each
+-- stop, at most a week from the planned times
+pub record FitsSchedule (schedule : Schedule) (trip : ℕ) (day : ℤ) (reading : JourneyReading) : Type 0 where
+  pub trip_in : trip < length schedule.table.trips
+  pub run : Run
+  pub on_day : run_on schedule trip day ≡ Some run
+  pub fits : fits_trip run.start run.stops reading ≡ true

@@ -1,7 +1,8 @@
 //! What journeys are read over, and a trip on a day. The functions meet `specs/Schedules.antt`.
 ghost use Rattle.std.specs.Prelude.{◌≡◌, ◌<◌, ◌≤◌, length, true, option_map, IfSome};
+ghost use Rattle.service_day.specs.Starts.{IsDayStart};
 ghost use Rattle.service_day.specs.Utc.{IsMoment};
-ghost use Rattle.stop_schedule.specs.Stops.{are_rising};
+ghost use Rattle.stop_schedule.specs.Stops.{are_rising, are_timed};
 
 use service_day::{Day, Window, Zone};
 use stop_schedule::{StopRow, Timetable, TripNo};
@@ -31,6 +32,8 @@ pub struct DatedTrip<'a> {
     pub ghost rising: { are_rising stops.now ≡ true },
     pub ghost few: { length stops.now ≤ 250 },
     pub ghost start_in: { IsMoment start },
+    pub ghost day_start: { IsDayStart start },
+    pub ghost timed: { are_timed stops.now ≡ true },
 }
 
 impl<'a> Context<'a> {

@@ -1,5 +1,5 @@
 //! What journeys read as: the readings of stops and journeys, how calls and updates are matched to the stops of a
-//! trip, the faults for which an item is set aside, and reports. The definitions of propagation and of what a feed
+//! trip, the faults for which an item is set aside, reports, and situations. The definitions of propagation and of what a feed
 //! says stand here, since several layers cite them. Nothing in this crate takes memory.
 #![tactic(auto)]
 
@@ -8,6 +8,7 @@ mod fault;
 mod matching;
 mod readings;
 mod report;
+mod situation;
 #[cfg(test)]
 mod tests;
 
@@ -16,3 +17,4 @@ pub use fault::{Fault, FaultText, fault_text};
 pub use matching::{MatchFault, NamedStop, match_call, match_update};
 pub use readings::{DatedReading, JourneyReading, JourneyRecord, StopReading};
 pub use report::Report;
+pub use situation::{Ref, Situation, ValidPeriod};

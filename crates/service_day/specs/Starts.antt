@@ -11,6 +11,10 @@ use Rattle.service_day.specs.declared.zones.Rules.{Rules}
 abbrev pub IsServiceDay : ℤ → Type 0
 IsServiceDay day = IsBetween (pos 365) (pos 2932166) day
 
+-- a second at which a service day may start: no clock is ahead of UTC, or behind it, by 26 hours
+abbrev pub IsDayStart : ℤ → Type 0
+IsDayStart secs = IsBetween (pos 31400000) (pos 253339300000) secs
+
 -- the seconds since 1970 at which the zone's clock shows that second of the day, by the compatible choice
 abbrev pub local_second : Rules → ℤ → ℕ → ℤ
 local_second zone day second = day *ℤ pos 86400 +ℤ pos second -ℤ local_offset zone (shown_at day second)

@@ -5,7 +5,7 @@ ghost use Rattle.jiff_core.specs.Date.{epoch_day};
 ghost use Rattle.jiff_core.specs.DateTime.{civil_nanos};
 ghost use Rattle.service_day.specs.Civil as civil;
 ghost use Rattle.service_day.specs.Starts as spec;
-ghost use Rattle.service_day.specs.Starts.{IsServiceDay};
+ghost use Rattle.service_day.specs.Starts.{IsDayStart, IsServiceDay};
 ghost use Rattle.service_day.specs.Utc.{IsMoment};
 
 use crate::days::Day;
@@ -53,7 +53,7 @@ fn local_date(zone: &Zone, secs: i64) -> civil::Date
 pub(crate) fn start_of_day(zone: &Zone, day: Day) -> i64
     requires { IsServiceDay day }
     ensures value { result ≡ spec.start zone.now day }
-    ensures range { IsMoment result }
+    ensures range { IsDayStart result }
 {
     local_second(zone, day, 43_200) - 43_200
 }

@@ -1,7 +1,7 @@
 //! Windows: up to 32 service days in a row, whose starts are computed once.
 ghost use Rattle.std.specs.Prelude.{◌≡◌, ◌≤◌, ◌+ℤ◌, ◌-ℤ◌, IsOk, IfOk, IfSome, pos};
 ghost use Rattle.service_day.specs.Utc.{IsMoment};
-ghost use Rattle.service_day.specs.Starts.{IsServiceDay};
+ghost use Rattle.service_day.specs.Starts.{IsDayStart, IsServiceDay};
 
 use crate::days::Day;
 use crate::starts::start_of_day;
@@ -22,7 +22,7 @@ pub struct Window {
 
 impl Model for Window {
     ghost use Rattle.std.specs.Prelude.{◌≡◌, ◌≤◌, ◌<◌, ℕ, pos, length, take, slice_index_or};
-    ghost use Rattle.service_day.specs.Utc.{IsMoment};
+    ghost use Rattle.service_day.specs.Starts.{IsDayStart};
     ghost use Rattle.service_day.specs.Windows.{DayStarts};
 
     ghost Value = { DayStarts };
@@ -30,7 +30,7 @@ impl Model for Window {
     ghost view = { λ w. record { first = w.first; starts = take w.days w.starts } };
 
     ghost invariant = { λ w. (w.days ≤ 32) × (length w.starts ≡ 32)
-        × ((place : ℕ) → place < w.days → IsMoment (slice_index_or w.starts place (pos 0))) };
+        × ((place : ℕ) → place < w.days → IsDayStart (slice_index_or w.starts place (pos 0))) };
 }
 
 impl Window {
@@ -60,7 +60,8 @@ impl Window {
     /// Takes no memory.
     pub fn start_of(&self, day: Day) -> Option<i64>
         ensures value { result ≡ start_in self.now day }
-        ensures range { IfSome result IsMoment }
+        ensures range { IfSome result IsDayStart }
+        ensures moment { IfSome result IsMoment }
     {
         let place = day.number() - self.first.number();
         if place < 0 || place >= self.days as i32 {

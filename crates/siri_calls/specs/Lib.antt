@@ -1,5 +1,6 @@
 pub mod Calls
 pub mod Deliveries
+pub mod DeliveryTree
 pub mod Fields
 pub mod Forms
 pub mod Frame
@@ -7,6 +8,7 @@ pub mod Journeys
 pub mod Judged
 pub mod Judgements
 pub mod MatchedCalls
+pub mod SaidAgain
 pub mod Seen
 pub mod Servable
 pub mod Shown

@@ -12,6 +12,13 @@ are_rising (row ∷ rows) = list_all (λ other. nat_lt row.sequence other.sequen
 abbrev pub are_known : ℕ → List StopRow → Bool
 are_known stops rows = list_all (λ row. nat_lt row.stop.0 stops) rows
 
--- they are at most 250, rise in sequence, and are of this many stops
+-- the times of a stop count at most 99:59:59 from the start of the service day
+abbrev pub is_timed : StopRow → Bool
+is_timed row = nat_le row.arrival 359999 && nat_le row.departure 359999
+
+abbrev pub are_timed : List StopRow → Bool
+are_timed rows = list_all is_timed rows
+
+-- they are at most 250, rise in sequence, are of this many stops, and have such times
 abbrev pub are_stops_of : ℕ → List StopRow → Bool
-are_stops_of stops rows = nat_le (length rows) 250 && (are_rising rows && are_known stops rows)
+are_stops_of stops rows = nat_le (length rows) 250 && (are_rising rows && (are_known stops rows && are_timed rows))

@@ -3,7 +3,7 @@ ghost use Rattle.std.specs.Prelude.{◌≡◌, ◌≤◌, ◌<◌, true, Some, l
 ghost use Rattle.std.specs.Str.{bytes_eq};
 ghost use Rattle.stop_schedule.specs.Held.{are_in_range};
 ghost use Rattle.stop_schedule.specs.Ids.{are_distinct};
-ghost use Rattle.stop_schedule.specs.Stops.{are_known, are_rising};
+ghost use Rattle.stop_schedule.specs.Stops.{are_known, are_rising, are_timed};
 
 use crate::carried::CarriedTrip;
 use crate::ids::Ids;
@@ -116,13 +116,14 @@ impl Timetable {
         self.routes.at(route.0)
     }
 
-    /// The stops of a trip, in rising sequence: at most 250.
+    /// The stops of a trip, in rising sequence: at most 250, with times of at most 99:59:59.
     pub fn stops_of(&self, trip: TripNo) -> &[StopRow]
         requires { trip.0 < length self.now.trips }
         ensures value { result.now ≡ (seen self.now).stops_of trip.0 }
         ensures rising { are_rising result.now ≡ true }
         ensures known { are_known (length self.now.stops) result.now ≡ true }
         ensures few { length result.now ≤ 250 }
+        ensures timed { are_timed result.now ≡ true }
     {
         let carried = &self.carried[trip.0 as usize];
         let (front, _) = self.stop_rows.as_slice().split_at(carried.end);

@@ -14,9 +14,9 @@ loop-i-preserved c =
           (below_more _ _
           (λ k h. let ne : k ≢ c.loop-i.i = omega arith in rw get_or-set_other (c.loop-i.invariant.each k h))
           (let lt : c.loop-i.i < length c.loop-i.starts = omega arith in rw get_or-set_same here));
-      moments = simp to_z-of_z
+      in_range = simp to_z-of_z
           (below_more _ _
-          (λ k h. let ne : k ≢ c.loop-i.i = omega arith in rw get_or-set_other (c.loop-i.invariant.moments k h))
+          (λ k h. let ne : k ≢ c.loop-i.i = omega arith in rw get_or-set_other (c.loop-i.invariant.in_range k h))
           (let lt : c.loop-i.i < length c.loop-i.starts = omega arith in rw get_or-set_same c.start_of_day.ensures.range));
     }
 
@@ -25,4 +25,4 @@ returns-clause-value c =
     window_is c.args.zone.now c.args.first c.args.days c.loop-i.starts (omega (arith, c.loop-i.invariant.room)) (λ k h. c.loop-i.invariant.each k (omega arith))
 
 pub invariant_of-result : goal.invariant_of-result
-invariant_of-result c = (c.requires.few_days, c.loop-i.invariant.room, λ k h. c.loop-i.invariant.moments k (omega arith))
+invariant_of-result c = (c.requires.few_days, c.loop-i.invariant.room, λ k h. c.loop-i.invariant.in_range k (omega arith))

@@ -1,7 +1,7 @@
 use Rattle.std.proofs.Common.{◌≡◌, ◌∙◌, ◌<ℤ◌, ◌≤ℤ◌, ◌+ℤ◌, ◌-ℤ◌, ◌<◌, get_or, unsigned_abs, Some, pos, sym, ap, length, take, arith, rules, inl, inr, FitsSigned, w32, w64, to_z-of_z}
 use Rattle.std.proofs.lemmas.Int.{ints}
 use Rattle.std.proofs.lemmas.List.{length-take-le, get_or-take}
-use Rattle.service_day.specs.Utc.{IsMoment}
+use Rattle.service_day.specs.Starts.{IsDayStart}
 use Rattle.service_day.specs.Windows.{DayStarts}
 use Rattle.service_day.proofs.WindowLemmas.{distance_fits, place_in, start_in-none, start_in-some}
 use Rattle.service_day.proofs.windows.Window.start_of.Goals as goal
@@ -44,5 +44,10 @@ returns-clause-range c =
     let fits_first : FitsSigned w32 c.number-2.result = search rules in
     let fits_place : FitsSigned w32 (c.number.result -ℤ c.number-2.result) = distance_fits c.number.result c.number-2.result c.number.ensures.range c.number-2.ensures.range in
     let fits : FitsSigned w64 (get_or c.self.inside.starts (unsigned_abs (c.number.result -ℤ c.number-2.result)) (pos 0)) = search rules in
-    let there : IsMoment (get_or c.self.inside.starts (unsigned_abs (c.number.result -ℤ c.number-2.result)) (pos 0)) = rw (c.number.ensures.value, c.number-2.ensures.value) (c.self.invariant.2 _ (place c)) in
+    let there : IsDayStart (get_or c.self.inside.starts (unsigned_abs (c.number.result -ℤ c.number-2.result)) (pos 0)) = rw (c.number.ensures.value, c.number-2.ensures.value) (c.self.invariant.2 _ (place c)) in
     simp to_z-of_z there
+
+pub returns-clause-moment : goal.returns-clause-moment
+returns-clause-moment c =
+    let there = returns-clause-range c in
+    (omega (arith, ints, there.0), omega (arith, ints, there.1))
