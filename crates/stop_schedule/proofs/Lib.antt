@@ -12,6 +12,7 @@ pub mod RowLemmas
 pub mod SequenceLemmas
 pub mod ServiceLemmas
 pub mod ServiceStep
+pub mod SoundLemmas
 pub mod StartLemmas
 pub mod StepLemmas
 pub mod StopStep

@@ -18,8 +18,9 @@ pub mod Rows
 pub mod Seen
 pub mod Services
 pub mod Sheet
-pub mod Stops
+pub mod Sound
 pub mod StopTimes
+pub mod Stops
 pub mod Table
 pub mod Timetable
 pub mod Trips

@@ -27,6 +27,7 @@ pub struct Timetable {
 
 impl Timetable {
     ghost use Rattle.stop_schedule.specs.Seen.{seen};
+    ghost use Rattle.stop_schedule.specs.Sound.{IsSound};
 
     /// The number of trips.
     pub fn trips(&self) -> u32
@@ -129,6 +130,14 @@ impl Timetable {
         let (front, _) = self.stop_rows.as_slice().split_at(carried.end);
         let (_, stops) = front.split_at(carried.first);
         stops
+    }
+
+    /// What every timetable keeps: the ids are told apart, and the stops and the route of each trip are known. A law for readers
+    /// of a timetable, which does nothing when it runs.
+    pub fn is_sound(&self)
+        ensures { IsSound (seen self.now) }
+    {
+        let _ = (self.trips.len(), self.stops.len(), self.routes.len());
     }
 
     /// Whether a trip runs on a day (GTFS Schedule reference, calendar.txt and calendar_dates.txt).
