@@ -1,20 +1,15 @@
--- The deliveries that a command reads.
-use Rattle.std.specs.Prelude.{ℕ, List, ◌++◌, codes, map, Result}
-use Rattle.std.specs.List.{flat_map}
-use Rattle.gw_base.specs.Member.{member_name}
+-- Deliveries that were read, and what was taken of them.
+use Rattle.std.specs.Prelude.{ℕ, List, map, Result}
+use Rattle.std.specs.List.{AllByRecursion, flat_map}
 use Rattle.journey_model.specs.Records.{Recorded}
 use Rattle.journey_model.specs.Schedules.{Schedule}
 use Rattle.journey_model.specs.declared.fault.Fault.{Fault}
-use Rattle.siri_calls.specs.Deliveries.{shown}
+use Rattle.siri_calls.specs.Deliveries.{AreServable, shown}
 use Rattle.siri_calls.specs.declared.delivery.Delivery.{Delivery}
-use Rattle.siri_calls.specs.declared.delivery.DeliveryFault.{DeliveryFault}
-use Rattle.siri_calls.specs.declared.delivery.DeliveryFault.TheVariants.{NotJson, NotDelivery, Memory}
 use Rattle.stop_schedule.specs.Seen.{seen}
-use Rattle.gateway.specs.Reports.{report_text, taken}
-use Rattle.gateway.specs.declared.deliveries.Named.{Named}
-use Rattle.gateway.specs.declared.exit.Exit.{Exit}
-use Rattle.gateway.specs.declared.exit.Exit.TheVariants as exit
-use Rattle.gateway.specs.declared.setting.Setting.{Setting}
+use Rattle.gateway_core.specs.Reports.{report_text, taken}
+use Rattle.gateway_core.specs.declared.named.Named.{Named}
+use Rattle.gateway_core.specs.declared.setting.Setting.{Setting}
 
 -- what journeys are read over
 abbrev pub schedule_in : Setting → Schedule
@@ -38,8 +33,9 @@ report_of one = report_text one.name (verdicts_of one.delivery) one.delivery.pas
 abbrev pub all_reports : List Named → List ℕ
 all_reports deliveries = flat_map report_of deliveries
 
--- the end that a fault of a file's body is, with the file's name
-abbrev pub body_end : List ℕ → DeliveryFault → Exit
-body_end name NotJson = exit.Refused (name ++ codes " NotJson")
-body_end name (NotDelivery member) = exit.Refused (name ++ codes " NotDelivery " ++ member_name member)
-body_end name Memory = exit.Memory
+-- the records of a delivery can be served
+abbrev pub CanServeAll : Schedule → Delivery → Type 0
+CanServeAll schedule delivery = AreServable schedule delivery.items
+
+abbrev pub CanServeEach : Schedule → List Named → Type 0
+CanServeEach schedule deliveries = AllByRecursion (λ one. CanServeAll schedule one.delivery) deliveries

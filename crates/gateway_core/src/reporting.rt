@@ -1,15 +1,15 @@
-//! The report on a delivery: a line for each item that was set aside, and a line with the counts. The definition is
-//! `report_text` of `specs/Reports.antt`.
+//! The report on a delivery or a feed: a line for each item that was set aside, and a line with the counts. The definitions
+//! are those of `specs/Reports.antt`.
 ghost use Rattle.std.specs.Prelude.{◌≡◌, ◌++◌, ◌+◌, OnOk, IfOk, map, length};
 ghost use Rattle.std.specs.List.{flat_map};
 ghost use Rattle.siri_calls.specs.Deliveries.{shown};
-ghost use Rattle.gateway.specs.Deliveries.{all_reports, report_of};
-ghost use Rattle.gateway.specs.Reports as spec;
+ghost use Rattle.gateway_core.specs.Deliveries.{all_reports, report_of};
+ghost use Rattle.gateway_core.specs.Reports as spec;
 
-use crate::deliveries::Named;
+use crate::named::Named;
 use gw_base::Bytes;
 use itoa::Buffer;
-use journey_model::{Fault, fault_text};
+use journey_model::{Fault, Report, fault_text};
 use siri_calls::Item;
 use std::alloc::{AllocError, Global};
 
@@ -73,6 +73,19 @@ fn add_report(report: &mut Bytes, one: &Named) -> Result<(), AllocError>
     let aside = add_all_aside(report, file, items)?;
     let taken = items.len() as u64 - aside;
     add_counts(report, file, taken, one.delivery.passed, aside)
+}
+
+/// The report on the entities of a feed's file: the lines of those that are set aside, and the line of counts.
+pub fn feed_report(alloc: Global, file: &str, report: &Report) -> Result<Bytes, AllocError>
+    ensures { IfOk result (λ lines. lines ≡ spec.feed_report file.now report.now) }
+{
+    let mut lines = Bytes::new(alloc);
+    for (number, fault) in report.aside.as_slice() {
+        add_aside(&mut lines, file, *number, fault)?;
+    }
+    let aside = report.aside.len() as u64;
+    add_counts(&mut lines, file, report.taken, report.passed, aside)?;
+    Ok(lines)
 }
 
 /// The reports on deliveries, one behind the other.

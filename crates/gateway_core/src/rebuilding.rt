@@ -1,14 +1,13 @@
 //! The feed of the records that were taken. The functions meet `specs/Feeds.antt`.
 ghost use Rattle.std.specs.Prelude.{◌++◌, ◌∷◌, [], ℤ, List, IfOk, OnOk};
-ghost use Rattle.std.specs.List.{AllByRecursion};
-ghost use Rattle.gateway.specs.Deliveries.{all_taken};
-ghost use Rattle.gateway.specs.Feeds.{IsFeed};
-ghost use Rattle.gateway.specs.Served.{CanServeAll};
-ghost use Rattle.gateway.specs.Winners.{AreServable, IsWritten, all_held};
+ghost use Rattle.gateway_core.specs.Deliveries.{all_taken};
+ghost use Rattle.gateway_core.specs.Feeds.{IsRebuilt};
+ghost use Rattle.gateway_core.specs.Deliveries.{CanServeEach};
+ghost use Rattle.gateway_core.specs.Winners.{AreServable, IsWritten, all_held};
 ghost use Rattle.journey_model.specs.Records.{Recorded, recorded};
 ghost use Rattle.journey_model.specs.Schedules.{IsServable, schedule_of};
 
-use crate::deliveries::Named;
+use crate::named::Named;
 use crate::latest::{Latest, latest_records};
 use feed_messages::header_bytes;
 use gw_base::{Bytes, Moment};
@@ -52,14 +51,14 @@ fn written(
 
 /// The bytes of a full dataset that is made at that moment: its header, and the entity of the latest
 /// record of each journey, by service day and then trip (GTFS Realtime, FeedMessage).
-pub fn feed_bytes(
+pub fn rebuilt(
     alloc: Global,
     at: Moment,
     context: &Context<'_>,
     deliveries: &[Named],
 ) -> Result<Bytes, AllocError>
-    requires { AllByRecursion (λ one. CanServeAll (schedule_of context.now) one.delivery) deliveries.now }
-    ensures { IfOk result (λ feed. IsFeed at (schedule_of context.now) (all_taken deliveries.now) feed) }
+    requires { CanServeEach (schedule_of context.now) deliveries.now }
+    ensures { IfOk result (λ feed. IsRebuilt at (schedule_of context.now) (all_taken deliveries.now) feed) }
 {
     let latest = latest_records(alloc, deliveries)?;
     written(alloc, at, context, &latest)

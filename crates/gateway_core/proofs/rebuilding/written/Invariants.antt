@@ -2,8 +2,8 @@
 use Rattle.std.proofs.Common.{◌≡◌, ◌++◌, List, map}
 use Rattle.journey_model.specs.Records.{Recorded}
 use Rattle.journey_model.specs.Schedules.{schedule_of}
-use Rattle.gateway.specs.Winners.{IsWritten, all_held, recorded_at}
-use Rattle.gateway.proofs.feed.written.Given as goal
+use Rattle.gateway_core.specs.Winners.{IsWritten, all_held, recorded_at}
+use Rattle.gateway_core.proofs.rebuilding.written.Given as goal
 
 abbrev pub invariant-loop-rec : goal.invariant-loop-rec
 invariant-loop-rec l =

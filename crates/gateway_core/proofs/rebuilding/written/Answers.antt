@@ -1,9 +1,9 @@
 -- Each record that is held adds its entity.
 use Rattle.std.proofs.Common.{◌++◌, ◌∷◌, []}
 use Rattle.journey_model.specs.Schedules.{schedule_of}
-use Rattle.gateway.specs.Winners.{all_held, recorded_at}
-use Rattle.gateway.proofs.FeedLemmas.{left_more, next_servable}
-use Rattle.gateway.proofs.feed.written.Goals as goal
+use Rattle.gateway_core.specs.Winners.{all_held, recorded_at}
+use Rattle.gateway_core.proofs.FeedLemmas.{left_more, next_servable}
+use Rattle.gateway_core.proofs.rebuilding.written.Goals as goal
 
 pub add_entity-requires : goal.add_entity-requires
 add_entity-requires c =

@@ -1,10 +1,10 @@
 -- The records that are held are the latest of those taken, and can be served as these can.
 use Rattle.journey_model.specs.Schedules.{schedule_of}
-use Rattle.gateway.specs.Deliveries.{all_taken}
-use Rattle.gateway.proofs.FeedLemmas.{feed_of_held}
-use Rattle.gateway.proofs.TakenLemmas.{all_servable}
-use Rattle.gateway.proofs.WinnerLemmas.{servable_of_held}
-use Rattle.gateway.proofs.feed.feed_bytes.Goals as goal
+use Rattle.gateway_core.specs.Deliveries.{all_taken}
+use Rattle.gateway_core.proofs.FeedLemmas.{feed_of_held}
+use Rattle.gateway_core.proofs.TakenLemmas.{all_servable}
+use Rattle.gateway_core.proofs.WinnerLemmas.{servable_of_held}
+use Rattle.gateway_core.proofs.rebuilding.rebuilt.Goals as goal
 
 pub written-requires : goal.written-requires
 written-requires c =

@@ -2,9 +2,9 @@
 use Rattle.std.proofs.Common.{◌≡◌, [], arith, ap, length, drop, map, ◌∙◌}
 use Rattle.std.proofs.lemmas.List.{drop_all, length-map}
 use Rattle.siri_calls.specs.Deliveries.{shown}
-use Rattle.gateway.specs.Reports.{aside_from}
-use Rattle.gateway.proofs.ReportLemmas.{taken_or_aside}
-use Rattle.gateway.proofs.report.add_all_aside.Goals as goal
+use Rattle.gateway_core.specs.Reports.{aside_from}
+use Rattle.gateway_core.proofs.ReportLemmas.{taken_or_aside}
+use Rattle.gateway_core.proofs.reporting.add_all_aside.Goals as goal
 
 pub returns-clause-taken : goal.returns-clause-taken
 returns-clause-taken c =

@@ -1,8 +1,8 @@
 -- The feed grows by the bytes of the record's entity.
 use Rattle.journey_model.specs.Records.{recorded}
 use Rattle.journey_model.specs.Schedules.{schedule_of}
-use Rattle.gateway.proofs.FeedLemmas.{written_then}
-use Rattle.gateway.proofs.feed.add_entity.Goals as goal
+use Rattle.gateway_core.proofs.FeedLemmas.{written_then}
+use Rattle.gateway_core.proofs.rebuilding.add_entity.Goals as goal
 
 pub returns : goal.returns
 returns c = λ at records h.

@@ -2,8 +2,8 @@
 use Rattle.std.proofs.Common.{◌≡◌, ◌≤◌, ◌+◌, ◌++◌, drop, length, map}
 use Rattle.std.specs.List.{flat_map}
 use Rattle.siri_calls.specs.Deliveries.{shown}
-use Rattle.gateway.specs.Reports.{aside_from, aside_line}
-use Rattle.gateway.proofs.report.add_all_aside.Given as goal
+use Rattle.gateway_core.specs.Reports.{aside_from, aside_line}
+use Rattle.gateway_core.proofs.reporting.add_all_aside.Given as goal
 
 abbrev pub invariant-loop-number : goal.invariant-loop-number
 invariant-loop-number l = record {
