@@ -9,3 +9,5 @@ pub mod PlacedLemmas
 pub mod Prefixes
 pub mod ServableLemmas
 pub mod TreeLemmas
+pub mod WrittenLemmas
+pub mod WrittenTimes

@@ -21,5 +21,10 @@ mod read_fault;
 #[cfg(test)]
 mod tests;
 mod trip_run;
+mod write;
+mod write_calls;
+mod write_journeys;
+mod write_texts;
 
 pub use delivery::{Delivery, DeliveryFault, Item, read_delivery};
+pub use write::write_delivery;
