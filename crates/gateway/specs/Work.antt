@@ -12,7 +12,7 @@ use Rattle.journey_model.specs.declared.report.Report.{Report}
 use Rattle.propagation.specs.Feeds.{IsReading}
 use Rattle.propagation.specs.declared.feeds.FeedReading.{FeedReading}
 use Rattle.show_command.specs.Lines.{shown as shown_lines}
-use Rattle.reverse_calls.specs.Siri.{IsSiri, HasTooManyCalls}
+use Rattle.reverse_calls.specs.Siri.{HasTooMany, IsSiri}
 use Rattle.service_day.specs.Windows.{DayStarts, IsWindow}
 use Rattle.service_day.specs.Zones.{IsRuleZone, IsBadRule, IsTableZone, IsBadTable}
 use Rattle.service_day.specs.declared.zones.Rules.{Rules}
@@ -172,7 +172,7 @@ abbrev pub SiriOf : ℤ → Setting → List ℕ → Feed → Result Done Exit �
 SiriOf at setting name feed (Ok done) =
     (report : Report) × IsSiri (schedule_in setting) feed at done.out report × (done.err ≡ feed_report name report)
 SiriOf at setting name feed (Err end) =
-    (count : ℕ) × HasTooManyCalls (schedule_in setting) feed count × (end ≡ many_calls_end name count)
+    (count : ℕ) × HasTooMany (schedule_in setting) feed count × (end ≡ many_calls_end name count)
 
 abbrev pub SiriOfFile : ℤ → Setting → List ℕ → Directory → Result Done Exit → Type 0
 SiriOfFile at setting name files = do
