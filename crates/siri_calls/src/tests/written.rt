@@ -2,7 +2,7 @@
 ghost use Rattle.std.specs.Prelude.{◌≡◌, IfSome};
 ghost use Rattle.std.specs.Option.{ForSome};
 ghost use Rattle.journey_model.specs.Schedules.{Schedule, schedule_of};
-ghost use Rattle.siri_calls.specs.Deliveries.{AreServable};
+ghost use Rattle.siri_calls.specs.Deliveries.{AreServable, CanServe};
 ghost use Rattle.siri_calls.specs.Servable.{IsServable};
 
 use super::{between, quoted};
@@ -81,14 +81,24 @@ fn read_folder(alloc: Global) -> Result<Timetable, TableFault> {
     read_timetable(alloc, &mut files, "g")
 }
 
-// The last record of a delivery.
+// The record of an item, if it is taken.
+fn taken(item: Item) -> Option<JourneyRecord>
+    ensures { (schedule : Schedule) → CanServe schedule item → IfSome result (IsServable schedule) }
+{
+    match item {
+        Item::Taken(record) => Some(record),
+        Item::Aside(_) => None,
+    }
+}
+
+// The record of the last item of a delivery.
 fn last_record(delivery: Delivery) -> Option<JourneyRecord>
     ensures { (schedule : Schedule) → AreServable schedule delivery.items → IfSome result (IsServable schedule) }
 {
     let mut items = delivery.items.into_vec();
     match items.pop() {
-        Some(Item::Taken(record)) => Some(record),
-        _ => None,
+        Some(item) => taken(item),
+        None => None,
     }
 }
 
