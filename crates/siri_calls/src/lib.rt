@@ -21,5 +21,7 @@ mod read_fault;
 #[cfg(test)]
 mod tests;
 mod trip_run;
+mod write;
 
 pub use delivery::{Delivery, DeliveryFault, Item, read_delivery};
+pub use write::write_delivery;
