@@ -7,6 +7,13 @@ pub mod OrderLemmas
 pub mod PlaceLemmas
 pub mod PlacedLemmas
 pub mod Prefixes
+pub mod SaidAgain
+pub mod SaidAgainCalls
+pub mod SaidAgainIds
+pub mod SaidAgainItems
+pub mod SaidAgainPlain
+pub mod SaidAgainRuns
+pub mod SaidAgainTrees
 pub mod ServableLemmas
 pub mod TreeLemmas
 pub mod WrittenLemmas

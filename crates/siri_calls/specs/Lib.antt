@@ -10,6 +10,7 @@ pub mod Judged
 pub mod Judgements
 pub mod MatchedCalls
 pub mod SaidAgain
+pub mod Sayable
 pub mod Seen
 pub mod Servable
 pub mod Shown

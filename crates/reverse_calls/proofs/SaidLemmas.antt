@@ -1,0 +1,25 @@
+-- What the readings of a feed keep, for the delivery that says them.
+use Rattle.std.proofs.Common.{◌≡◌, ℕ, ◌<◌, List, All, length, Result, Ok, Err, IfOk, sym, subst, ℤ}
+use Rattle.service_day.specs.Utc.{IsMoment}
+use Rattle.stop_schedule.specs.Sound.{IsSound}
+use Rattle.journey_model.specs.Schedules.{FitsSchedule, Schedule}
+use Rattle.journey_model.specs.declared.readings.DatedReading.{DatedReading}
+use Rattle.propagation.specs.Feeds.{IsServable}
+use Rattle.siri_calls.specs.DeliveryTree.{delivery_text}
+use Rattle.siri_calls.specs.SaidAgain.{SaysAgain}
+use Rattle.siri_calls.specs.Sayable.{IsSayable}
+use Rattle.siri_calls.proofs.SaidAgain.{says_again}
+
+-- readings that can be served fit the timetable, and their trips are there
+pub all_fit : (schedule : Schedule) (journeys : List DatedReading) → All (IsServable schedule) journeys → All (λ one. FitsSchedule schedule one.trip.0 one.day one.reading) journeys
+all_fit schedule journeys all = λ k d less. let one = all k d less in record { trip_in = one.trip_in; run = one.run; on_day = one.on_day; fits = one.fits }
+
+pub all_there : (schedule : Schedule) (journeys : List DatedReading) → All (IsServable schedule) journeys → All (λ one. one.trip.0 < length schedule.table.trips) journeys
+all_there schedule journeys all = λ k d less. (all k d less).trip_in
+
+-- a text that says them says them again
+pub says_all : {E : Type 0} → (schedule : Schedule) (moment : ℤ) (journeys : List DatedReading) (text : Result (List ℕ) E)
+    → IfOk text (λ written. written ≡ delivery_text schedule moment journeys) → IsSound schedule.table → IsMoment moment → All (IsSayable schedule) journeys
+    → IfOk text (SaysAgain schedule moment journeys)
+says_all schedule moment journeys (Err fault) same sound at all = tt
+says_all schedule moment journeys (Ok text) same sound at all = subst (SaysAgain schedule moment journeys) (sym same) (says_again schedule moment journeys sound at all)

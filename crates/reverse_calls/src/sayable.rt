@@ -1,0 +1,38 @@
+//! What the readings of a feed keep, so that a delivery can say them. The functions meet `Sayable.antt` of `siri_calls`.
+ghost use Rattle.std.specs.Prelude.{All, IfSome};
+ghost use Rattle.journey_model.specs.Schedules.{schedule_of};
+ghost use Rattle.propagation.specs.Feeds.{IsServable};
+ghost use Rattle.service_day.specs.Utc.{IsMoment};
+ghost use Rattle.siri_calls.specs.Sayable.{IsSayable};
+
+use gw_base::Moment;
+use journey_model::{Context, DatedReading};
+
+// When a reading was recorded is a moment.
+fn is_recorded(recorded: &Option<Moment>)
+    ensures { IfSome recorded.now IsMoment }
+{
+    if let Some(moment) = recorded {
+        let _ = moment.secs();
+    }
+}
+
+// A reading that can be served can be said.
+fn is_sayable(context: &Context<'_>, one: &DatedReading)
+    requires { IsServable (schedule_of context.now) one.now }
+    ensures { IsSayable (schedule_of context.now) one.now }
+{
+    let _ = one.day.number();
+    let _ = context.window.start_of(one.day);
+    is_recorded(&one.recorded);
+}
+
+/// The readings of a feed, which can be served, can be said. A law, which changes nothing when it runs.
+pub(crate) fn are_sayable(context: &Context<'_>, journeys: &[DatedReading])
+    requires { All (IsServable (schedule_of context.now)) journeys.now }
+    ensures { All (IsSayable (schedule_of context.now)) journeys.now }
+{
+    for one in journeys {
+        is_sayable(context, one);
+    }
+}

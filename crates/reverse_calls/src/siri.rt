@@ -1,0 +1,80 @@
+//! The SIRI delivery of a feed. The functions meet `specs/Siri.antt`.
+ghost use Rattle.std.specs.Prelude.{◌≡◌, All, IfOk};
+ghost use Rattle.journey_model.specs.Schedules.{schedule_of};
+ghost use Rattle.propagation.specs.Feeds.{IsServable};
+ghost use Rattle.siri_calls.specs.DeliveryTree.{delivery_text};
+ghost use Rattle.siri_calls.specs.SaidAgain.{SaysAgain};
+ghost use Rattle.reverse_calls.specs.Siri.{IsAnswer, IsFullAnswer};
+
+use crate::counting::calls_of;
+use crate::reverse_fault::ReverseFault;
+use crate::sayable::are_sayable;
+use gw_base::{Bytes, Feed, Moment};
+use journey_model::{Context, DatedReading, Report};
+use propagation::{FeedReading, readings_of};
+use siri_calls::write_delivery;
+use std::alloc::{AllocError, Global};
+
+/// The incrementality of a differential feed (GTFS Realtime reference, FeedHeader, DIFFERENTIAL).
+const DIFFERENTIAL: i32 = 1;
+
+/// The most calls that a delivery has.
+const MOST_CALLS: u64 = 400_000;
+
+// The text that says these journeys, and says them when it is read again.
+fn said(
+    alloc: Global,
+    context: &Context<'_>,
+    journeys: &[DatedReading],
+    moment: Moment,
+) -> Result<Bytes, AllocError>
+    requires { All (IsServable (schedule_of context.now)) journeys.now }
+    ensures text { IfOk result (λ text. text ≡ delivery_text (schedule_of context.now) moment journeys.now) }
+    ensures again { IfOk result (SaysAgain (schedule_of context.now) moment journeys.now) }
+{
+    context.table.is_sound();
+    are_sayable(context, journeys);
+    let _ = moment.secs();
+    write_delivery(alloc, context, journeys, moment)
+}
+
+// The delivery of a feed that isn't differential, and the report on its entities.
+fn siri_of_full(
+    alloc: Global,
+    feed: &Feed,
+    context: &Context<'_>,
+    moment: Moment,
+) -> Result<(Bytes, Report), ReverseFault>
+    ensures { IsFullAnswer (schedule_of context.now) feed.now moment result }
+{
+    let FeedReading { journeys, report } = match readings_of(alloc, feed, context) {
+        Ok(reading) => reading,
+        Err(_) => return Err(ReverseFault::Memory),
+    };
+    let calls = calls_of(context, journeys.as_slice());
+    if calls > MOST_CALLS {
+        return Err(ReverseFault::TooManyCalls(calls));
+    }
+    match said(alloc, context, journeys.as_slice(), moment) {
+        Ok(text) => Ok((text, report)),
+        Err(_) => Err(ReverseFault::Memory),
+    }
+}
+
+/// The SIRI delivery that says at that moment what a feed says of journeys, and the report on the feed's entities (SIRI 2.0,
+/// EstimatedTimetableDelivery; GTFS Realtime reference, FeedMessage). Differential exactly where the feed's incrementality is 1;
+/// TooManyCalls where the trips of its journeys have over 400,000 stops, which are counted before a byte is written; Memory for
+/// want of memory.
+pub fn siri_of(
+    alloc: Global,
+    feed: &Feed,
+    context: &Context<'_>,
+    moment: Moment,
+) -> Result<(Bytes, Report), ReverseFault>
+    ensures { IsAnswer (schedule_of context.now) feed.now moment result }
+{
+    if feed.incrementality == DIFFERENTIAL {
+        return Err(ReverseFault::Differential);
+    }
+    siri_of_full(alloc, feed, context, moment)
+}

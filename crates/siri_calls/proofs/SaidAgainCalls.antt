@@ -1,0 +1,274 @@
+-- The calls that a delivery says are read as the calls of their stops, which read as the journey does.
+use Rattle.std.proofs.Common.{◌≡◌, ℕ, zero, suc, ◌+◌, ◌-◌, ◌<◌, ◌≤◌, List, [], ◌∷◌, length, map, drop, position, bytes_eq, find, slice_get, Bool, true, false, ◌&&◌, ◌||◌, ◌==◌, nat_lt, nat_le, cond, Option, Some, None, Result, Ok, Err, arith, add-one, le-leb, lt-ltb, ltb-true, refl, sym, ap, ap₂, ◌∙◌, subst, ℤ, ◌-ℤ◌}
+use Rattle.std.specs.List.{list_all, list_any, range_with_len}
+use Rattle.std.specs.Option.{option_map_or, option_or}
+use Rattle.std.proofs.lemmas.Bool.{and_parts}
+use Rattle.std.proofs.lemmas.Bool.Decides.{nat_tests}
+use Rattle.gw_base.specs.declared.member.Member.{Member}
+use Rattle.serde_json.specs.Data.{Data}
+use Rattle.service_day.specs.Utc.{IsMoment, moment_text}
+use Rattle.service_day.specs.declared.zones.Rules.{Rules}
+use Rattle.stop_schedule.specs.Planned.{planned}
+use Rattle.stop_schedule.specs.Stops.{is_timed}
+use Rattle.stop_schedule.specs.declared.stop_times.StopRow.{StopRow}
+use Rattle.journey_model.specs.Chains.{◌>>=◌}
+use Rattle.journey_model.specs.Matching.{call_place, fits_order, is_of_stop, place_behind, stands_at}
+use Rattle.journey_model.specs.Readings.{are_near, is_near}
+use Rattle.journey_model.specs.Runs.{Run, planned_at}
+use Rattle.journey_model.specs.Times.{delay_fault, is_delay}
+use Rattle.journey_model.specs.declared.fault.Fault.{Fault}
+use Rattle.journey_model.specs.declared.readings.JourneyReading.TheVariants.{Stops}
+use Rattle.journey_model.specs.declared.readings.StopReading.{StopReading}
+use Rattle.journey_model.specs.declared.readings.StopReading.TheVariants.{Absent, Skipped, Timed}
+use Rattle.siri_calls.specs.Calls.{call, call_read, calls, event, statuses}
+use Rattle.siri_calls.specs.DeliveryTree.{call_tree, call_trees_from, id_at}
+use Rattle.siri_calls.specs.Fields.{optional_member, required_member}
+use Rattle.siri_calls.specs.Forms.{filled, flag, text, whole}
+use Rattle.siri_calls.specs.Journeys.{Call}
+use Rattle.siri_calls.specs.Judged.{all_dense, delays_fault, dense, call_reading, extras, fault_of_delay, numbered, placed_calls, reading_at, stop_named, stops_named, stops_read}
+use Rattle.siri_calls.specs.declared.forms.Form.TheVariants.{Found}
+use Rattle.siri_calls.proofs.SaidAgainIds.{id-at, position-id, some-id}
+use Rattle.service_day.proofs.MomentTextLemmas.{moment_of-moment_text, some-moment_text}
+use Rattle.siri_calls.proofs.SaidAgainRuns.{IsSoundRun, read-moments}
+
+-- ---- what each call is read as
+
+abbrev skips : StopReading → Bool
+skips Absent = false
+skips Skipped = true
+skips (Timed arrival departure) = false
+
+abbrev arrival_said : StopReading → Option ℤ
+arrival_said Absent = None
+arrival_said Skipped = None
+arrival_said (Timed arrival departure) = Some arrival
+
+abbrev departure_said : StopReading → Option ℤ
+departure_said Absent = None
+departure_said Skipped = None
+departure_said (Timed arrival departure) = Some departure
+
+-- the call at a stop, which counts from 1
+abbrev said_call : Run → ℕ → StopRow → StopReading → Call
+said_call run order row reading = record {
+  stop = id_at run.ids row.stop.0;
+  order = Some order;
+  skip = skips reading;
+  arrival = arrival_said reading;
+  departure = departure_said reading;
+}
+
+-- a text that isn't empty is found
+pub filled-some : (t : List ℕ) → 0 < length t → filled t ≡ Found t
+filled-some [] h = absurd (omega arith)
+filled-some (byte ∷ bytes) h = refl
+
+-- a call by its members
+call-by : (zone : Rules) (tree : Data) (stop : List ℕ) (order : ℕ) (skip : Bool) (arrival departure : Option ℤ)
+    → optional_member flag Member.ExtraCall tree ≡ Ok None → required_member text Member.StopPointRef tree ≡ Ok stop → optional_member whole Member.Order tree ≡ Ok (Some order)
+    → statuses tree ≡ Ok (record { skip = skip; no_arrival = false; no_departure = false })
+    → event zone false Member.ActualArrivalTime Member.ExpectedArrivalTime tree ≡ Ok arrival
+    → event zone false Member.ActualDepartureTime Member.ExpectedDepartureTime tree ≡ Ok departure
+    → call zone tree ≡ Ok (Some (record { stop = stop; order = Some order; skip = skip; arrival = arrival; departure = departure }))
+call-by zone tree stop order skip arrival departure extra ref number said first last = rw (extra, ref, number, said, first, last) refl
+
+call-read : (zone : Rules) (run : Run) (order : ℕ) (row : StopRow) (reading : StopReading) → IsSoundRun run → 0 < length (id_at run.ids row.stop.0) → is_timed row ≡ true
+    → is_near (planned run.start row) reading ≡ true → call zone (call_tree run order row reading) ≡ Ok (Some (said_call run order row reading))
+call-read zone run order row Absent sound id timed near =
+    let tree = call_tree run order row Absent in
+    let ref : required_member text Member.StopPointRef tree ≡ Ok (id_at run.ids row.stop.0) = rw (filled-some (id_at run.ids row.stop.0) id) refl in
+    call-by zone tree (id_at run.ids row.stop.0) order false None None refl ref refl refl refl refl
+call-read zone run order row Skipped sound id timed near =
+    let tree = call_tree run order row Skipped in
+    let ref : required_member text Member.StopPointRef tree ≡ Ok (id_at run.ids row.stop.0) = rw (filled-some (id_at run.ids row.stop.0) id) refl in
+    call-by zone tree (id_at run.ids row.stop.0) order true None None refl ref refl refl refl refl
+call-read zone run order row (Timed arrival departure) sound id timed near =
+    let tree = call_tree run order row (Timed arrival departure) in
+    let said = read-moments run.start row arrival departure sound.start timed near in
+    let ref : required_member text Member.StopPointRef tree ≡ Ok (id_at run.ids row.stop.0) = rw (filled-some (id_at run.ids row.stop.0) id) refl in
+    let first : event zone false Member.ActualArrivalTime Member.ExpectedArrivalTime tree ≡ Ok (Some arrival)
+      = rw (filled-some (moment_text arrival) (some-moment_text arrival), moment_of-moment_text zone arrival said.0) refl in
+    let last : event zone false Member.ActualDepartureTime Member.ExpectedDepartureTime tree ≡ Ok (Some departure)
+      = rw (filled-some (moment_text departure) (some-moment_text departure), moment_of-moment_text zone departure said.1) refl in
+    call-by zone tree (id_at run.ids row.stop.0) order false (Some arrival) (Some departure) refl ref refl refl first last
+
+-- the calls at the stops from a place on
+abbrev pub read_from : Run → ℕ → List StopRow → List StopReading → List (Option Call)
+read_from run place [] readings = []
+read_from run place (row ∷ rows) [] = []
+read_from run place (row ∷ rows) (reading ∷ readings) = Some (said_call run (place + 1) row reading) ∷ read_from run (place + 1) rows readings
+
+-- one call, and then others
+calls-cons : (zone : Rules) (tree : Data) (trees : List Data) (one : Option Call) (others : List (Option Call)) → call zone tree ≡ Ok one → calls zone trees ≡ Ok others
+    → calls zone (tree ∷ trees) ≡ Ok (one ∷ others)
+calls-cons zone tree trees one others first rest = rw (first, rest) refl
+
+pub calls-read : (zone : Rules) (run : Run) (place : ℕ) (rows : List StopRow) (readings : List StopReading) → IsSoundRun run
+    → list_all (λ row. nat_lt row.stop.0 (length run.ids)) rows ≡ true → list_all is_timed rows ≡ true → are_near run.start rows readings ≡ true
+    → calls zone (call_trees_from run (place + 1) rows readings) ≡ Ok (read_from run place rows readings)
+calls-read zone run place [] readings sound known timed near = refl
+calls-read zone run place (row ∷ rows) [] sound known timed near = refl
+calls-read zone run place (row ∷ rows) (reading ∷ readings) sound known timed near =
+    let knowns = and_parts (nat_lt row.stop.0 (length run.ids)) _ known in
+    let times = and_parts (is_timed row) (list_all is_timed rows) timed in
+    let nears = and_parts (is_near (planned run.start row) reading) (are_near run.start rows readings) near in
+    let id = some-id (id_at run.ids row.stop.0) (id-at run.ids row.stop.0 sound.ids (ltb-true _ _ knowns.0)) in
+    calls-cons zone (call_tree run (place + 1) row reading) (call_trees_from run (place + 1 + 1) rows readings) (Some (said_call run (place + 1) row reading)) (read_from run (place + 1) rows readings)
+    (call-read zone run (place + 1) row reading sound id times.0 nears.0)
+    (calls-read zone run (place + 1) rows readings sound knowns.1 times.1 nears.1)
+
+-- no call is an extra one
+pub no-extras : (run : Run) (place : ℕ) (rows : List StopRow) (readings : List StopReading) → extras (read_from run place rows readings) ≡ 0
+no-extras run place [] readings = refl
+no-extras run place (row ∷ rows) [] = refl
+no-extras run place (row ∷ rows) (reading ∷ readings) = no-extras run (place + 1) rows readings
+
+-- ---- their stops and their places
+
+abbrev named_from : Run → ℕ → List StopRow → List StopReading → List (ℕ × (ℕ × Call))
+named_from run place [] readings = []
+named_from run place (row ∷ rows) [] = []
+named_from run place (row ∷ rows) (reading ∷ readings) = (row.stop.0, (place, said_call run (place + 1) row reading)) ∷ named_from run (place + 1) rows readings
+
+abbrev placed_from : Run → ℕ → List StopRow → List StopReading → List (ℕ × (ℕ × Call))
+placed_from run place [] readings = []
+placed_from run place (row ∷ rows) [] = []
+placed_from run place (row ∷ rows) (reading ∷ readings) = (place, (place, said_call run (place + 1) row reading)) ∷ placed_from run (place + 1) rows readings
+
+-- the first of what is left of a list, and what is left behind it
+slice_get-drop : {A : Type 0} (xs : List A) (i : ℕ) (x : A) (rest : List A) → drop i xs ≡ x ∷ rest → slice_get xs i ≡ Some x
+slice_get-drop [] zero x rest e = absurd (cc)
+slice_get-drop [] (suc i) x rest e = absurd (cc)
+slice_get-drop (y ∷ ys) zero x rest e = cc
+slice_get-drop (y ∷ ys) (suc i) x rest e = slice_get-drop ys i x rest e
+
+drop-behind : {A : Type 0} (xs : List A) (i : ℕ) (x : A) (rest : List A) → drop i xs ≡ x ∷ rest → drop (i + 1) xs ≡ rest
+drop-behind xs i x rest e = rw add-one (by xs i x rest e)
+  where
+    by : {A : Type 0} (xs : List A) (i : ℕ) (x : A) (rest : List A) → drop i xs ≡ x ∷ rest → drop (suc i) xs ≡ rest
+    by [] zero x rest e = absurd (cc)
+    by [] (suc i) x rest e = absurd (cc)
+    by (y ∷ ys) zero x rest e = cc
+    by (y ∷ ys) (suc i) x rest e = by ys i x rest e
+
+same-number : (n : ℕ) → (n == n) ≡ true
+same-number n = grind (arith, nat_tests)
+
+-- a row of a list is among it
+among : (rows : List StopRow) (i : ℕ) (row : StopRow) (rest : List StopRow) → drop i rows ≡ row ∷ rest → list_any (is_of_stop row.stop.0) rows ≡ true
+among [] zero row rest e = absurd (cc)
+among [] (suc i) row rest e = absurd (cc)
+among (first ∷ rows) zero row rest e = let same : first ≡ row = cc in rw (same, same-number row.stop.0) refl
+among (first ∷ rows) (suc i) row rest e = rw (among rows i row rest e) (by (is_of_stop row.stop.0 first))
+  where
+    by : (b : Bool) → (b || true) ≡ true
+    by true = refl
+    by false = refl
+
+stop-named : (run : Run) (place : ℕ) (row : StopRow) (rest : List StopRow) → IsSoundRun run → row.stop.0 < length run.ids → drop place run.stops ≡ row ∷ rest
+    → stop_named run (id_at run.ids row.stop.0) ≡ Some row.stop.0
+stop-named run place row rest sound known at = rw (position-id run.ids row.stop.0 sound.ids known, among run.stops place row rest at) refl
+
+named-cons : (run : Run) (one : ℕ × Call) (others : List (ℕ × Call)) (stop : ℕ) (rest : List (ℕ × (ℕ × Call))) → stop_named run one.1.stop ≡ Some stop → stops_named run others ≡ Ok rest
+    → stops_named run (one ∷ others) ≡ Ok ((stop, one) ∷ rest)
+named-cons run one others stop rest first later = rw (first, later) refl
+
+stops-named : (run : Run) (place : ℕ) (rows : List StopRow) (readings : List StopReading) → IsSoundRun run
+    → list_all (λ row. nat_lt row.stop.0 (length run.ids)) rows ≡ true → drop place run.stops ≡ rows
+    → stops_named run (numbered place (read_from run place rows readings)) ≡ Ok (named_from run place rows readings)
+stops-named run place [] readings sound known at = refl
+stops-named run place (row ∷ rows) [] sound known at = refl
+stops-named run place (row ∷ rows) (reading ∷ readings) sound known at =
+    let knowns = and_parts (nat_lt row.stop.0 (length run.ids)) _ known in
+    named-cons run (place, said_call run (place + 1) row reading) (numbered (place + 1) (read_from run (place + 1) rows readings)) row.stop.0 (named_from run (place + 1) rows readings)
+    (stop-named run place row rows sound (ltb-true _ _ knowns.0) at)
+    (stops-named run (place + 1) rows readings sound knowns.1 (drop-behind run.stops place row rows at))
+
+-- the stop of a call is that of its order
+placed-here : (stops : List StopRow) (after : Option ℕ) (place : ℕ) (row : StopRow) (rest : List StopRow) → place_behind after ≡ place → drop place stops ≡ row ∷ rest
+    → call_place stops after row.stop.0 (Some (place + 1)) ≡ Some place
+placed-here stops after place row rest behind at =
+    let back : place + 1 - 1 ≡ place = omega arith in
+    let low : nat_le 1 (place + 1) ≡ true = le-leb 1 (place + 1) (omega arith) in
+    let from : nat_le place place ≡ true = le-leb place place (omega arith) in
+    let stands : stands_at (is_of_stop row.stop.0) place stops ≡ true = rw (slice_get-drop stops place row rest at, same-number row.stop.0) refl in
+    let fits : fits_order row.stop.0 (place_behind after) (place + 1) stops ≡ true = rw (behind, back, low, from, stands) refl in
+    rw (fits, back) refl
+
+placed-cons : (stops : List StopRow) (after : Option ℕ) (one : ℕ × (ℕ × Call)) (others : List (ℕ × (ℕ × Call))) (place : ℕ) (rest : List (ℕ × (ℕ × Call)))
+    → call_place stops after one.0 one.1.1.order ≡ Some place → placed_calls stops (Some place) others ≡ Ok rest
+    → placed_calls stops after (one ∷ others) ≡ Ok ((place, one.1) ∷ rest)
+placed-cons stops after one others place rest first later = rw (first, later) refl
+
+calls-placed : (run : Run) (after : Option ℕ) (place : ℕ) (rows : List StopRow) (readings : List StopReading) → place_behind after ≡ place → drop place run.stops ≡ rows
+    → placed_calls run.stops after (named_from run place rows readings) ≡ Ok (placed_from run place rows readings)
+calls-placed run after place [] readings behind at = refl
+calls-placed run after place (row ∷ rows) [] behind at = refl
+calls-placed run after place (row ∷ rows) (reading ∷ readings) behind at =
+    placed-cons run.stops after (row.stop.0, (place, said_call run (place + 1) row reading)) (named_from run (place + 1) rows readings) place (placed_from run (place + 1) rows readings)
+    (placed-here run.stops after place row rows behind at)
+    (calls-placed run (Some place) (place + 1) rows readings refl (drop-behind run.stops place row rows at))
+
+-- ---- no delay is over a week
+
+planned-here : (run : Run) (place : ℕ) (row : StopRow) (rest : List StopRow) → drop place run.stops ≡ row ∷ rest → planned_at run place ≡ planned run.start row
+planned-here run place row rest at = rw (slice_get-drop run.stops place row rest at) refl
+
+no-fault : (number : ℕ) (plan : ℤ × ℤ) (reading : StopReading) → is_near plan reading ≡ true
+    → cond (skips reading) None (delay_fault number plan (arrival_said reading) (departure_said reading)) ≡ None
+no-fault number plan Absent near = refl
+no-fault number plan Skipped near = refl
+no-fault number plan (Timed arrival departure) near =
+    let nears = and_parts (is_delay (arrival -ℤ plan.0)) (is_delay (departure -ℤ plan.1)) near in
+    rw (nears.0, nears.1) refl
+
+no-faults : (run : Run) (place : ℕ) (rows : List StopRow) (readings : List StopReading) → drop place run.stops ≡ rows → are_near run.start rows readings ≡ true
+    → delays_fault run (placed_from run place rows readings) ≡ None
+no-faults run place [] readings at near = refl
+no-faults run place (row ∷ rows) [] at near = refl
+no-faults run place (row ∷ rows) (reading ∷ readings) at near =
+    let nears = and_parts (is_near (planned run.start row) reading) (are_near run.start rows readings) near in
+    let first : fault_of_delay run (place, (place, said_call run (place + 1) row reading)) ≡ None
+      = subst (λ plan. cond (skips reading) None (delay_fault place plan (arrival_said reading) (departure_said reading)) ≡ None) (sym (planned-here run place row rows at)) (no-fault place (planned run.start row) reading nears.0) in
+    ap (λ found. option_or found (delays_fault run (placed_from run (place + 1) rows readings))) first
+    ∙ no-faults run (place + 1) rows readings (drop-behind run.stops place row rows at) nears.1
+
+-- ---- each stop reads as the journey says
+
+abbrev finds : List (ℕ × (ℕ × Call)) → ℕ → Option (ℕ × (ℕ × Call))
+finds placed place = find (λ one. one.0 == place) placed
+
+reads-as : (plan : ℤ × ℤ) (run : Run) (order : ℕ) (row : StopRow) (reading : StopReading) → call_reading plan (said_call run order row reading) ≡ reading
+reads-as plan run order row Absent = refl
+reads-as plan run order row Skipped = refl
+reads-as plan run order row (Timed arrival departure) = refl
+
+other-number : (n m : ℕ) → n < m → (n == m) ≡ false
+other-number n m h = grind (arith, nat_tests)
+
+dense-from : (run : Run) (placed : List (ℕ × (ℕ × Call))) (place : ℕ) (rows : List StopRow) (readings : List StopReading) → are_near run.start rows readings ≡ true
+    → ((j : ℕ) → place ≤ j → finds placed j ≡ finds (placed_from run place rows readings) j)
+    → map (dense run placed) (range_with_len place (length rows)) ≡ readings
+dense-from run placed place [] [] near same = refl
+dense-from run placed place [] (reading ∷ readings) near same = absurd (cc)
+dense-from run placed place (row ∷ rows) [] near same = absurd (cc)
+dense-from run placed place (row ∷ rows) (reading ∷ readings) near same =
+    let nears = and_parts (is_near (planned run.start row) reading) (are_near run.start rows readings) near in
+    let one : ℕ × (ℕ × Call) = (place, (place, said_call run (place + 1) row reading)) in
+    let later = placed_from run (place + 1) rows readings in
+    let here : finds placed place ≡ Some one = same place (omega arith) ∙ ap (λ b. cond b (Some one) (finds later place)) (same-number place) in
+    let there = λ (j : ℕ) (h : place + 1 ≤ j). same j (omega arith) ∙ ap (λ b. cond b (Some one) (finds later j)) (other-number place j (omega arith)) in
+    let first : dense run placed place ≡ reading = ap (reading_at run place) here ∙ reads-as (planned_at run place) run (place + 1) row reading in
+    let rest = dense-from run placed (place + 1) rows readings nears.1 there in
+    ap₂ (λ (a : StopReading) (b : List StopReading). a ∷ b) first rest
+
+-- the calls read as the journey does
+pub stops-read : (run : Run) (readings : List StopReading) → IsSoundRun run → are_near run.start run.stops readings ≡ true
+    → stops_read run (read_from run 0 run.stops readings) ≡ Ok (Stops readings)
+stops-read run readings sound near =
+    let placed = placed_from run 0 run.stops readings in
+    let named = stops-named run 0 run.stops readings sound sound.known refl in
+    let at = calls-placed run None 0 run.stops readings refl refl in
+    let faults = no-faults run 0 run.stops readings refl near in
+    let all : all_dense run placed ≡ readings = dense-from run placed 0 run.stops readings near (λ j h. refl) in
+    rw (named, at, faults, all) refl

@@ -1,0 +1,136 @@
+-- The tree of a delivery is plain: its texts are UTF-8, its numbers are of 64 bits, and the names of members rise.
+use Rattle.std.proofs.Common.{◌≡◌, ℕ, zero, suc, ◌+◌, ◌<◌, ◌≤◌, ◌^◌, List, [], ◌∷◌, ◌++◌, length, map, codes, Bool, true, false, ◌&&◌, nat_lt, IsUtf8, All, Option, Some, None, IfSome, unwrap_or, arith, ltb-true, refl, sym, ap, ◌∙◌, subst, ℤ}
+use Rattle.std.specs.List.{list_all}
+use Rattle.std.proofs.lemmas.Bool.{and_parts}
+use Rattle.std.proofs.lemmas.List.Elements.{All-head, All-tail}
+use Rattle.json.proofs.Printed.Utf8.{are_ascii, IsUtf8-are_ascii}
+use Rattle.serde_json.specs.Data.{Data}
+use Rattle.service_day.specs.Utc.{IsMoment}
+use Rattle.stop_schedule.specs.Planned.{planned}
+use Rattle.stop_schedule.specs.Sound.{IsSound}
+use Rattle.stop_schedule.specs.Stops.{is_timed}
+use Rattle.stop_schedule.specs.declared.stop_times.StopRow.{StopRow}
+use Rattle.journey_model.specs.Readings.{are_near, fits_trip, is_near}
+use Rattle.journey_model.specs.Runs.{Run}
+use Rattle.journey_model.specs.Schedules.{Schedule, run_on}
+use Rattle.journey_model.specs.declared.readings.DatedReading.{DatedReading}
+use Rattle.journey_model.specs.declared.readings.JourneyReading.{JourneyReading}
+use Rattle.journey_model.specs.declared.readings.JourneyReading.TheVariants.{Cancelled, Stops}
+use Rattle.journey_model.specs.declared.readings.StopReading.{StopReading}
+use Rattle.journey_model.specs.declared.readings.StopReading.TheVariants.{Absent, Skipped, Timed}
+use Rattle.siri_calls.specs.DeliveryTree.{all_calls, call_tree, call_trees_from, delivery_tree, frame_tree, framed_ref, id_at, items_of, journey_of_run, journey_on, journey_tree, moment_tree, service_tree, skipped_at, stop_readings, timetable_tree}
+use Rattle.siri_calls.specs.Sayable.{IsSayable}
+use Rattle.siri_calls.proofs.SaidAgainIds.{all-at, id-at, IsUtf8-id}
+use Rattle.service_day.proofs.MomentTextLemmas.{IsUtf8-dashed_text, IsUtf8-moment_text}
+use Rattle.siri_calls.proofs.SaidAgainRuns.{IsSoundRun, planned-moments, read-moments, sound-run}
+use Rattle.siri_calls.proofs.SaidAgainTrees.{ArePlain, IsPlain}
+
+-- a name of ASCII letters
+name : (letters : List ℕ) → are_ascii letters ≡ true → IsUtf8 letters
+name letters h = IsUtf8-are_ascii letters h
+
+-- the call at a stop
+plain-call : (run : Run) (order : ℕ) (row : StopRow) (reading : StopReading) → IsSoundRun run → order < 2 ^ 64 → IsUtf8 (id_at run.ids row.stop.0) → is_timed row ≡ true
+    → is_near (planned run.start row) reading ≡ true → IsPlain 1 (call_tree run order row reading)
+plain-call run order row Absent sound small id timed near =
+    let plan = planned-moments run.start row sound.start timed in
+    (
+      refl, name (codes "AimedArrivalTime") refl, IsUtf8-moment_text (planned run.start row).0 plan.0,
+      (refl, name (codes "AimedDepartureTime") refl, IsUtf8-moment_text (planned run.start row).1 plan.1,
+      (refl, name (codes "Order") refl, small,
+      (refl, name (codes "StopPointRef") refl, id, tt))),
+    )
+plain-call run order row Skipped sound small id timed near =
+    let plan = planned-moments run.start row sound.start timed in
+    (
+      refl, name (codes "AimedArrivalTime") refl, IsUtf8-moment_text (planned run.start row).0 plan.0,
+      (refl, name (codes "AimedDepartureTime") refl, IsUtf8-moment_text (planned run.start row).1 plan.1,
+      (refl, name (codes "Cancellation") refl, tt,
+      (refl, name (codes "Order") refl, small,
+      (refl, name (codes "StopPointRef") refl, id, tt)))),
+    )
+plain-call run order row (Timed arrival departure) sound small id timed near =
+    let plan = planned-moments run.start row sound.start timed in
+    let said = read-moments run.start row arrival departure sound.start timed near in
+    (
+      refl, name (codes "AimedArrivalTime") refl, IsUtf8-moment_text (planned run.start row).0 plan.0,
+      (refl, name (codes "AimedDepartureTime") refl, IsUtf8-moment_text (planned run.start row).1 plan.1,
+      (refl, name (codes "ExpectedArrivalTime") refl, IsUtf8-moment_text arrival said.0,
+      (refl, name (codes "ExpectedDepartureTime") refl, IsUtf8-moment_text departure said.1,
+      (refl, name (codes "Order") refl, small,
+      (refl, name (codes "StopPointRef") refl, id, tt))))),
+    )
+
+-- the calls at stops from one on
+plain-calls : (run : Run) (order : ℕ) (rows : List StopRow) (readings : List StopReading) → IsSoundRun run → order + length rows < 2 ^ 64
+    → list_all (λ row. nat_lt row.stop.0 (length run.ids)) rows ≡ true → list_all is_timed rows ≡ true → are_near run.start rows readings ≡ true
+    → ArePlain 1 (items_of (call_trees_from run order rows readings))
+plain-calls run order [] readings sound small known timed near = tt
+plain-calls run order (row ∷ rows) [] sound small known timed near = tt
+plain-calls run order (row ∷ rows) (reading ∷ readings) sound small known timed near =
+    let knowns = and_parts (nat_lt row.stop.0 (length run.ids)) _ known in
+    let times = and_parts (is_timed row) (list_all is_timed rows) timed in
+    let nears = and_parts (is_near (planned run.start row) reading) (are_near run.start rows readings) near in
+    let id = IsUtf8-id (id_at run.ids row.stop.0) (id-at run.ids row.stop.0 sound.ids (ltb-true _ _ knowns.0)) in
+    (
+      plain-call run order row reading sound (omega arith) id times.0 nears.0,
+      plain-calls run (order + 1) rows readings sound (omega arith) knowns.1 times.1 nears.1,
+    )
+
+-- skipping all stops fits
+near-skipped : (start : ℤ) (rows : List StopRow) → are_near start rows (map skipped_at rows) ≡ true
+near-skipped start [] = refl
+near-skipped start (row ∷ rows) = near-skipped start rows
+
+pub near-readings : (run : Run) (reading : JourneyReading) → fits_trip run.start run.stops reading ≡ true → are_near run.start run.stops (stop_readings run reading) ≡ true
+near-readings run Cancelled h = near-skipped run.start run.stops
+near-readings run (Stops readings) h = h
+
+-- a journey
+plain-journey : (schedule : Schedule) (recorded : ℤ) (one : DatedReading) → IsSound schedule.table → (h : IsSayable schedule one) → IsMoment recorded
+    → IsPlain 4 (journey_of_run schedule recorded one h.servable.run)
+plain-journey schedule recorded one sound h at =
+    let run = h.servable.run in
+    let sound-one = sound-run schedule one sound h in
+    let calls = plain-calls run 1 run.stops (stop_readings run one.reading) sound-one (omega (arith, sound-one.few)) sound-one.known sound-one.timed (near-readings run one.reading h.servable.fits) in
+    let trip = IsUtf8-id _ (id-at schedule.table.trips one.trip.0 sound.trips h.servable.trip_in) in
+    let line = IsUtf8-id _ (sound.route_of one.trip.0 h.servable.trip_in) in
+    (
+      refl, name (codes "Cancellation") refl, tt,
+      (refl, name (codes "EstimatedCalls") refl, (refl, name (codes "EstimatedCall") refl, calls, tt),
+      (refl, name (codes "FramedVehicleJourneyRef") refl, (
+        refl, name (codes "DataFrameRef") refl, IsUtf8-dashed_text one.day h.is_day,
+        (refl, name (codes "DatedVehicleJourneyRef") refl, trip, tt),
+      ),
+      (refl, name (codes "IsCompleteStopSequence") refl, tt,
+      (refl, name (codes "LineRef") refl, line,
+      (refl, name (codes "RecordedAtTime") refl, IsUtf8-moment_text recorded at, tt))))),
+    )
+
+pub recorded-moment : (recorded : Option ℤ) (moment : ℤ) → IfSome recorded IsMoment → IsMoment moment → IsMoment (unwrap_or recorded moment)
+recorded-moment None moment h at = at
+recorded-moment (Some secs) moment h at = h
+
+plain-journeys : (schedule : Schedule) (moment : ℤ) (journeys : List DatedReading) → IsSound schedule.table → IsMoment moment → All (IsSayable schedule) journeys
+    → ArePlain 4 (items_of (map (journey_tree schedule moment) journeys))
+plain-journeys schedule moment [] sound at all = tt
+plain-journeys schedule moment (one ∷ others) sound at all =
+    let h = All-head (IsSayable schedule) one others all in
+    let first = plain-journey schedule (unwrap_or one.recorded moment) one sound h (recorded-moment one.recorded moment h.is_recorded at) in
+    (
+      subst (λ found. IsPlain 4 (journey_on schedule moment one found)) (sym h.servable.on_day) first,
+      plain-journeys schedule moment others sound at (All-tail (IsSayable schedule) one others all),
+    )
+
+-- the tree of a delivery
+pub plain-delivery : (schedule : Schedule) (moment : ℤ) (journeys : List DatedReading) → IsSound schedule.table → IsMoment moment → All (IsSayable schedule) journeys
+    → IsPlain 12 (delivery_tree schedule moment journeys)
+plain-delivery schedule moment journeys sound at all =
+    let stamp = IsUtf8-moment_text moment at in
+    let frame : IsPlain 6 (frame_tree schedule moment journeys) = (refl, name (codes "EstimatedVehicleJourney") refl, plain-journeys schedule moment journeys sound at all, (refl, name (codes "RecordedAtTime") refl, stamp, tt)) in
+    let timetable : IsPlain 8 (timetable_tree schedule moment journeys) = (
+      refl, name (codes "EstimatedJourneyVersionFrame") refl, (frame, tt),
+      (refl, name (codes "ResponseTimestamp") refl, stamp, (refl, name (codes "version") refl, name (codes "2.0") refl, tt)),
+    ) in
+    let service : IsPlain 10 (service_tree schedule moment journeys) = (refl, name (codes "EstimatedTimetableDelivery") refl, (timetable, tt), (refl, name (codes "ResponseTimestamp") refl, stamp, tt)) in
+    (refl, name (codes "Siri") refl, (refl, name (codes "ServiceDelivery") refl, service, tt), tt)

@@ -1,0 +1,72 @@
+-- The run of a journey that a delivery says: its ids, its stops and its times.
+use Rattle.std.proofs.Common.{◌≡◌, ℕ, ◌+◌, ◌<◌, ◌≤◌, List, [], ◌∷◌, length, get_or, Bool, true, ◌&&◌, nat_lt, nat_le, IsUtf8, Option, Some, None, IfSome, option_map, arith, refl, sym, ap, ◌∙◌, subst, ℤ, pos, negsuc, ◌+ℤ◌, ◌-ℤ◌}
+use Rattle.std.specs.List.{list_all}
+use Rattle.std.proofs.lemmas.Bool.{and_parts, leb-true, ltb-true}
+use Rattle.std.proofs.lemmas.Bool.Decides.{nat_tests}
+use Rattle.std.proofs.lemmas.Int.{ints}
+use Rattle.service_day.specs.Starts.{IsDayStart}
+use Rattle.service_day.specs.Utc.{IsMoment}
+use Rattle.service_day.specs.Windows.{start_in}
+use Rattle.stop_schedule.specs.Ids.{are_ids, is_id}
+use Rattle.stop_schedule.specs.Planned.{planned}
+use Rattle.stop_schedule.specs.Sound.{IsSound}
+use Rattle.stop_schedule.specs.Stops.{are_known, are_rising, are_stops_of, are_timed, is_timed}
+use Rattle.stop_schedule.specs.declared.stop_times.StopRow.{StopRow}
+use Rattle.journey_model.specs.Readings.{is_near}
+use Rattle.journey_model.specs.Runs.{Run}
+use Rattle.journey_model.specs.Schedules.{Schedule, run_from, run_on}
+use Rattle.journey_model.specs.Times.{is_delay}
+use Rattle.journey_model.specs.declared.readings.DatedReading.{DatedReading}
+use Rattle.journey_model.specs.declared.readings.StopReading.{StopReading}
+use Rattle.journey_model.specs.declared.readings.StopReading.TheVariants.{Absent, Skipped, Timed}
+use Rattle.siri_calls.specs.Sayable.{IsSayable}
+
+-- the ids by which the stops of a run are numbered are ids, its stops are of them, and its day has a start
+pub record IsSoundRun (run : Run) : Type 0 where
+  pub ids : are_ids run.ids ≡ true
+  pub few : length run.stops ≤ 250
+  pub known : list_all (λ row. nat_lt row.stop.0 (length run.ids)) run.stops ≡ true
+  pub timed : list_all is_timed run.stops ≡ true
+  pub start : IsDayStart run.start
+
+-- a run on a day whose start is one
+started : (schedule : Schedule) (trip : ℕ) (found : Option ℤ) (run : Run) → IfSome found IsDayStart → option_map (run_from schedule.table trip) found ≡ Some run
+    → (start : ℤ) × IsDayStart start × (run_from schedule.table trip start ≡ run)
+started schedule trip None run h e = absurd (cc)
+started schedule trip (Some start) run h e = (start, h, cc)
+
+sound-run-from : (schedule : Schedule) (trip : ℕ) (start : ℤ) → IsSound schedule.table → trip < length schedule.table.trips → IsDayStart start
+    → IsSoundRun (run_from schedule.table trip start)
+sound-run-from schedule trip start sound in-table h =
+    let all = and_parts _ _ (sound.stops_of trip in-table) in
+    let more = and_parts _ _ all.1 in
+    let last = and_parts _ _ more.1 in
+    record { ids = sound.stops; few = leb-true _ _ all.0; known = last.0; timed = last.1; start = h }
+
+-- the run of a reading that can be said is sound
+pub sound-run : (schedule : Schedule) (one : DatedReading) → IsSound schedule.table → (h : IsSayable schedule one) → IsSoundRun h.servable.run
+sound-run schedule one sound h =
+    let found = started schedule one.trip.0 (start_in schedule.window one.day) h.servable.run h.is_start h.servable.on_day in
+    subst IsSoundRun found.2 (sound-run-from schedule one.trip.0 found.0 sound h.servable.trip_in found.1)
+
+-- ---- the planned times of a stop, and the times of its reading, are moments
+
+pub planned-moments : (start : ℤ) (row : StopRow) → IsDayStart start → is_timed row ≡ true → IsMoment (planned start row).0 × IsMoment (planned start row).1
+planned-moments start row h timed =
+    let both = and_parts (nat_le row.arrival 359999) (nat_le row.departure 359999) timed in
+    let arrival : row.arrival ≤ 359999 = leb-true _ _ both.0 in
+    let departure : row.departure ≤ 359999 = leb-true _ _ both.1 in
+    (omega (arith, ints, h.0, h.1, arrival), omega (arith, ints, h.0, h.1, departure))
+
+near-moment : (plan time : ℤ) (start : ℤ) (second : ℕ) → plan ≡ start +ℤ pos second → second ≤ 359999 → IsDayStart start → is_delay (time -ℤ plan) ≡ true → IsMoment time
+near-moment plan time start second is few h near = grind (arith, ints)
+
+pub read-moments : (start : ℤ) (row : StopRow) (arrival departure : ℤ) → IsDayStart start → is_timed row ≡ true → is_near (planned start row) (Timed arrival departure) ≡ true
+    → IsMoment arrival × IsMoment departure
+read-moments start row arrival departure h timed near =
+    let both = and_parts (nat_le row.arrival 359999) (nat_le row.departure 359999) timed in
+    let nears = and_parts (is_delay (arrival -ℤ (planned start row).0)) (is_delay (departure -ℤ (planned start row).1)) near in
+    (
+      near-moment (planned start row).0 arrival start row.arrival refl (leb-true _ _ both.0) h nears.0,
+      near-moment (planned start row).1 departure start row.departure refl (leb-true _ _ both.1) h nears.1,
+    )
