@@ -37,20 +37,20 @@ calls run (row ∷ rows) (reading ∷ readings) later order =
 -- the pieces of a journey, as its objects nest and in a row
 journey_pieces : (opening all close day_lead day trip_lead trip route_lead route recorded_lead recorded : List ℕ)
     → opening ++ ((all ++ close) ++ ((day_lead ++ (day ++ (trip_lead ++ (trip ++ close)))) ++ (route_lead ++ (route ++ (recorded_lead ++ (recorded ++ close))))))
-      ≡ opening ++ all ++ ((close ++ day_lead) ++ day ++ (trip_lead ++ trip)) ++ ((close ++ route_lead) ++ route ++ (recorded_lead ++ recorded) ++ close)
+    ≡ opening ++ all ++ ((close ++ day_lead) ++ day ++ (trip_lead ++ trip)) ++ ((close ++ route_lead) ++ route ++ (recorded_lead ++ recorded) ++ close)
 journey_pieces opening all close day_lead day trip_lead trip route_lead route recorded_lead recorded = simp append_assoc
 
 -- a journey, by the text of its calls
 journey_by : (cancelled : Bool) (trees : Items) (day : ℤ) (trip_id route_id : List ℕ) (recorded : ℤ) (all : List ℕ) → items_text false trees ≡ all
     → compact_text (object_of (
-        (codes "Cancellation", boolean cancelled)
-        ∷ (codes "EstimatedCalls", object_of ((codes "EstimatedCall", array trees) ∷ []))
-        ∷ (codes "FramedVehicleJourneyRef", framed_ref day trip_id)
-        ∷ (codes "IsCompleteStopSequence", boolean true)
-        ∷ (codes "LineRef", string route_id)
-        ∷ (codes "RecordedAtTime", moment_tree recorded)
-        ∷ []))
-      ≡ opening_text cancelled ++ all ++ frame_ref_text day trip_id ++ closing_text route_id recorded
+    (codes "Cancellation", boolean cancelled)
+    ∷ (codes "EstimatedCalls", object_of ((codes "EstimatedCall", array trees) ∷ []))
+    ∷ (codes "FramedVehicleJourneyRef", framed_ref day trip_id)
+    ∷ (codes "IsCompleteStopSequence", boolean true)
+    ∷ (codes "LineRef", string route_id)
+    ∷ (codes "RecordedAtTime", moment_tree recorded)
+    ∷ []))
+    ≡ opening_text cancelled ++ all ++ frame_ref_text day trip_id ++ closing_text route_id recorded
 unfolding escape_byte led
 journey_by true trees day trip_id route_id recorded all same =
     rw same (journey_pieces (opening_text true) all (codes "}") (codes ",\"FramedVehicleJourneyRef\":{\"DataFrameRef\":") (quoted (dashed_text day))
@@ -83,8 +83,8 @@ journeys schedule moment (one ∷ others) later =
 -- the pieces of a delivery, as its objects nest and in a row
 delivery_pieces : (siri service delivery bracket frame first all recorded moment close end responded version : List ℕ)
     → siri ++ ((service ++ ((delivery ++ ((bracket ++ ((frame ++ ((bracket ++ ((first ++ (all ++ (recorded ++ (moment ++ close)))) ++ end)) ++ (responded ++ (moment ++ version)))) ++ end)) ++ (responded ++ (moment ++ close)))) ++ close)) ++ close)
-      ≡ (siri ++ service ++ delivery ++ bracket ++ frame ++ bracket ++ first) ++ all
-        ++ ((recorded ++ moment) ++ ((close ++ end ++ responded) ++ moment) ++ ((version ++ end ++ responded) ++ moment) ++ (close ++ close ++ close))
+    ≡ (siri ++ service ++ delivery ++ bracket ++ frame ++ bracket ++ first) ++ all
+    ++ ((recorded ++ moment) ++ ((close ++ end ++ responded) ++ moment) ++ ((version ++ end ++ responded) ++ moment) ++ (close ++ close ++ close))
 delivery_pieces siri service delivery bracket frame first all recorded moment close end responded version = simp append_assoc
 
 -- the text of a delivery is its head, its journeys and its tail
@@ -115,14 +115,14 @@ one_more whole out out' comma one left left' is added h = rw added (sym (regroup
 pub calls_on : (run : Run) (place : ℕ) (row : StopRow) (reading : StopReading) (all : List StopReading) (later : Bool) (order : ℕ)
     → slice_get run.stops place ≡ Some row → slice_get all place ≡ Some reading
     → calls_text later run order (drop place run.stops) (drop place all)
-      ≡ comma_if later ++ call_text run order row reading ++ calls_text true run (order + 1) (drop (place + 1) run.stops) (drop (place + 1) all)
+    ≡ comma_if later ++ call_text run order row reading ++ calls_text true run (order + 1) (drop (place + 1) run.stops) (drop (place + 1) all)
 calls_on run place row reading all later order row-at reading-at =
     rw (dropped run.stops place row row-at, dropped all place reading reading-at) refl
 
 -- the journey at a place and those behind it
 pub journeys_on : (schedule : Schedule) (moment : ℤ) (all : List DatedReading) (later : Bool) (place : ℕ) (one : DatedReading) → slice_get all place ≡ Some one
     → journeys_text later schedule moment (drop place all)
-      ≡ comma_if later ++ journey_text_on schedule moment one (run_on schedule one.trip.0 one.day) ++ journeys_text true schedule moment (drop (place + 1) all)
+    ≡ comma_if later ++ journey_text_on schedule moment one (run_on schedule one.trip.0 one.day) ++ journeys_text true schedule moment (drop (place + 1) all)
 journeys_on schedule moment all later place one here = rw (dropped all place one here) refl
 
 -- ---- pieces written one after the other

@@ -16,7 +16,9 @@ use std::alloc::{AllocError, Global};
 fn put_head(out: &mut Bytes) -> Result<(), AllocError>
     ensures { OnOk result (out.new ≡ out.old ++ head_text) }
 {
-    out.extend(b"{\"Siri\":{\"ServiceDelivery\":{\"EstimatedTimetableDelivery\":[{\"EstimatedJourneyVersionFrame\":[{\"EstimatedVehicleJourney\":[")
+    out.extend(
+        b"{\"Siri\":{\"ServiceDelivery\":{\"EstimatedTimetableDelivery\":[{\"EstimatedJourneyVersionFrame\":[{\"EstimatedVehicleJourney\":[",
+    )
 }
 
 // Adds the moment of the frame and of both deliveries, in seconds since 1970, behind the journeys.

@@ -120,7 +120,13 @@ pub(crate) fn put_calls(
     for place in 0..run.dated.stops.len() {
         let reading = reading_at(run, reading, place);
         put_comma(out, place > 0)?;
-        put_call(out, run, place as u64 + 1, &run.dated.stops[place], &reading)?;
+        put_call(
+            out,
+            run,
+            place as u64 + 1,
+            &run.dated.stops[place],
+            &reading,
+        )?;
     }
     out.push(b']')
 }

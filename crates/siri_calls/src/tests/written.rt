@@ -19,7 +19,10 @@ use stop_schedule::{TableFault, Timetable, read_timetable};
 // T1 over A, B and C; and a trip whose ids, of its route and of a stop too, want escapes.
 static FOLDER: [(&str, &[u8]); 6] = [
     ("g/agency.txt", b"agency_timezone\nEurope/Paris\n"),
-    ("g/stops.txt", b"stop_id\nA\nB\nC\n\"a\"\"\\\t\x01\x1f\xc3\xa9\"\n"),
+    (
+        "g/stops.txt",
+        b"stop_id\nA\nB\nC\n\"a\"\"\\\t\x01\x1f\xc3\xa9\"\n",
+    ),
     ("g/routes.txt", b"route_id\nR1\nr\\\n"),
     (
         "g/trips.txt",
@@ -153,7 +156,9 @@ fn assert_written(
 ) {
     let body = between(alloc, READ, case.0).expect(rt, "memory");
     let body = quoted(alloc, body.as_str()).expect(rt, "memory");
-    let moment = read_utc(case.1).and_then(Moment::new).expect(rt, "a moment");
+    let moment = read_utc(case.1)
+        .and_then(Moment::new)
+        .expect(rt, "a moment");
     let text = written_again(alloc, context, body.as_str(), moment).expect(rt, "a text");
     let wanted = quoted(alloc, case.2).expect(rt, "memory");
     assert_eq!(rt; text.as_slice(), wanted.as_str().as_bytes());

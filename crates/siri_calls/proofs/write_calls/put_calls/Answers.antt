@@ -33,6 +33,6 @@ loop-place-preserved c =
     let within : place < length stops = omega arith in
     let later : nat_lt 0 (place + 1) ≡ true = grind (arith, nat_tests) in
     let is = calls_on run place row c.reading_at-reading.result (stop_readings run c.args.reading.now) (nat_lt 0 place) (place + 1)
-             (slice_get-get_or stops place no_row within) c.reading_at-reading.ensures in
+    (slice_get-get_or stops place no_row within) c.reading_at-reading.ensures in
     let added = c.in_ok-put_call.ensures ∙ ap (λ l. l ++ call_text run (place + 1) row c.reading_at-reading.result) c.in_ok-put_comma.ensures in
     rw later (one_more _ c.loop-place.out c.put_call.new.out _ _ _ _ is added c.loop-place.invariant)
