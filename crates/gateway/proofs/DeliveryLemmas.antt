@@ -1,16 +1,16 @@
 -- What the words left say is what all words say.
 use Rattle.std.proofs.Common.{◌≡◌, ◌<◌, ◌++◌, ◌∷◌, [], ℕ, List, length, Result, Ok, Err, Option, Some, None, IfSome, inl, inr, refl, arith}
 use Rattle.std.specs.List.{AllByRecursion}
-use Rattle.gateway.specs.Deliveries.{schedule_in}
-use Rattle.gateway.specs.Served.{CanServeAll}
+use Rattle.gateway_core.specs.Deliveries.{schedule_in}
+use Rattle.gateway_core.specs.Deliveries.{CanServeAll}
 use Rattle.gw_base.specs.Answers.{UnlessFree}
 use Rattle.gw_base.proofs.AnswerLemmas.{unless_free}
 use Rattle.siri_calls.specs.declared.delivery.Delivery.{Delivery}
 use Rattle.gateway.specs.Exits.{is_free}
 use Rattle.gateway.specs.Work.{Deliveries, Directory, FileDelivery}
-use Rattle.gateway.specs.declared.deliveries.Named.{Named}
+use Rattle.gateway_core.specs.declared.named.Named.{Named}
 use Rattle.gateway.specs.declared.exit.Exit.{Exit}
-use Rattle.gateway.specs.declared.setting.Setting.{Setting}
+use Rattle.gateway_core.specs.declared.setting.Setting.{Setting}
 
 -- an end of the next file is the end of all
 pub ends_with : (told : Option Directory) (setting : Setting) (words rest behind : List (List ℕ)) (flag name : List ℕ) (so_far : List Named) (end : Exit)

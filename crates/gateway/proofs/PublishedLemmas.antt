@@ -1,26 +1,32 @@
 -- What is published where the work was done.
-use Rattle.std.proofs.Common.{◌≡◌, ℕ, Bool, true, false, List, length, Result, Ok, Err, Option, Some, None, IfSome, codes, ◌++◌, sym, ap, subst, if◌then◌else◌}
+use Rattle.std.proofs.Common.{◌≡◌, ◌≢◌, ℕ, ℤ, pos, Bool, true, false, List, length, Result, Ok, Err, Option, Some, None, IfSome, codes, ◌++◌, sym, ap, subst, ◌∙◌,  refl, if◌then◌else◌}
 use Rattle.std.specs.List.{flat_map}
+use Rattle.std.specs.Ordering.{int_eq}
 use Rattle.std.specs.Prelude.{nat_le}
+use Rattle.std.proofs.lemmas.Bool.{true≢false}
+use Rattle.std.proofs.lemmas.Bool.Decides.{Decides-int_eq}
+use Rattle.std.proofs.lemmas.Bool.{both_ways}
 use Rattle.gw_base.specs.Directory.{bytes_of}
 use Rattle.gw_base.specs.Told.{with_bytes}
+use Rattle.gw_base.specs.declared.messages.Feed.{Feed}
 use Rattle.service_day.specs.Windows.{IsWindow}
 use Rattle.service_day.specs.declared.zones.Rules.{Rules}
 use Rattle.stop_schedule.specs.Seen.{seen}
 use Rattle.stop_schedule.specs.Table.{Table}
 use Rattle.stop_schedule.specs.Timetable.{timetable}
 use Rattle.stop_schedule.specs.declared.table_fault.TableFault.{TableFault}
+use Rattle.feed_messages.specs.Tables.{MeansFeed}
 use Rattle.latest_store.specs.Entities.{messages}
-use Rattle.gateway.specs.Deliveries.{all_taken, schedule_in}
-use Rattle.gateway.specs.Published.{IsZone, Publishes}
-use Rattle.gateway.specs.Windowed.{HasWindow}
-use Rattle.gateway.specs.Words.{NamedZone, by_rule, by_file, ToGtfsrt, IsToGtfsrt}
-use Rattle.gateway.specs.Work.{Directory, SettingOf, ToGtfsrtWork, Zone, folder, further, zone_limit}
+use Rattle.gateway_core.specs.Deliveries.{all_taken, schedule_in}
+use Rattle.gateway.specs.Bodies.{differential_end}
+use Rattle.gateway.specs.Published.{IsFullFeed, IsSetting, IsZone, Publishes, PublishesFeed, PublishesLines, PublishesOf, PublishesSiri}
+use Rattle.gateway.specs.Words.{IsJob, Job, NamedZone, Scope, Show, ToGtfsrt, ToSiri, by_rule, by_file, gtfsrt_job, show_job, siri_job}
+use Rattle.gateway.specs.Work.{Directory, FileFeed, JobWork, SettingOf, ShowWork, ToGtfsrtWork, ToSiriWork, Zone, body_limit, folder, full, further, zone_limit}
 use Rattle.gateway.specs.declared.exit.Exit.{Exit}
 use Rattle.gateway.specs.declared.exit.Exit.TheVariants.{Refused}
-use Rattle.gateway.specs.declared.setting.Setting.{Setting}
+use Rattle.gateway_core.specs.declared.setting.Setting.{Setting}
 use Rattle.gateway.specs.declared.work.Done.{Done}
-use Rattle.gateway.proofs.GivesLemmas.{gives}
+use Rattle.gateway_core.proofs.GivesLemmas.{gives}
 
 -- what a step found, by its answer
 
@@ -43,42 +49,49 @@ found_zone : (named : NamedZone) (files : Directory) (zone : Rules) → Zone nam
 found_zone (by_rule text) files zone is = is
 found_zone (by_file path) files zone (bytes, read, is) = (bytes, found_body zone_limit path (bytes_of files path) bytes read, is)
 
--- the folder's timetable, the zone and the window of a setting
-record IsSetting (command : ToGtfsrt) (files : Directory) (setting : Setting) : Type 0 where
-  folder : timetable files command.gtfs ≡ Ok (seen setting.table)
-  zone : Rules
-  zone_is : IsZone command.zone files zone
-  window : IsWindow zone command.from command.days setting.window
-
-is_setting : (command : ToGtfsrt) (files : Directory) (setting : Setting) → SettingOf command.gtfs command.zone command.from command.days files (Ok setting) → IsSetting command files setting
-is_setting command files setting (table, folder_is, (zone, zone_is, (window, window_is, made))) =
+is_setting : (over : Scope) (files : Directory) (setting : Setting) → SettingOf over files (Ok setting) → IsSetting over files setting
+is_setting over files setting (table, folder_is, (zone, zone_is, (window, window_is, made))) =
     let same : setting ≡ record { table = table; zone = zone; window = window } = cc in
     record {
-      folder = subst (λ (s : Setting). timetable files command.gtfs ≡ Ok (seen s.table)) (sym same) (found_table command.gtfs (timetable files command.gtfs) (seen table) folder_is);
+      folder = subst (λ (s : Setting). timetable files over.gtfs ≡ Ok (seen s.table)) (sym same) (found_table over.gtfs (timetable files over.gtfs) (seen table) folder_is);
       zone = zone;
-      zone_is = found_zone command.zone files zone zone_is;
-      window = subst (λ (s : Setting). IsWindow zone command.from command.days s.window) (sym same) window_is;
+      zone_is = found_zone over.zone files zone zone_is;
+      window = subst (λ (s : Setting). IsWindow zone over.from over.days s.window) (sym same) window_is;
+    }
+
+-- a feed that was read of a file is a full dataset
+found_full : (name : List ℕ) (read feed : Feed) → Ok feed ≡ full name read → (feed ≡ read) × (read.incrementality ≢ pos 1)
+found_full name read feed e = by (int_eq read.incrementality (pos 1)) refl e
+  where
+    by : (b : Bool) → int_eq read.incrementality (pos 1) ≡ b → ◌≡◌ {A = Result Feed Exit} (Ok feed) (if b then Err (differential_end name) else Ok read)
+        → (feed ≡ read) × (read.incrementality ≢ pos 1)
+    by true e h = absurd cc
+    by false e h = (cc, λ same. false_test e same)
+      where
+        false_test : int_eq read.incrementality (pos 1) ≡ false → read.incrementality ≡ pos 1 → ⊥
+        false_test e same = true≢false (sym ((Decides-int_eq read.incrementality (pos 1)).1 same) ∙ e)
+
+is_full_feed : (name : List ℕ) (files : Directory) (feed : Feed) → FileFeed name files (Ok feed) → IsFullFeed name files feed
+is_full_feed name files feed (body, held, (read, means, full_is)) =
+    let same = found_full name read feed full_is in
+    record {
+      body = body;
+      held = found_body body_limit name (bytes_of files name) body held;
+      means = subst (λ f. MeansFeed body f) (sym same.0) means.0;
+      full = subst (λ (f : Feed). f.incrementality ≢ pos 1) (sym same.0) same.1;
     }
 
 -- the feed of the deliveries that were read gives just the readings of the latest records
-of_work : (words : List (List ℕ)) (files : Directory) (command : ToGtfsrt) (done : Done) (before now : Option (List ℕ)) → IsToGtfsrt words command
-    → ToGtfsrtWork command files (Ok done) → now ≡ with_bytes before done.out → Publishes words files before now
-of_work words files command done before now accepted (setting, setting_is, (deliveries, read, converted)) written =
-    let over = is_setting command files setting setting_is in
+feed_published : (files : Directory) (command : ToGtfsrt) (done : Done) (before now : Option (List ℕ))
+    → ToGtfsrtWork command files (Ok done) → now ≡ with_bytes before done.out → PublishesFeed command files before now
+feed_published files command done before now (setting, setting_is, (deliveries, read, converted)) written =
     let schedule = schedule_in setting in
     let rebuilt = converted.0 in
     record {
-      command = command;
       setting = setting;
+      over = is_setting command.over files setting setting_is;
       deliveries = deliveries;
-      read = record {
-        accepted = accepted;
-        folder = over.folder;
-        zone = over.zone;
-        zone_is = over.zone_is;
-        window = over.window;
-        read = read;
-      };
+      read = read;
       bytes = done.out;
       written = written;
       rebuilt = rebuilt;
@@ -87,9 +100,45 @@ of_work words files command done before now accepted (setting, setting_is, (deli
       gives = λ trip within day. gives command.at schedule (all_taken deliveries) done.out rebuilt trip day;
     }
 
+-- the delivery of the feed that was read says what it says
+siri_published : (files : Directory) (command : ToSiri) (done : Done) (before now : Option (List ℕ))
+    → ToSiriWork command files (Ok done) → now ≡ with_bytes before done.out → PublishesSiri command files before now
+siri_published files command done before now (setting, setting_is, (feed, read, (report, says, reported))) written =
+    record {
+      setting = setting;
+      over = is_setting command.over files setting setting_is;
+      feed = feed;
+      read = is_full_feed command.feed files feed read;
+      text = done.out;
+      written = written;
+      report = report;
+      says = says;
+    }
+
+-- and so do its lines
+lines_published : (files : Directory) (command : Show) (done : Done) (before now : Option (List ℕ))
+    → ShowWork command files (Ok done) → now ≡ with_bytes before done.out → PublishesLines command files before now
+lines_published files command done before now (setting, setting_is, (feed, read, (reading, is_reading, lines, none))) written =
+    record {
+      setting = setting;
+      over = is_setting command.over files setting setting_is;
+      feed = feed;
+      read = is_full_feed command.feed files feed read;
+      reading = reading;
+      is_reading = is_reading;
+      written = written ∙ ap (with_bytes before) lines;
+    }
+
+of_job : (files : Directory) (job : Job) (done : Done) (before now : Option (List ℕ)) → JobWork job files (Ok done) → now ≡ with_bytes before done.out
+    → PublishesOf job files before now
+of_job files (gtfsrt_job command) done before now work written = feed_published files command done before now work written
+of_job files (siri_job command) done before now work written = siri_published files command done before now work written
+of_job files (show_job command) done before now work written = lines_published files command done before now work written
+
 -- what is done publishes
-pub publishes : (words : List (List ℕ)) (files : Option Directory) (command : ToGtfsrt) (done : Done) (before now : Option (List ℕ)) → IsToGtfsrt words command
-    → HasWindow command.from command.days → IfSome files (λ told. ToGtfsrtWork command told (Ok done)) → now ≡ with_bytes before done.out
+pub publishes : (words : List (List ℕ)) (files : Option Directory) (job : Job) (done : Done) (before now : Option (List ℕ)) → IsJob words job
+    → IfSome files (λ told. JobWork job told (Ok done)) → now ≡ with_bytes before done.out
     → IfSome files (λ told. Publishes words told before now)
-publishes words None command done before now accepted has work written = tt
-publishes words (Some told) command done before now accepted has work written = of_work words told command done before now accepted work written
+publishes words None job done before now accepted work written = tt
+publishes words (Some told) job done before now accepted work written =
+    record { job = job; accepted = accepted; published = of_job told job done before now work written }

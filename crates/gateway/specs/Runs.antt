@@ -5,8 +5,8 @@ use Rattle.gw_base.specs.Changes.{Change}
 use Rattle.gw_base.specs.Count.{Rose}
 use Rattle.gw_base.specs.Told.{with_bytes, PutsUnless}
 use Rattle.gateway.specs.Exits.{is_free, status_of, text_of}
-use Rattle.gateway.specs.Work.{Directory, ToGtfsrtWork}
-use Rattle.gateway.specs.Words.{ToGtfsrt, IsToGtfsrt, IsRefusedAt}
+use Rattle.gateway.specs.Work.{Directory, JobWork}
+use Rattle.gateway.specs.Words.{IsJob, IsRefusedAt, Job}
 use Rattle.gateway.specs.declared.exit.Exit.{Exit}
 use Rattle.gateway.specs.declared.exit.Exit.TheVariants.{Failed}
 use Rattle.gateway.specs.declared.work.Done.{Done}
@@ -69,10 +69,10 @@ pub record IsTurnedAway (words : List (List ℕ)) (ended : ℕ) (outside : Outsi
 -- a run of a command's words: it ends as its work comes out over the files that are told, and early by a failed device
 -- only where the files failed, or for want of memory
 pub record IsCarriedOut (words : List (List ℕ)) (ended : ℕ) (outside : Outside) : Type 0 where
-  pub command : ToGtfsrt
-  pub accepted : IsToGtfsrt words command
+  pub job : Job
+  pub accepted : IsJob words job
   pub answer : Result Done Exit
-  pub work : IfSome outside.files.before (λ files. UnlessFree is_free answer (ToGtfsrtWork command files))
+  pub work : IfSome outside.files.before (λ files. UnlessFree is_free answer (JobWork job files))
   pub cause : answer ≡ Err Failed → HasFailed outside.files
   pub ends : Ends answer ended outside
 

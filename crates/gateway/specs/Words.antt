@@ -2,24 +2,51 @@
 use Rattle.std.specs.Prelude.{◌≡◌, ℕ, ℤ, List, [], ◌∷◌, drop, codes, Some, option_and_then, slice_get, nat_eq, if◌then◌else◌}
 use Rattle.std.specs.Cmp.Lexicographic.{pointwise}
 use Rattle.gateway.specs.Forms.{is_filled, is_day, is_day_count, is_moment, beginning, day_count}
-use Rattle.gateway.specs.Tables.{Command, IsAccepted, StopsAt}
+use Rattle.gateway.specs.Tables.{Command, Pair, IsAccepted, StopsAt}
 use Rattle.service_day.specs.Utc.{utc_of}
+
+-- the pairs that each command begins with: what it works over
+abbrev pub over_a_folder : List Pair → List Pair
+over_a_folder further =
+    record { flags = codes "--gtfs" ∷ []; form = is_filled }
+    ∷ record { flags = codes "--zone-rule" ∷ codes "--zone-file" ∷ []; form = is_filled }
+    ∷ record { flags = codes "--from" ∷ []; form = is_day }
+    ∷ record { flags = codes "--days" ∷ []; form = is_day_count }
+    ∷ further
+
+abbrev pub at_pair : Pair
+at_pair = record { flags = codes "--at" ∷ []; form = is_moment }
+
+abbrev pub feed_pair : Pair
+feed_pair = record { flags = codes "--feed" ∷ []; form = is_filled }
+
+-- no further pair: it has no flag
+abbrev pub no_pair : Pair
+no_pair = record { flags = []; form = is_filled }
 
 unfoldable pub to_gtfsrt : Command
 to_gtfsrt = record {
   name = codes "to-gtfsrt";
-  pairs =
-      record { flags = codes "--gtfs" ∷ []; form = is_filled }
-      ∷ record { flags = codes "--zone-rule" ∷ codes "--zone-file" ∷ []; form = is_filled }
-      ∷ record { flags = codes "--from" ∷ []; form = is_day }
-      ∷ record { flags = codes "--days" ∷ []; form = is_day_count }
-      ∷ record { flags = codes "--at" ∷ []; form = is_moment }
-      ∷ [];
+  pairs = over_a_folder (at_pair ∷ []);
   repeated = record { flags = codes "--et" ∷ []; form = is_filled };
 }
 
+unfoldable pub to_siri : Command
+to_siri = record {
+  name = codes "to-siri";
+  pairs = over_a_folder (at_pair ∷ feed_pair ∷ []);
+  repeated = no_pair;
+}
+
+unfoldable pub show : Command
+show = record {
+  name = codes "show";
+  pairs = over_a_folder (feed_pair ∷ []);
+  repeated = no_pair;
+}
+
 unfoldable pub commands : List Command
-commands = to_gtfsrt ∷ []
+commands = to_gtfsrt ∷ to_siri ∷ show ∷ []
 
 -- a zone by a POSIX rule, or by a TZif file of that path
 pub data NamedZone : Type 0 where
@@ -30,27 +57,75 @@ pub data NamedZone : Type 0 where
 abbrev pub zone_by : List ℕ → List ℕ → NamedZone
 zone_by flag value = if pointwise nat_eq flag (codes "--zone-file") then by_file value else by_rule value
 
--- what the words of `to-gtfsrt` say: the folder, the zone, the first day and the number of days of the window, the second
--- since 1970 at which the feed is made, and the words of the deliveries, for each a flag and a file
-pub record ToGtfsrt : Type 0 where
+-- what a command works over: the folder, the zone, and the first day and the number of days of the window
+pub record Scope : Type 0 where
   pub gtfs : List ℕ
   pub zone : NamedZone
   pub from : ℤ
   pub days : ℕ
+
+-- what the words of `to-gtfsrt` say: what it works over, the second since 1970 at which the feed is made, and the words of the
+-- deliveries, for each a flag and a file
+pub record ToGtfsrt : Type 0 where
+  pub over : Scope
   pub at : ℤ
   pub more : List (List ℕ)
 
--- the list of words is accepted, as the command `to-gtfsrt` that says this: the value of the pair of number n, from 0 on,
--- is the word of number 2n + 2
-pub record IsToGtfsrt (words : List (List ℕ)) (command : ToGtfsrt) : Type 0 where
-  pub accepted : IsAccepted commands words
+-- what the words of `to-siri` say: what it works over, the second at which the delivery is made, and the feed's file
+pub record ToSiri : Type 0 where
+  pub over : Scope
+  pub at : ℤ
+  pub feed : List ℕ
+
+-- what the words of `show` say: what it works over, and the feed's file
+pub record Show : Type 0 where
+  pub over : Scope
+  pub feed : List ℕ
+
+-- a command with what its words say
+pub data Job : Type 0 where
+  gtfsrt_job : ToGtfsrt → Job
+  siri_job : ToSiri → Job
+  show_job : Show → Job
+
+abbrev pub scope_in : Job → Scope
+scope_in (gtfsrt_job command) = command.over
+scope_in (siri_job command) = command.over
+scope_in (show_job command) = command.over
+
+-- the words say this: the value of the pair of number n, from 0 on, is the word of number 2n + 2
+pub record SaysScope (words : List (List ℕ)) (scope : Scope) : Type 0 where
+  pub gtfs : slice_get words 2 ≡ Some scope.gtfs
+  pub zone : (flag value : List ℕ) × (slice_get words 3 ≡ Some flag) × (slice_get words 4 ≡ Some value) × (scope.zone ≡ zone_by flag value)
+  pub from : option_and_then beginning (slice_get words 6) ≡ Some scope.from
+  pub days : option_and_then day_count (slice_get words 8) ≡ Some scope.days
+
+pub record SaysToGtfsrt (words : List (List ℕ)) (command : ToGtfsrt) : Type 0 where
   pub name : slice_get words 0 ≡ Some (codes "to-gtfsrt")
-  pub gtfs : slice_get words 2 ≡ Some command.gtfs
-  pub zone : (flag value : List ℕ) × (slice_get words 3 ≡ Some flag) × (slice_get words 4 ≡ Some value) × (command.zone ≡ zone_by flag value)
-  pub from : option_and_then beginning (slice_get words 6) ≡ Some command.from
-  pub days : option_and_then day_count (slice_get words 8) ≡ Some command.days
+  pub over : SaysScope words command.over
   pub at : option_and_then utc_of (slice_get words 10) ≡ Some command.at
   pub more : drop 11 words ≡ command.more
+
+pub record SaysToSiri (words : List (List ℕ)) (command : ToSiri) : Type 0 where
+  pub name : slice_get words 0 ≡ Some (codes "to-siri")
+  pub over : SaysScope words command.over
+  pub at : option_and_then utc_of (slice_get words 10) ≡ Some command.at
+  pub feed : slice_get words 12 ≡ Some command.feed
+
+pub record SaysShow (words : List (List ℕ)) (command : Show) : Type 0 where
+  pub name : slice_get words 0 ≡ Some (codes "show")
+  pub over : SaysScope words command.over
+  pub feed : slice_get words 10 ≡ Some command.feed
+
+abbrev pub Says : List (List ℕ) → Job → Type 0
+Says words (gtfsrt_job command) = SaysToGtfsrt words command
+Says words (siri_job command) = SaysToSiri words command
+Says words (show_job command) = SaysShow words command
+
+-- the list of words is accepted, as the command that says this
+pub record IsJob (words : List (List ℕ)) (job : Job) : Type 0 where
+  pub accepted : IsAccepted commands words
+  pub says : Says words job
 
 -- the list isn't accepted, and its longest front that an accepted list starts with has that many words
 pub record IsRefusedAt (words : List (List ℕ)) (at : ℕ) : Type 0 where

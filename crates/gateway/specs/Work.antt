@@ -1,8 +1,18 @@
 -- The order of work of the commands: the timetable, the zone, the window, each further file and its content. Each step finds
 -- something or ends the work, and the first end counts.
-use Rattle.std.specs.Prelude.{◌≡◌, ℕ, ℤ, List, [], ◌∷◌, ◌++◌, codes, length, nat_le, if◌then◌else◌, Option, Some, None, Result, Ok, Err}
+use Rattle.std.specs.Prelude.{◌≡◌, ℕ, ℤ, pos, List, [], ◌∷◌, ◌++◌, codes, length, nat_le, if◌then◌else◌, Option, Some, None, Result, Ok, Err}
+use Rattle.std.specs.Ordering.{int_eq}
 use Rattle.gw_base.specs.Directory.{bytes_of}
 use Rattle.gw_base.specs.Steps.{◌>>=◌}
+use Rattle.gw_base.specs.declared.messages.Feed.{Feed}
+use Rattle.feed_messages.specs.Faults.{HasFault, IsTold}
+use Rattle.feed_messages.specs.Tables.{MeansFeed}
+use Rattle.feed_messages.specs.declared.fault.FeedFault.{FeedFault}
+use Rattle.journey_model.specs.declared.report.Report.{Report}
+use Rattle.propagation.specs.Feeds.{IsReading}
+use Rattle.propagation.specs.declared.feeds.FeedReading.{FeedReading}
+use Rattle.show_command.specs.Lines.{shown as shown_lines}
+use Rattle.reverse_calls.specs.Siri.{HasTooMany, IsSiri}
 use Rattle.service_day.specs.Windows.{DayStarts, IsWindow}
 use Rattle.service_day.specs.Zones.{IsRuleZone, IsBadRule, IsTableZone, IsBadTable}
 use Rattle.service_day.specs.declared.zones.Rules.{Rules}
@@ -13,17 +23,19 @@ use Rattle.stop_schedule.specs.declared.table_fault.TableFault.{TableFault}
 use Rattle.stop_schedule.specs.declared.timetable.Timetable.{Timetable}
 use Rattle.gateway.specs.Exits.{missing}
 use Rattle.gateway.specs.FolderTexts.{folder_end}
-use Rattle.gateway.specs.Feeds.{IsFeed}
+use Rattle.gateway_core.specs.Feeds.{IsRebuilt}
 use Rattle.siri_calls.specs.Deliveries.{ReadsBody}
 use Rattle.siri_calls.specs.declared.delivery.Delivery.{Delivery}
 use Rattle.siri_calls.specs.declared.delivery.DeliveryFault.{DeliveryFault}
-use Rattle.gateway.specs.Deliveries.{all_reports, all_taken, body_end, schedule_in}
-use Rattle.gateway.specs.Words.{ToGtfsrt, NamedZone, by_rule, by_file}
-use Rattle.gateway.specs.declared.deliveries.Named.{Named}
+use Rattle.gateway_core.specs.Deliveries.{all_reports, all_taken, schedule_in}
+use Rattle.gateway_core.specs.Reports.{feed_report}
+use Rattle.gateway.specs.Bodies.{body_end, differential_end, feed_end, many_calls_end}
+use Rattle.gateway.specs.Words.{Job, NamedZone, Scope, Show, ToGtfsrt, ToSiri, by_rule, by_file, gtfsrt_job, siri_job, show_job}
+use Rattle.gateway_core.specs.declared.named.Named.{Named}
 use Rattle.gateway.specs.declared.exit.Exit.{Exit}
 use Rattle.gateway.specs.declared.exit.Exit.TheVariants.{Refused}
 use Rattle.gateway.specs.declared.work.Done.{Done}
-use Rattle.gateway.specs.declared.setting.Setting.{Setting}
+use Rattle.gateway_core.specs.declared.setting.Setting.{Setting}
 
 -- files by name, of which the first with a name counts
 abbrev pub Directory : Type 0
@@ -91,10 +103,10 @@ Over table named first days files = do
   Found (record { table = table; zone = zone; window = window })
 
 -- what a command works over
-abbrev pub SettingOf : List ℕ → NamedZone → ℤ → ℕ → Directory → Result Setting Exit → Type 0
-SettingOf dir named first days files = do
-  table ← Folder dir files
-  Over table named first days files
+abbrev pub SettingOf : Scope → Directory → Result Setting Exit → Type 0
+SettingOf over files = do
+  table ← Folder over.gtfs files
+  Over table over.zone over.from over.days files
 
 -- what a delivery's body says over a setting, or the end that its fault is
 abbrev pub DeliveryOf : Setting → List ℕ → List ℕ → Result Delivery Exit → Type 0
@@ -117,7 +129,7 @@ Deliveries setting files (flag ∷ name ∷ words) so_far = do
 
 -- the feed of the records that were taken, made at that moment, and the reports on all deliveries
 abbrev pub Converted : ℤ → Setting → List Named → Result Done Exit → Type 0
-Converted at setting deliveries (Ok done) = IsFeed at (schedule_in setting) (all_taken deliveries) done.out × (done.err ≡ all_reports deliveries)
+Converted at setting deliveries (Ok done) = IsRebuilt at (schedule_in setting) (all_taken deliveries) done.out × (done.err ≡ all_reports deliveries)
 Converted at setting deliveries (Err end) = ⊥
 
 -- the conversion of the files' deliveries
@@ -129,5 +141,69 @@ Conversion at setting words files = do
 -- the work of `to-gtfsrt`
 abbrev pub ToGtfsrtWork : ToGtfsrt → Directory → Result Done Exit → Type 0
 ToGtfsrtWork command files = do
-  setting ← SettingOf command.gtfs command.zone command.from command.days files
+  setting ← SettingOf command.over files
   Conversion command.at setting command.more files
+
+-- the feed that bytes mean, or the end that their fault is
+abbrev pub FeedOf : List ℕ → List ℕ → Result Feed Exit → Type 0
+FeedOf name body (Ok feed) = MeansFeed body feed × ((fault : FeedFault) → ¬ HasFault body fault)
+FeedOf name body (Err end) = (fault : FeedFault) × IsTold body fault × (end ≡ feed_end name fault)
+
+-- the feed, which is a full dataset: one that only tells what changed is refused
+abbrev pub full : List ℕ → Feed → Result Feed Exit
+full name feed = if int_eq feed.incrementality (pos 1) then Err (differential_end name) else Ok feed
+
+abbrev pub FullDataset : List ℕ → Feed → Result Feed Exit → Type 0
+FullDataset name feed answer = answer ≡ full name feed
+
+-- the feed of a body, and of a file
+abbrev pub BodyFeed : List ℕ → List ℕ → Result Feed Exit → Type 0
+BodyFeed name body = do
+  feed ← FeedOf name body
+  FullDataset name feed
+
+abbrev pub FileFeed : List ℕ → Directory → Result Feed Exit → Type 0
+FileFeed name files = do
+  body ← FurtherFile body_limit name files
+  BodyFeed name body
+
+-- the delivery that says what a feed says, and the report on its entities; or that its journeys have too many calls
+abbrev pub SiriOf : ℤ → Setting → List ℕ → Feed → Result Done Exit → Type 0
+SiriOf at setting name feed (Ok done) =
+    (report : Report) × IsSiri (schedule_in setting) feed at done.out report × (done.err ≡ feed_report name report)
+SiriOf at setting name feed (Err end) =
+    (count : ℕ) × HasTooMany (schedule_in setting) feed count × (end ≡ many_calls_end name count)
+
+abbrev pub SiriOfFile : ℤ → Setting → List ℕ → Directory → Result Done Exit → Type 0
+SiriOfFile at setting name files = do
+  feed ← FileFeed name files
+  SiriOf at setting name feed
+
+-- the work of `to-siri`
+abbrev pub ToSiriWork : ToSiri → Directory → Result Done Exit → Type 0
+ToSiriWork command files = do
+  setting ← SettingOf command.over files
+  SiriOfFile command.at setting command.feed files
+
+-- the lines of what a feed says
+abbrev pub LinesOf : Setting → Feed → Result Done Exit → Type 0
+LinesOf setting feed (Ok done) =
+    (reading : FeedReading) × IsReading (schedule_in setting) feed reading × (done.out ≡ shown_lines (schedule_in setting) reading) × (done.err ≡ [])
+LinesOf setting feed (Err end) = ⊥
+
+abbrev pub LinesOfFile : Setting → List ℕ → Directory → Result Done Exit → Type 0
+LinesOfFile setting name files = do
+  feed ← FileFeed name files
+  LinesOf setting feed
+
+-- the work of `show`
+abbrev pub ShowWork : Show → Directory → Result Done Exit → Type 0
+ShowWork command files = do
+  setting ← SettingOf command.over files
+  LinesOfFile setting command.feed files
+
+-- the work of a command
+abbrev pub JobWork : Job → Directory → Result Done Exit → Type 0
+JobWork (gtfsrt_job command) = ToGtfsrtWork command
+JobWork (siri_job command) = ToSiriWork command
+JobWork (show_job command) = ShowWork command

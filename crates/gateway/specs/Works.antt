@@ -1,9 +1,8 @@
 -- What a command that was read says.
-use Rattle.std.specs.Prelude.{◌≡◌, ℕ, ℤ, List}
-use Rattle.gateway.specs.Words.{ToGtfsrt, NamedZone, by_rule, by_file}
-use Rattle.gateway.specs.declared.work.SettingWords.{SettingWords}
+use Rattle.gateway.specs.Words.{Job, NamedZone, Scope as Said, by_rule, by_file, gtfsrt_job, siri_job, show_job}
+use Rattle.gateway.specs.declared.words.Scope.{Scope}
 use Rattle.gateway.specs.declared.words.Work.{Work}
-use Rattle.gateway.specs.declared.words.Work.TheVariants as work
+use Rattle.gateway.specs.declared.words.Work.TheVariants.{ToGtfsrt, ToSiri, Show}
 use Rattle.gateway.specs.declared.words.ZoneWord.{ZoneWord}
 use Rattle.gateway.specs.declared.words.ZoneWord.TheVariants.{Rule, File}
 
@@ -12,16 +11,12 @@ abbrev pub zone_of : ZoneWord → NamedZone
 zone_of (Rule text) = by_rule text.now
 zone_of (File path) = by_file path.now
 
--- what the command says
-abbrev pub command_of : Work → ToGtfsrt
-command_of (work.ToGtfsrt gtfs zone from days at more) =
-    record { gtfs = gtfs.now; zone = zone_of zone; from = from; days = days; at = at; more = more.now }
+-- what a command works over
+abbrev pub scope_of : Scope → Said
+scope_of over = record { gtfs = over.gtfs.now; zone = zone_of over.zone; from = over.from; days = over.days }
 
--- the command says this of what it works over, of its moment and of the words behind
-pub record Says (command : ToGtfsrt) (words : SettingWords) (at : ℤ) (more : List (List ℕ)) : Type 0 where
-  pub gtfs : command.gtfs ≡ words.gtfs.now
-  pub zone : command.zone ≡ zone_of words.zone.now
-  pub from : command.from ≡ words.first
-  pub days : command.days ≡ words.days
-  pub at_is : command.at ≡ at
-  pub more_is : command.more ≡ more
+-- what the command says
+abbrev pub job_of : Work → Job
+job_of (ToGtfsrt over at more) = gtfsrt_job (record { over = scope_of over; at = at; more = more.now })
+job_of (ToSiri over at feed) = siri_job (record { over = scope_of over; at = at; feed = feed.now })
+job_of (Show over feed) = show_job (record { over = scope_of over; feed = feed.now })

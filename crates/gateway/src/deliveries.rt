@@ -1,32 +1,23 @@
 //! The deliveries that a command reads, file by file.
 ghost use Rattle.std.specs.Prelude.{◌≡◌, ◌++◌, ◌∷◌, [], IfOk, IfSome, IsErrOf, OnOk, option_map};
-ghost use Rattle.std.specs.List.{AllByRecursion};
 ghost use Rattle.gw_base.specs.Answers.{UnlessFree};
 ghost use Rattle.gw_base.specs.Count.{Counts};
-ghost use Rattle.gateway.specs.Deliveries as spec;
+ghost use Rattle.gateway.specs.Bodies as ends;
 ghost use Rattle.gateway.specs.Exits.{is_free};
-ghost use Rattle.gateway.specs.Served.{CanServeAll, IsNext};
+ghost use Rattle.gateway.specs.Served.{IsNext};
 ghost use Rattle.gateway.specs.Work as steps;
+ghost use Rattle.gateway_core.specs.Deliveries.{CanServeAll, CanServeEach, schedule_in};
 
 use crate::exit::Exit;
 use crate::reading::{BODY_LIMIT, further_file, joined};
-use crate::setting::Setting;
+use gateway_core::{Named, Setting};
 use gw_base::{Files, List, Text};
 use siri_calls::{Delivery, DeliveryFault, read_delivery};
 use std::alloc::{AllocError, Global};
 
-/// What the delivery of a file says.
-#[derive(Debug, Drop)]
-pub struct Named {
-    /// The file, as the words name it.
-    pub name: Text,
-    /// What its delivery says.
-    pub delivery: Delivery,
-}
-
 // The end that a fault of a file's body is.
 fn body_end(alloc: Global, name: &str, fault: DeliveryFault) -> Result<Exit, AllocError>
-    ensures { IfOk result (λ end. end ≡ spec.body_end name.now fault) }
+    ensures { IfOk result (λ end. end ≡ ends.body_end name.now fault) }
 {
     match fault {
         DeliveryFault::NotJson => Ok(Exit::Refused(joined(alloc, name, " NotJson")?)),
@@ -43,7 +34,7 @@ fn body_end(alloc: Global, name: &str, fault: DeliveryFault) -> Result<Exit, All
 fn delivery(alloc: Global, body: &[u8], name: &str, setting: &Setting) -> Result<Delivery, Exit>
     ensures told { UnlessFree is_free result (steps.DeliveryOf setting.now name.now body.now) }
     ensures calm { ¬ IsErrOf result Exit.Failed }
-    ensures servable { IfOk result (λ delivery. CanServeAll (spec.schedule_in setting.now) delivery) }
+    ensures servable { IfOk result (λ delivery. CanServeAll (schedule_in setting.now) delivery) }
 {
     match read_delivery(alloc, body, &setting.context()) {
         Ok(delivery) => Ok(delivery),
@@ -61,7 +52,7 @@ fn file_delivery<F: Files>(
     ensures told { IfSome (F.told files.old) (λ told. UnlessFree is_free result (steps.FileDelivery setting.now name.now told)) }
     ensures counts { Counts (IsErrOf result Exit.Failed) (F.faults files.old) (F.faults files.new) }
     ensures same { F.told files.new ≡ F.told files.old }
-    ensures servable { IfOk result (λ delivery. CanServeAll (spec.schedule_in setting.now) delivery) }
+    ensures servable { IfOk result (λ delivery. CanServeAll (schedule_in setting.now) delivery) }
 {
     let body = further_file(alloc, files, name, BODY_LIMIT)?;
     delivery(alloc, body.as_slice(), name, setting)
@@ -100,7 +91,7 @@ pub fn deliveries<F: Files>(
     ensures told { IfSome (F.told files.old) (λ told. UnlessFree is_free result (steps.Deliveries setting.now told words.now [])) }
     ensures counts { Counts (IsErrOf result Exit.Failed) (F.faults files.old) (F.faults files.new) }
     ensures same { F.told files.new ≡ F.told files.old }
-    ensures servable { IfOk result (λ deliveries. AllByRecursion (λ one. CanServeAll (spec.schedule_in setting.now) one.delivery) deliveries) }
+    ensures servable { IfOk result (λ deliveries. CanServeEach (schedule_in setting.now) deliveries) }
 {
     let mut found = List::new(alloc);
     let mut rest = words;

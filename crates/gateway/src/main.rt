@@ -1,17 +1,14 @@
 //! The program `gateway`: deliveries of SIRI 2.0 over one GTFS Schedule folder become a GTFS Realtime 2.0
-//! feed. `main` hands the real words and devices to the top call.
+//! feed, and a feed becomes a delivery or lines. `main` hands the real words and devices to the top call.
 #![tactic(auto)]
 
 mod command_line;
 mod deliveries;
 mod devices;
 mod exit;
-mod feed;
+mod feeds;
 mod folder_end;
-mod latest;
 mod reading;
-mod report;
-mod setting;
 #[cfg(test)]
 mod tests;
 mod top;
@@ -25,10 +22,14 @@ use std::process::ExitCode;
 
 const USAGE: &str = "\
 usage: gateway to-gtfsrt --gtfs DIR ZONE --from YYYY-MM-DD --days N --at YYYY-MM-DDThh:mm:ssZ [--et FILE]..
+       gateway to-siri   --gtfs DIR ZONE --from YYYY-MM-DD --days N --at YYYY-MM-DDThh:mm:ssZ --feed FILE
+       gateway show      --gtfs DIR ZONE --from YYYY-MM-DD --days N --feed FILE
 
+DIR is a GTFS Schedule folder, and N the number of service days from the first on that are served (1 to 32).
 ZONE is --zone-rule RULE, a POSIX rule such as CET-1CEST,M3.5.0,M10.5.0/3, or --zone-file FILE, a TZif file.
-to-gtfsrt reads the GTFS folder DIR and any number of SIRI estimated timetables, each a FILE, and writes a GTFS
-Realtime feed to standard output and a report on each file to standard error.
+to-gtfsrt makes a GTFS Realtime feed of any number of SIRI estimated timetables (JSON), to-siri makes such a
+timetable of a feed, and show prints what a feed says of each stop of each journey. They write to standard
+output, and the first two a report on each file to standard error.
 ";
 
 const VERSION: &str = concat!("gateway ", "0.1.0", "\n");

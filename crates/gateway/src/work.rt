@@ -1,26 +1,24 @@
 //! The work of the commands, step by step in the order of `specs/Work.antt`. Nothing is written here.
 ghost use Rattle.std.specs.Prelude.{◌≡◌, ◌++◌, ◌<◌, IfOk, IfSome, IsErrOf, length, Ok, Err};
-ghost use Rattle.std.specs.List.{AllByRecursion};
 ghost use Rattle.gw_base.specs.Answers.{UnlessFree};
 ghost use Rattle.gw_base.specs.Count.{Counts};
 ghost use Rattle.gateway.specs.Exits.{is_free};
 ghost use Rattle.gateway.specs.Work as steps;
 ghost use Rattle.gateway.specs.Windowed.{HasWindow};
-ghost use Rattle.gateway.specs.Words.{ToGtfsrt, by_file};
-ghost use Rattle.gateway.specs.Deliveries.{schedule_in};
-ghost use Rattle.gateway.specs.Served.{CanServeAll};
-ghost use Rattle.gateway.specs.Works.{command_of, zone_of, Says};
+ghost use Rattle.gateway.specs.Words as said;
+ghost use Rattle.gateway.specs.Words.{by_file, scope_in};
+ghost use Rattle.gateway.specs.Works.{job_of, scope_of, zone_of};
+ghost use Rattle.gateway_core.specs.Deliveries.{CanServeEach, schedule_in};
 
-use crate::deliveries::{Named, deliveries};
+use crate::deliveries::deliveries;
 use crate::exit::Exit;
-use crate::feed::feed_bytes;
+use crate::feeds::{feed_file, lines_of, siri_of};
 use crate::folder_end::folder_end;
 use crate::reading::{ZONE_LIMIT, further_file};
-use crate::report::reports;
-use crate::setting::Setting;
-use crate::words::{Work, ZoneWord};
+use crate::words::{Scope, Work, ZoneWord};
+use gateway_core::{Named, Setting, rebuilt, reports};
 use gw_base::{Bytes, Files, Moment, Text};
-use service_day::{Day, Window, Zone, ZoneFault};
+use service_day::{Window, Zone, ZoneFault};
 use std::alloc::{AllocError, Global};
 use stop_schedule::{Timetable, read_timetable};
 
@@ -31,15 +29,6 @@ pub struct Done {
     pub out: Bytes,
     /// For standard error, afterwards.
     pub err: Bytes,
-}
-
-// The words that say what a command works over.
-#[derive(Clone, Copy)]
-struct SettingWords<'a> {
-    gtfs: &'a Text,
-    zone: &'a ZoneWord<'a>,
-    first: Day,
-    days: u8,
 }
 
 // The timetable of a folder.
@@ -104,17 +93,17 @@ fn zone<F: Files>(alloc: Global, files: &mut F, word: &ZoneWord<'_>) -> Result<Z
 fn over<F: Files>(
     alloc: Global,
     files: &mut F,
-    words: &SettingWords<'_>,
+    scope: &Scope<'_>,
     table: Timetable,
 ) -> Result<Setting, Exit>
-    requires { HasWindow words.now.first words.now.days }
+    requires { HasWindow scope.now.from scope.now.days }
     ensures told { IfSome (F.told files.old) (λ told. UnlessFree is_free result
-        (steps.Over table (zone_of words.now.zone.now) words.now.first words.now.days told)) }
+        (steps.Over table (zone_of scope.now.zone) scope.now.from scope.now.days told)) }
     ensures counts { Counts (IsErrOf result Exit.Failed) (F.faults files.old) (F.faults files.new) }
     ensures same { F.told files.new ≡ F.told files.old }
 {
-    let zone = zone(alloc, files, words.zone)?;
-    let window = Window::make(&zone, words.first, words.days)?;
+    let zone = zone(alloc, files, &scope.zone)?;
+    let window = Window::make(&zone, scope.from, scope.days)?;
     Ok(Setting {
         table,
         zone,
@@ -123,19 +112,15 @@ fn over<F: Files>(
 }
 
 // What a command works over.
-fn setting<F: Files>(
-    alloc: Global,
-    files: &mut F,
-    words: &SettingWords<'_>,
-) -> Result<Setting, Exit>
-    requires { HasWindow words.now.first words.now.days }
+fn setting<F: Files>(alloc: Global, files: &mut F, scope: &Scope<'_>) -> Result<Setting, Exit>
+    requires { HasWindow scope.now.from scope.now.days }
     ensures told { IfSome (F.told files.old) (λ told. UnlessFree is_free result
-        (steps.SettingOf words.now.gtfs.now (zone_of words.now.zone.now) words.now.first words.now.days told)) }
+        (steps.SettingOf (scope_of scope.now) told)) }
     ensures counts { Counts (IsErrOf result Exit.Failed) (F.faults files.old) (F.faults files.new) }
     ensures same { F.told files.new ≡ F.told files.old }
 {
-    match folder(alloc, files, words.gtfs.as_str()) {
-        Ok(table) => over(alloc, files, words, table),
+    match folder(alloc, files, scope.gtfs.as_str()) {
+        Ok(table) => over(alloc, files, scope, table),
         Err(end) => Err(end),
     }
 }
@@ -147,11 +132,11 @@ fn converted(
     setting: &Setting,
     deliveries: &[Named],
 ) -> Result<Done, AllocError>
-    requires { AllByRecursion (λ one. CanServeAll (schedule_in setting.now) one.delivery) deliveries.now }
+    requires { CanServeEach (schedule_in setting.now) deliveries.now }
     ensures { IfOk result (λ done. steps.Converted at setting.now deliveries.now (Ok done)) }
 {
     Ok(Done {
-        out: feed_bytes(alloc, at, &setting.context(), deliveries)?,
+        out: rebuilt(alloc, at, &setting.context(), deliveries)?,
         err: reports(alloc, deliveries)?,
     })
 }
@@ -177,46 +162,111 @@ fn conversion<F: Files>(
 fn to_gtfsrt<F: Files>(
     alloc: Global,
     files: &mut F,
-    words: &SettingWords<'_>,
+    scope: &Scope<'_>,
     at: Moment,
     more: &[Text],
 ) -> Result<Done, Exit>
-    requires { HasWindow words.now.first words.now.days }
-    ensures told { (command : ToGtfsrt) → Says command words.now at more.now
-        → IfSome (F.told files.old) (λ told. UnlessFree is_free result (steps.ToGtfsrtWork command told)) }
+    requires { HasWindow scope.now.from scope.now.days }
+    ensures told { IfSome (F.told files.old) (λ told. UnlessFree is_free result
+        (steps.ToGtfsrtWork
+        (record { over = scope_of scope.now; at = at; more = more.now }) told)) }
     ensures counts { Counts (IsErrOf result Exit.Failed) (F.faults files.old) (F.faults files.new) }
     ensures same { F.told files.new ≡ F.told files.old }
 {
-    match setting(alloc, files, words) {
+    match setting(alloc, files, scope) {
         Ok(setting) => conversion(alloc, files, at, &setting, more),
+        Err(end) => Err(end),
+    }
+}
+
+// What `to-siri` makes of a feed's file over a setting.
+fn siri_of_file<F: Files>(
+    alloc: Global,
+    files: &mut F,
+    at: Moment,
+    setting: &Setting,
+    name: &str,
+) -> Result<Done, Exit>
+    ensures told { IfSome (F.told files.old) (λ told. UnlessFree is_free result
+        (steps.SiriOfFile at setting.now name.now told)) }
+    ensures counts { Counts (IsErrOf result Exit.Failed) (F.faults files.old) (F.faults files.new) }
+    ensures same { F.told files.new ≡ F.told files.old }
+{
+    match feed_file(alloc, files, name) {
+        Ok(feed) => siri_of(alloc, at, setting, name, &feed),
+        Err(end) => Err(end),
+    }
+}
+
+// The work of `to-siri`.
+fn to_siri<F: Files>(
+    alloc: Global,
+    files: &mut F,
+    scope: &Scope<'_>,
+    at: Moment,
+    feed: &str,
+) -> Result<Done, Exit>
+    requires { HasWindow scope.now.from scope.now.days }
+    ensures told { IfSome (F.told files.old) (λ told. UnlessFree is_free result
+        (steps.ToSiriWork
+        (record { over = scope_of scope.now; at = at; feed = feed.now }) told)) }
+    ensures counts { Counts (IsErrOf result Exit.Failed) (F.faults files.old) (F.faults files.new) }
+    ensures same { F.told files.new ≡ F.told files.old }
+{
+    match setting(alloc, files, scope) {
+        Ok(setting) => siri_of_file(alloc, files, at, &setting, feed),
+        Err(end) => Err(end),
+    }
+}
+
+// What `show` makes of a feed's file over a setting.
+fn lines_of_file<F: Files>(
+    alloc: Global,
+    files: &mut F,
+    setting: &Setting,
+    name: &str,
+) -> Result<Done, Exit>
+    ensures told { IfSome (F.told files.old) (λ told. UnlessFree is_free result
+        (steps.LinesOfFile setting.now name.now told)) }
+    ensures counts { Counts (IsErrOf result Exit.Failed) (F.faults files.old) (F.faults files.new) }
+    ensures same { F.told files.new ≡ F.told files.old }
+{
+    match feed_file(alloc, files, name) {
+        Ok(feed) => Ok(lines_of(alloc, setting, &feed)?),
+        Err(end) => Err(end),
+    }
+}
+
+// The work of `show`.
+fn show<F: Files>(
+    alloc: Global,
+    files: &mut F,
+    scope: &Scope<'_>,
+    feed: &str,
+) -> Result<Done, Exit>
+    requires { HasWindow scope.now.from scope.now.days }
+    ensures told { IfSome (F.told files.old) (λ told. UnlessFree is_free result
+        (steps.ShowWork (record { over = scope_of scope.now; feed = feed.now }) told)) }
+    ensures counts { Counts (IsErrOf result Exit.Failed) (F.faults files.old) (F.faults files.new) }
+    ensures same { F.told files.new ≡ F.told files.old }
+{
+    match setting(alloc, files, scope) {
+        Ok(setting) => lines_of_file(alloc, files, &setting, feed),
         Err(end) => Err(end),
     }
 }
 
 /// The work of a command over the files: what it writes, or how it ends.
 pub fn carried_out<F: Files>(alloc: Global, work: &Work<'_>, files: &mut F) -> Result<Done, Exit>
-    requires { HasWindow (command_of work.now).from (command_of work.now).days }
+    requires { HasWindow (scope_in (job_of work.now)).from (scope_in (job_of work.now)).days }
     ensures told { IfSome (F.told files.old) (λ told. UnlessFree is_free result
-        (steps.ToGtfsrtWork (command_of work.now) told)) }
+        (steps.JobWork (job_of work.now) told)) }
     ensures counts { Counts (IsErrOf result Exit.Failed) (F.faults files.old) (F.faults files.new) }
     ensures same { F.told files.new ≡ F.told files.old }
 {
     match work {
-        Work::ToGtfsrt {
-            gtfs,
-            zone,
-            from,
-            days,
-            at,
-            more,
-        } => {
-            let words = SettingWords {
-                gtfs,
-                zone,
-                first: *from,
-                days: *days,
-            };
-            to_gtfsrt(alloc, files, &words, *at, more)
-        }
+        Work::ToGtfsrt { over, at, more } => to_gtfsrt(alloc, files, over, *at, more),
+        Work::ToSiri { over, at, feed } => to_siri(alloc, files, over, *at, feed.as_str()),
+        Work::Show { over, feed } => show(alloc, files, over, feed.as_str()),
     }
 }

@@ -11,9 +11,9 @@ use Rattle.journey_model.specs.Schedules.{IsServable, Schedule}
 use Rattle.journey_model.specs.declared.readings.JourneyRecord.{JourneyRecord}
 use Rattle.latest_store.specs.Entities.{entity, messages}
 use Rattle.latest_store.specs.Reads.{SaysItself, with_messages}
-use Rattle.gateway.specs.Winners.{AreServable, Held, HoldsLatest, IsWritten, all_held, recorded_at}
-use Rattle.gateway.specs.Feeds.{IsFeed}
-use Rattle.gateway.proofs.WinnerLemmas.{all_among, find_held, held_in_order}
+use Rattle.gateway_core.specs.Winners.{AreServable, Held, HoldsLatest, IsWritten, all_held, recorded_at}
+use Rattle.gateway_core.specs.Feeds.{IsRebuilt}
+use Rattle.gateway_core.proofs.WinnerLemmas.{all_among, find_held, held_in_order}
 use denote.Ref.{Bor}
 
 flat_map-push : {X Y : Type 0} (f : X → List Y) (xs : List X) (x : X) → flat_map f (xs ++ x ∷ []) ≡ flat_map f xs ++ f x
@@ -76,7 +76,7 @@ next_servable schedule records left rest one all is so_far servable =
 
 -- the feed of the records that are held is that of all records
 is_feed : (at : ℤ) (schedule : Schedule) (records : List Recorded) (latest : Held) (feed : List ℕ)
-    → HoldsLatest records latest → AreServable schedule (all_held latest) → IsWritten at schedule (all_held latest) feed → IsFeed at schedule records feed
+    → HoldsLatest records latest → AreServable schedule (all_held latest) → IsWritten at schedule (all_held latest) feed → IsRebuilt at schedule records feed
 is_feed at schedule records latest feed h servable written = record {
   ordered = all_held latest;
   in_order = held_in_order records latest h;
@@ -89,6 +89,6 @@ is_feed at schedule records latest feed h servable written = record {
 
 pub feed_of_held : {E : Type 0} (result : Result (List ℕ) E) (at : ℤ) (schedule : Schedule) (records : List Recorded) (latest : Held)
     → HoldsLatest records latest → AreServable schedule (all_held latest) → IfOk result (λ feed. IsWritten at schedule (all_held latest) feed)
-    → IfOk result (λ feed. IsFeed at schedule records feed)
+    → IfOk result (λ feed. IsRebuilt at schedule records feed)
 feed_of_held (Ok feed) at schedule records latest h servable written = is_feed at schedule records latest feed h servable written
 feed_of_held (Err fault) at schedule records latest h servable written = tt

@@ -27,8 +27,8 @@ use Rattle.latest_store.specs.Entities.{is_absent, is_silent, messages}
 use Rattle.latest_store.specs.Latest.{HasLatest, IsLatest, is_later, is_of}
 use Rattle.latest_store.specs.Reads.{SaysItself, dated_reading}
 use Rattle.latest_store.proofs.EntityLemmas.{messages_none, messages_one}
-use Rattle.gateway.specs.Feeds.{IsFeed, are_in_order, comes_before}
-use Rattle.gateway.specs.Published.{GivesLatest}
+use Rattle.gateway_core.specs.Feeds.{IsRebuilt, are_in_order, comes_before}
+use Rattle.gateway_core.specs.Gives.{GivesLatest}
 
 -- an element that passes a test, amid a list
 passes : {X : Type 0} (test : X → Bool) (before behind : List X) (one : X) → test one ≡ true → list_any test (before ++ one ∷ behind) ≡ true
@@ -209,7 +209,7 @@ all_read schedule trip day (one ∷ others) servable in_order = by (is_of trip d
     ) behind
 
 -- the feed of the latest records gives just their readings
-pub gives : (at : ℤ) (schedule : Schedule) (records : List Recorded) (bytes : List ℕ) (is : IsFeed at schedule records bytes) (trip : ℕ) (day : ℤ)
+pub gives : (at : ℤ) (schedule : Schedule) (records : List Recorded) (bytes : List ℕ) (is : IsRebuilt at schedule records bytes) (trip : ℕ) (day : ℤ)
     → GivesLatest schedule at (flat_map (messages schedule) is.ordered) records trip day
 gives at schedule records bytes is trip day found latest =
     let entities = flat_map (messages schedule) is.ordered in

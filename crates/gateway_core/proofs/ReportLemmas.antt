@@ -2,7 +2,7 @@
 use Rattle.std.proofs.Common.{◌≡◌, ◌+◌, ℕ, List, [], ◌∷◌, length, Result, Ok, Err, refl, arith}
 use Rattle.journey_model.specs.Records.{Recorded}
 use Rattle.journey_model.specs.declared.fault.Fault.{Fault}
-use Rattle.gateway.specs.Reports.{aside_from, taken}
+use Rattle.gateway_core.specs.Reports.{aside_from, taken}
 
 -- each is one or the other
 pub taken_or_aside : (verdicts : List (Result Recorded Fault)) (number : ℕ) → length (taken verdicts) + length (aside_from number verdicts) ≡ length verdicts

@@ -11,11 +11,11 @@ use Rattle.journey_model.specs.Schedules.{IsServable, Schedule}
 use Rattle.siri_calls.specs.Deliveries.{CanServe, shown}
 use Rattle.siri_calls.specs.declared.delivery.Item.{Item}
 use Rattle.siri_calls.specs.declared.delivery.Item.TheVariants.{Taken, Aside}
-use Rattle.gateway.specs.Deliveries.{all_taken, taken_of}
-use Rattle.gateway.specs.Reports.{taken}
-use Rattle.gateway.specs.Served.{CanServeAll}
-use Rattle.gateway.specs.Winners.{AreServable, taken_in}
-use Rattle.gateway.specs.declared.deliveries.Named.{Named}
+use Rattle.gateway_core.specs.Deliveries.{all_taken, taken_of}
+use Rattle.gateway_core.specs.Reports.{taken}
+use Rattle.gateway_core.specs.Deliveries.{CanServeAll}
+use Rattle.gateway_core.specs.Winners.{AreServable, taken_in}
+use Rattle.gateway_core.specs.declared.named.Named.{Named}
 
 taken_in-append : (xs ys : List Item) → taken_in (xs ++ ys) ≡ taken_in xs ++ taken_in ys
 taken_in-append xs ys = ap taken (map-append shown xs ys) ∙ filter_map-append result_ok (map shown xs) (map shown ys)

@@ -18,8 +18,8 @@ use Rattle.journey_model.specs.Records.{Recorded, recorded}
 use Rattle.journey_model.specs.Schedules.{IsServable, Schedule}
 use Rattle.journey_model.specs.declared.readings.JourneyRecord.{JourneyRecord}
 use Rattle.latest_store.specs.Latest.{HasLatest, IsLatest, is_later, is_of}
-use Rattle.gateway.specs.Feeds.{are_in_order, comes_before}
-use Rattle.gateway.specs.Winners.{AreServable, Held, HoldsLatest, all_held, counts, held, key_cmp, recorded_at}
+use Rattle.gateway_core.specs.Feeds.{are_in_order, comes_before}
+use Rattle.gateway_core.specs.Winners.{AreServable, Held, HoldsLatest, all_held, counts, held, key_cmp, recorded_at}
 use denote.Ref.{Bor}
 
 -- ---- instants

@@ -21,7 +21,7 @@ are_in_order (one ∷ others) = list_all (comes_before one) others && are_in_ord
 
 -- the feed that is rebuilt from all records taken, made at that moment: its header, and the entity of the latest record of
 -- each journey, by service day and trip number; and what these bytes mean
-pub record IsFeed (at : ℤ) (schedule : Schedule) (records : List Recorded) (feed : List ℕ) : Type 0 where
+pub record IsRebuilt (at : ℤ) (schedule : Schedule) (records : List Recorded) (feed : List ℕ) : Type 0 where
   pub ordered : List Recorded
   pub in_order : are_in_order ordered ≡ true
   pub latest : (trip : ℕ) (day : ℤ) → HasLatest records trip day (find (is_of trip day) ordered)

@@ -1,10 +1,11 @@
--- The report on a delivery.
+-- The report on a delivery, and on a feed.
 use Rattle.std.specs.Prelude.{◌+◌, ℕ, List, [], ◌∷◌, ◌++◌, codes, length, decimal, Result, Ok, Err}
 use Rattle.std.specs.List.{filter_map, flat_map}
 use Rattle.std.specs.Result.{result_ok}
 use Rattle.journey_model.specs.FaultTexts.{fault_text}
 use Rattle.journey_model.specs.Records.{Recorded}
 use Rattle.journey_model.specs.declared.fault.Fault.{Fault}
+use Rattle.journey_model.specs.declared.report.Report.{Report}
 
 -- the records of the items that are taken, and the items that are set aside, numbered from that number on, each with its
 -- fault
@@ -29,3 +30,7 @@ count_line file taken passed aside =
 abbrev pub report_text : List ℕ → List (Result Recorded Fault) → ℕ → List ℕ
 report_text file verdicts passed =
     flat_map (aside_line file) (aside_from 0 verdicts) ++ count_line file (length (taken verdicts)) passed (length (aside_from 0 verdicts))
+
+-- the report on a feed's entities
+abbrev pub feed_report : List ℕ → Report → List ℕ
+feed_report file report = flat_map (aside_line file) report.aside ++ count_line file report.taken report.passed (length report.aside)

@@ -14,7 +14,7 @@ use Rattle.siri_calls.specs.declared.delivery.Item.{Item}
 use Rattle.latest_store.specs.Entities.{entity, messages}
 use Rattle.latest_store.specs.Latest.{HasLatest, is_later}
 use Rattle.latest_store.specs.Reads.{SaysItself}
-use Rattle.gateway.specs.Reports.{taken}
+use Rattle.gateway_core.specs.Reports.{taken}
 use denote.Ref.{Bor}
 
 -- what a record that is lent shows

@@ -1,10 +1,10 @@
 //! The latest record of each journey. The functions meet `specs/Winners.antt`.
 ghost use Rattle.std.specs.Prelude.{◌≡◌, ◌++◌, ◌∷◌, [], List, IfOk, OnOk, option_map};
 ghost use Rattle.journey_model.specs.Records.{Recorded, recorded};
-ghost use Rattle.gateway.specs.Deliveries.{all_taken};
-ghost use Rattle.gateway.specs.Winners.{HoldsLatest, counts, taken_in};
+ghost use Rattle.gateway_core.specs.Deliveries.{all_taken};
+ghost use Rattle.gateway_core.specs.Winners.{HoldsLatest, counts, taken_in};
 
-use crate::deliveries::Named;
+use crate::named::Named;
 use journey_model::JourneyRecord;
 use latest_store::wins;
 use siri_calls::Item;

@@ -17,7 +17,7 @@ pub struct Setting {
 impl Setting {
     ghost use Rattle.std.specs.Prelude.{◌≡◌};
     ghost use Rattle.journey_model.specs.Schedules.{schedule_of};
-    ghost use Rattle.gateway.specs.Deliveries.{schedule_in};
+    ghost use Rattle.gateway_core.specs.Deliveries.{schedule_in};
 
     /// The same, lent.
     pub fn context(&self) -> Context<'_>

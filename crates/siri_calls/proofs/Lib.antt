@@ -16,3 +16,5 @@ pub mod SaidAgainRuns
 pub mod SaidAgainTrees
 pub mod ServableLemmas
 pub mod TreeLemmas
+pub mod WrittenLemmas
+pub mod WrittenTimes

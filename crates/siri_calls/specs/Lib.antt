@@ -1,5 +1,6 @@
 pub mod Calls
 pub mod Deliveries
+pub mod DeliveryTexts
 pub mod DeliveryTree
 pub mod Fields
 pub mod Forms

@@ -22,6 +22,9 @@ mod read_fault;
 mod tests;
 mod trip_run;
 mod write;
+mod write_calls;
+mod write_journeys;
+mod write_texts;
 
 pub use delivery::{Delivery, DeliveryFault, Item, read_delivery};
 pub use write::write_delivery;

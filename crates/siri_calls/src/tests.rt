@@ -2,6 +2,7 @@
 mod calls;
 mod frames;
 mod items;
+mod written;
 
 use crate::delivery::{Delivery, DeliveryFault, Item, read_delivery};
 use crate::judging_tests::{push_stop, read_folder, window};

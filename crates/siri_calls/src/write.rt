@@ -1,21 +1,51 @@
-//! The text of a delivery that says how journeys read. It stands in until the real one is here.
-ghost use Rattle.std.specs.Prelude.{◌≡◌, All, IfOk};
+//! Deliveries of estimated timetables, written (SIRI 2.0, EstimatedTimetableDelivery; in JSON after SIRI Lite).
+//! `write_delivery` meets `specs/DeliveryTree.antt`.
+ghost use Rattle.std.specs.Prelude.{◌≡◌, ◌++◌, All, IfOk, OnOk};
+ghost use Rattle.service_day.specs.Utc.{IsMoment};
 ghost use Rattle.journey_model.specs.Schedules.{FitsSchedule, schedule_of};
 ghost use Rattle.siri_calls.specs.DeliveryTree.{delivery_text};
+ghost use Rattle.siri_calls.specs.DeliveryTexts.{head_text, tail_text};
 
-use gw_base::{Bytes, Moment};
+use crate::write_journeys::put_journeys;
+use crate::write_texts::put_moment;
+use gw_base::{Bytes, List, Moment};
 use journey_model::{Context, DatedReading};
 use std::alloc::{AllocError, Global};
 
-/// The text of a delivery of estimated timetables that says these journeys at that moment.
-pub fn write_delivery(
-    _alloc: Global,
-    _context: &Context<'_>,
-    _journeys: &[DatedReading],
-    _moment: Moment,
-) -> Result<Bytes, AllocError>
-    requires { All (λ one. FitsSchedule (schedule_of _context.now) one.trip.0 one.day one.reading) _journeys.now }
-    ensures text { IfOk result (λ text. text ≡ delivery_text (schedule_of _context.now) _moment _journeys.now) }
+// Adds a delivery up to its journeys.
+fn put_head(out: &mut Bytes) -> Result<(), AllocError>
+    ensures { OnOk result (out.new ≡ out.old ++ head_text) }
 {
-    Err(AllocError)
+    out.extend(b"{\"Siri\":{\"ServiceDelivery\":{\"EstimatedTimetableDelivery\":[{\"EstimatedJourneyVersionFrame\":[{\"EstimatedVehicleJourney\":[")
+}
+
+// Adds the moment of the frame and of both deliveries, in seconds since 1970, behind the journeys.
+fn put_tail(out: &mut Bytes, secs: &i64) -> Result<(), AllocError>
+    requires { IsMoment secs.now }
+    ensures { OnOk result (out.new ≡ out.old ++ tail_text secs.now) }
+{
+    put_moment(out, b",\"RecordedAtTime\":", secs)?;
+    put_moment(out, b"}],\"ResponseTimestamp\":", secs)?;
+    put_moment(out, b",\"version\":\"2.0\"}],\"ResponseTimestamp\":", secs)?;
+    out.extend(b"}}}")
+}
+
+/// The delivery of estimated timetables that says these journeys, in their order, at that moment (SIRI 2.0,
+/// EstimatedTimetableDelivery; in JSON after SIRI Lite, without blanks). A journey without a moment of recording has that
+/// of the delivery. The time is linear in the text, which is all that is held.
+#[tactic(auto, using(crate::proofs::WrittenLemmas::delivery))]
+pub fn write_delivery(
+    alloc: Global,
+    context: &Context<'_>,
+    journeys: &[DatedReading],
+    moment: Moment,
+) -> Result<Bytes, AllocError>
+    requires { All (λ one. FitsSchedule (schedule_of context.now) one.trip.0 one.day one.reading) journeys.now }
+    ensures text { IfOk result (λ text. text ≡ delivery_text (schedule_of context.now) moment journeys.now) }
+{
+    let mut out = List::new(alloc);
+    put_head(&mut out)?;
+    put_journeys(&mut out, context, journeys, moment)?;
+    put_tail(&mut out, &moment.secs())?;
+    Ok(out)
 }

@@ -7,7 +7,7 @@ use std::process::Abort;
 // Words that are wrong where they stand in the accepted list.
 static WRONG: [(usize, &str); 41] = [
     (0, ""),
-    (0, "to-siri"),
+    (0, "serve"),
     (0, "To-gtfsrt"),
     (0, "--help"),
     (1, "--feed"),
@@ -53,7 +53,23 @@ static WRONG: [(usize, &str); 41] = [
 ];
 
 // Lists of words, each with where it stops being the start of an accepted one.
-static LISTS: [(&str, usize); 11] = [
+static LISTS: [(&str, usize); 15] = [
+    (
+        "to-siri --gtfs g --zone-rule x --from 2024-05-01 --days 2 --at 2024-05-01T06:00:00Z --et f",
+        11,
+    ),
+    (
+        "to-siri --gtfs g --zone-rule x --from 2024-05-01 --days 2 --at 2024-05-01T06:00:00Z --feed f --feed f",
+        13,
+    ),
+    (
+        "show --gtfs g --zone-rule x --from 2024-05-01 --days 2 --at 2024-05-01T06:00:00Z --feed f",
+        9,
+    ),
+    (
+        "show --gtfs g --zone-rule x --from 2024-05-01 --days 2 --feed",
+        10,
+    ),
     ("", 0),
     (" to-gtfsrt --gtfs g", 0),
     ("to-gtfsrt  --gtfs g", 1),

@@ -1,10 +1,10 @@
 -- what the words left say behind the deliveries so far is what all say
 use Rattle.std.proofs.Common.{◌≡◌, ◌≤◌, List, Result, length, [], IfSome}
 use Rattle.std.specs.List.{AllByRecursion}
-use Rattle.gateway.specs.Deliveries.{schedule_in}
-use Rattle.gateway.specs.Served.{CanServeAll}
+use Rattle.gateway_core.specs.Deliveries.{schedule_in}
+use Rattle.gateway_core.specs.Deliveries.{CanServeAll}
 use Rattle.gateway.specs.Work.{Deliveries}
-use Rattle.gateway.specs.declared.deliveries.Named.{Named}
+use Rattle.gateway_core.specs.declared.named.Named.{Named}
 use Rattle.gateway.specs.declared.exit.Exit.{Exit}
 use Rattle.gateway.proofs.deliveries.deliveries.Given as goal
 

@@ -1,14 +1,14 @@
 use Rattle.std.proofs.lemmas.Result.{err_from_is_err_and}
-use Rattle.gateway.specs.Words.{commands, to_gtfsrt}
+use Rattle.gateway.specs.Words.{commands, show, to_gtfsrt, to_siri}
 use Rattle.gateway.proofs.WordLemmas.{read}
 use Rattle.gateway.proofs.words.job.Goals as goal
 
 pub returns-in_err-check-clause-refused : goal.returns-in_err-check-clause-refused
-unfolding commands to_gtfsrt
+unfolding commands to_gtfsrt to_siri show
 returns-in_err-check-clause-refused c =
     let p = err_from_is_err_and c.from_residual.result c.from_residual.ensures.1 in
     rw (p.1, p.2) (record { stops = c.in_err-check.ensures.refused })
 
-pub to_gtfsrt-requires : goal.to_gtfsrt-requires
-unfolding commands to_gtfsrt
-to_gtfsrt-requires c = read c.args.words.now c.in_ok-check.ensures.accepted
+pub work-requires : goal.work-requires
+unfolding commands to_gtfsrt to_siri show
+work-requires c = read c.args.words.now c.in_ok-check.ensures.accepted

@@ -1,27 +1,18 @@
 -- The setting, and then the conversion of the deliveries that the words behind name.
-use Rattle.std.proofs.Common.{◌≡◌}
 use Rattle.gw_base.proofs.AnswerLemmas.{went_on}
 use Rattle.gateway.specs.Exits.{is_free}
-use Rattle.gateway.specs.Work.{SettingOf, Conversion}
-use Rattle.gateway.specs.Works.{zone_of}
+use Rattle.gateway.specs.Work.{Conversion, SettingOf}
+use Rattle.gateway.specs.Works.{scope_of}
 use Rattle.gateway.proofs.StepLemmas.{ended}
 use Rattle.gateway.proofs.work.to_gtfsrt.Goals as goal
 
 pub returns-in-Ok-clause-told : goal.returns-in-Ok-clause-told
-returns-in-Ok-clause-told g c = λ command says.
-    let words = c.args.words.now in
+returns-in-Ok-clause-told g c =
     let second = rw c.setting.ensures.same at c.conversion.ensures.told in
-    rw (says.gtfs, says.zone, says.from, says.days, says.at_is, says.more_is)
-    (went_on (g.F.Files.told c.args.files.now) is_free
-    (λ files. SettingOf words.gtfs.now (zone_of words.zone.now) words.first words.days files)
-    (λ files setting. Conversion c.args.at setting c.args.more.now files)
-    c.in-Ok.setting c.conversion.result c.in-Ok.ensures.told second)
+    went_on (g.F.Files.told c.args.files.now) is_free (λ files. SettingOf (scope_of c.args.scope.now) files)
+    (λ files setting. Conversion c.args.at setting c.args.more.now files) c.in-Ok.setting c.conversion.result c.in-Ok.ensures.told second
 
 pub returns-in-Err-clause-told : goal.returns-in-Err-clause-told
-returns-in-Err-clause-told g c = λ command says.
-    let words = c.args.words.now in
-    rw (says.gtfs, says.zone, says.from, says.days, says.more_is)
-    (ended (g.F.Files.told c.args.files.now) is_free
-    (λ files. SettingOf words.gtfs.now (zone_of words.zone.now) words.first words.days files)
-    (λ files setting. Conversion c.args.at setting c.args.more.now files)
-    c.in-Err.end c.in-Err.ensures.told)
+returns-in-Err-clause-told g c =
+    ended (g.F.Files.told c.args.files.now) is_free (λ files. SettingOf (scope_of c.args.scope.now) files)
+    (λ files setting. Conversion c.args.at setting c.args.more.now files) c.in-Err.end c.in-Err.ensures.told

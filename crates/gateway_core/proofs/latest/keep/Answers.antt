@@ -1,8 +1,8 @@
 -- The record that arrives counts, and is held, or what is held stays.
 use Rattle.std.proofs.Common.{◌∙◌, rules, to_z, of_z, w32}
 use Rattle.std.proofs.lemmas.Int.{to_z-of_z}
-use Rattle.gateway.proofs.WinnerLemmas.{kept_new, kept_same}
-use Rattle.gateway.proofs.latest.keep.Goals as goal
+use Rattle.gateway_core.proofs.WinnerLemmas.{kept_new, kept_same}
+use Rattle.gateway_core.proofs.latest.keep.Goals as goal
 use mir.Val.{SFits}
 
 pub returns-in_ok-insert : goal.returns-in_ok-insert

@@ -1,9 +1,9 @@
 -- Each item adds its record.
 use Rattle.std.proofs.Common.{◌++◌, List, ap, subst, take}
 use Rattle.journey_model.specs.Records.{Recorded}
-use Rattle.gateway.specs.Winners.{HoldsLatest, taken_in}
-use Rattle.gateway.proofs.TakenLemmas.{all_items, taken_more}
-use Rattle.gateway.proofs.latest.keep_all.Goals as goal
+use Rattle.gateway_core.specs.Winners.{HoldsLatest, taken_in}
+use Rattle.gateway_core.proofs.TakenLemmas.{all_items, taken_more}
+use Rattle.gateway_core.proofs.latest.keep_all.Goals as goal
 
 pub loop-item-preserved : goal.loop-item-preserved
 loop-item-preserved c = λ records h.

@@ -1,8 +1,8 @@
 -- the latest of the records before and of those so far are held
 use Rattle.std.proofs.Common.{◌++◌, List, take}
 use Rattle.journey_model.specs.Records.{Recorded}
-use Rattle.gateway.specs.Winners.{HoldsLatest, taken_in}
-use Rattle.gateway.proofs.latest.keep_all.Given as goal
+use Rattle.gateway_core.specs.Winners.{HoldsLatest, taken_in}
+use Rattle.gateway_core.proofs.latest.keep_all.Given as goal
 
 abbrev pub invariant-loop-item : goal.invariant-loop-item
 invariant-loop-item l =

@@ -1,10 +1,10 @@
 -- Each delivery adds its records.
 use Rattle.std.proofs.Common.{List, subst, take}
 use Rattle.journey_model.specs.Records.{Recorded}
-use Rattle.gateway.specs.Deliveries.{all_taken}
-use Rattle.gateway.specs.Winners.{HoldsLatest}
-use Rattle.gateway.proofs.TakenLemmas.{all_taken_more}
-use Rattle.gateway.proofs.latest.latest_records.Goals as goal
+use Rattle.gateway_core.specs.Deliveries.{all_taken}
+use Rattle.gateway_core.specs.Winners.{HoldsLatest}
+use Rattle.gateway_core.proofs.TakenLemmas.{all_taken_more}
+use Rattle.gateway_core.proofs.latest.latest_records.Goals as goal
 
 pub loop-one-preserved : goal.loop-one-preserved
 loop-one-preserved c =

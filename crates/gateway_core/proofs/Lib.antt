@@ -1,0 +1,5 @@
+mod FeedLemmas
+pub mod GivesLemmas
+mod ReportLemmas
+mod TakenLemmas
+mod WinnerLemmas

@@ -1,0 +1,5 @@
+pub mod Deliveries
+pub mod Feeds
+pub mod Gives
+pub mod Reports
+pub mod Winners

@@ -1,0 +1,65 @@
+//! The feed of the records that were taken. The functions meet `specs/Feeds.antt`.
+ghost use Rattle.std.specs.Prelude.{◌++◌, ◌∷◌, [], ℤ, List, IfOk, OnOk};
+ghost use Rattle.gateway_core.specs.Deliveries.{all_taken};
+ghost use Rattle.gateway_core.specs.Feeds.{IsRebuilt};
+ghost use Rattle.gateway_core.specs.Deliveries.{CanServeEach};
+ghost use Rattle.gateway_core.specs.Winners.{AreServable, IsWritten, all_held};
+ghost use Rattle.journey_model.specs.Records.{Recorded, recorded};
+ghost use Rattle.journey_model.specs.Schedules.{IsServable, schedule_of};
+
+use crate::named::Named;
+use crate::latest::{Latest, latest_records};
+use feed_messages::header_bytes;
+use gw_base::{Bytes, Moment};
+use journey_model::{Context, JourneyRecord};
+use latest_store::record_entity;
+use std::alloc::{AllocError, Global};
+
+// Adds the entity of a record.
+fn add_entity(
+    feed: &mut Bytes,
+    alloc: Global,
+    context: &Context<'_>,
+    rec: &JourneyRecord,
+) -> Result<(), AllocError>
+    requires { IsServable (schedule_of context.now) rec.now.trip.0 rec.now.day rec.now.reading }
+    ensures { (at : ℤ) (records : List Recorded)
+        → IsWritten at (schedule_of context.now) records feed.old
+        → OnOk result
+        (IsWritten at (schedule_of context.now) (records ++ recorded rec.now ∷ []) feed.new) }
+{
+    let bytes = record_entity(alloc, context, rec)?;
+    feed.extend(bytes.as_slice())
+}
+
+// The feed of the records that are held, in their order.
+fn written(
+    alloc: Global,
+    at: Moment,
+    context: &Context<'_>,
+    latest: &Latest<'_>,
+) -> Result<Bytes, AllocError>
+    requires { AreServable (schedule_of context.now) (all_held latest.now) }
+    ensures { IfOk result (λ feed. IsWritten at (schedule_of context.now) (all_held latest.now) feed) }
+{
+    let mut feed = Bytes::copied(alloc, header_bytes(at).as_slice())?;
+    for rec in latest.values() {
+        add_entity(&mut feed, alloc, context, rec)?;
+    }
+    Ok(feed)
+}
+
+/// The bytes of a full dataset that is made at that moment: its header, and the entity of the latest
+/// record of each journey, by service day and then trip (GTFS Realtime, FeedMessage).
+pub fn rebuilt(
+    alloc: Global,
+    at: Moment,
+    context: &Context<'_>,
+    deliveries: &[Named],
+) -> Result<Bytes, AllocError>
+    requires { CanServeEach (schedule_of context.now) deliveries.now }
+    ensures { IfOk result (λ feed. IsRebuilt at (schedule_of context.now) (all_taken deliveries.now) feed) }
+{
+    let latest = latest_records(alloc, deliveries)?;
+    written(alloc, at, context, &latest)
+}

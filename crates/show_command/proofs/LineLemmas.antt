@@ -1,0 +1,139 @@
+-- The times of the stops of a journey are moments; and its readings are one for each stop.
+use Rattle.std.proofs.Common.{◌≡◌, ◌==◌, ◌&&◌, ◌<◌, ◌≤◌, ◌∷◌, [], ℕ, suc, ℤ, pos, ◌+ℤ◌, ◌-ℤ◌, Bool, true, false, List, length, take, drop, get_or, Option, Some, None, option_map, refl, sym, subst, ap, arith}
+use Rattle.std.specs.Prelude.{All, nat_le, nat_lt, slice_get}
+use Rattle.std.proofs.lemmas.Bool.{false≢true}
+use Rattle.std.proofs.lemmas.Int.{ints}
+use Rattle.std.proofs.lemmas.Option.{none-some}
+use Rattle.std.proofs.lemmas.List.Elements.{All-get_or, All-from_recursion}
+use Rattle.std.specs.List.{AllByRecursion, list_all}
+use Rattle.service_day.specs.Starts.{IsDayStart}
+use Rattle.service_day.specs.Utc.{IsMoment}
+use Rattle.service_day.specs.Windows.{start_in}
+use Rattle.stop_schedule.proofs.StopStep.{all-at}
+use Rattle.stop_schedule.specs.Held.{are_in_range, is_in_range, stops_held}
+use Rattle.stop_schedule.specs.Planned.{planned}
+use Rattle.stop_schedule.specs.Stops.{are_known, are_rising, are_stops_of, are_timed, is_timed}
+use Rattle.stop_schedule.specs.declared.carried.CarriedTrip.{CarriedTrip}
+use Rattle.stop_schedule.specs.declared.stop_times.StopRow.{StopRow}
+use Rattle.journey_model.specs.Dated.{run_of}
+use Rattle.journey_model.specs.Readings.{are_near, fits_trip, is_near}
+use Rattle.journey_model.specs.Runs.{Run}
+use Rattle.journey_model.specs.Schedules.{FitsSchedule, Schedule, run_from, run_on}
+use Rattle.journey_model.specs.declared.context.DatedTrip.{DatedTrip}
+use Rattle.journey_model.specs.declared.readings.JourneyReading.{JourneyReading}
+use Rattle.journey_model.specs.Times.{is_delay}
+use Rattle.journey_model.specs.declared.readings.DatedReading.{DatedReading}
+use Rattle.journey_model.specs.declared.readings.StopReading.{StopReading}
+use Rattle.journey_model.specs.declared.readings.StopReading.TheVariants.{Absent, Skipped, Timed}
+use Rattle.propagation.specs.Feeds.{IsServable}
+use Rattle.show_command.specs.Lines.{AreMoments}
+
+-- what is read of a feed fits its schedule
+pub servable_fits : (schedule : Schedule) (journeys : List DatedReading) → All (IsServable schedule) journeys
+    → All (λ one. FitsSchedule schedule one.trip.0 one.day one.reading) journeys
+servable_fits schedule journeys servable = λ place one within.
+    let each = servable place one within in
+    record { trip_in = each.trip_in; run = each.run; on_day = each.on_day; fits = each.fits }
+
+-- what holds of all holds of the one at a place
+pub at_place : {X : Type 0} (P : X → Type 0) (xs : List X) (place : ℕ) (x : X) → All P xs → place < length xs → x ≡ get_or xs place x → P x
+at_place P xs place x all within is = subst P (sym is) (All-get_or P xs place x within all)
+
+both : (a b : Bool) → (a && b) ≡ true → (a ≡ true) × (b ≡ true)
+both true true h = (refl, refl)
+both true false h = absurd (false≢true h)
+both false b h = absurd (false≢true h)
+
+-- a time within a week of a planned one is a moment
+near_moment : (start : ℤ) (second : ℕ) (time : ℤ) → IsDayStart start → second ≤ 359999 → is_delay (time -ℤ (start +ℤ pos second)) ≡ true → IsMoment time
+near_moment start second time begins timed near = grind (arith, ints)
+
+second_in : (second : ℕ) → nat_le second 359999 ≡ true → second ≤ 359999
+second_in second h = grind arith
+
+stop_moments : (start : ℤ) (row : StopRow) (reading : StopReading) → IsDayStart start → is_timed row ≡ true → is_near (planned start row) reading ≡ true → AreMoments reading
+stop_moments start row Absent begins timed near = tt
+stop_moments start row Skipped begins timed near = tt
+stop_moments start row (Timed arrival departure) begins timed near =
+    let seconds = both (nat_le row.arrival 359999) (nat_le row.departure 359999) timed in
+    let delays = both (is_delay (arrival -ℤ (start +ℤ pos row.arrival))) (is_delay (departure -ℤ (start +ℤ pos row.departure))) near in (
+      near_moment start row.arrival arrival begins (second_in row.arrival seconds.0) delays.0,
+      near_moment start row.departure departure begins (second_in row.departure seconds.1) delays.1,
+    )
+
+-- a reading that fits a schedule fits the trip on its day
+pub fits_dated : (schedule : Schedule) (trip : ℕ) (day : ℤ) (reading : JourneyReading) (ids : List (List ℕ)) (dated : DatedTrip) → FitsSchedule schedule trip day reading
+    → option_map (run_of ids) (Some dated) ≡ run_on schedule trip day → fits_trip dated.start dated.stops.now reading ≡ true
+fits_dated schedule trip day reading ids dated fits on_day =
+    let found = fits.on_day in
+    let same : run_of ids dated ≡ fits.run = cc in
+    let P : Run → Type 0 = λ run. fits_trip run.start run.stops reading ≡ true in
+    subst P (sym same) fits.fits
+
+-- and the trip's stops are those of the timetable
+pub stops_dated : (schedule : Schedule) (trip : ℕ) (day : ℤ) (reading : JourneyReading) (ids : List (List ℕ)) (dated : DatedTrip) → FitsSchedule schedule trip day reading
+    → option_map (run_of ids) (Some dated) ≡ run_on schedule trip day → dated.stops.now ≡ schedule.table.stops_of trip
+stops_dated schedule trip day reading ids dated fits on_day = by (start_in schedule.window day) on_day fits.on_day
+  where
+    by : (start : Option ℤ) → option_map (run_of ids) (Some dated) ≡ option_map (run_from schedule.table trip) start → option_map (run_from schedule.table trip) start ≡ Some fits.run
+        → dated.stops.now ≡ schedule.table.stops_of trip
+    by (Some start) is found =
+        let same : run_of ids dated ≡ run_from schedule.table trip start = cc in
+        ap (λ (run : Run). run.stops) same
+    by None is found = absurd (none-some fits.run found)
+
+-- the stops of a trip are stops of the timetable
+known_stops : (stops : ℕ) (rows : List StopRow) → are_stops_of stops rows ≡ true → are_known stops rows ≡ true
+known_stops stops rows h =
+    let behind_few = both (nat_le (length rows) 250) (are_rising rows && (are_known stops rows && are_timed rows)) h in
+    let behind_rising = both (are_rising rows) (are_known stops rows && are_timed rows) behind_few.1 in
+    (both (are_known stops rows) (are_timed rows) behind_rising.1).0
+
+of_trip : (routes stops : ℕ) (rows : List StopRow) (one : CarriedTrip) → is_in_range routes stops rows one ≡ true → are_stops_of stops (drop one.first (take one.end rows)) ≡ true
+of_trip routes stops rows one h =
+    let its : Bool = are_stops_of stops (drop one.first (take one.end rows)) in
+    let behind_route = both (nat_lt one.route routes) (nat_le one.first one.end && (nat_le one.end (length rows) && its)) h in
+    let behind_first = both (nat_le one.first one.end) (nat_le one.end (length rows) && its) behind_route.1 in
+    (both (nat_le one.end (length rows)) its behind_first.1).1
+
+all_in : (trips routes stops : List (List ℕ)) (carried : List CarriedTrip) (rows : List StopRow) → are_in_range trips routes stops carried rows ≡ true
+    → list_all (is_in_range (length routes) (length stops) rows) carried ≡ true
+all_in trips routes stops carried rows h =
+    let all : Bool = list_all (is_in_range (length routes) (length stops) rows) carried in
+    let behind_same = both (length carried == length trips) (nat_le (length trips) 200000 && all) h in
+    (both (nat_le (length trips) 200000) all behind_same.1).1
+
+known_at : (routes stops : ℕ) (carried : List CarriedTrip) (rows : List StopRow) (trip : ℕ) (found : Option CarriedTrip) → list_all (is_in_range routes stops rows) carried ≡ true
+    → slice_get carried trip ≡ found → are_known stops (stops_held rows found) ≡ true
+known_at routes stops carried rows trip None all is = refl
+known_at routes stops carried rows trip (Some one) all is =
+    known_stops stops (drop one.first (take one.end rows)) (of_trip routes stops rows one (all-at (is_in_range routes stops rows) carried trip one all is))
+
+pub known_held : (trips routes stops : List (List ℕ)) (carried : List CarriedTrip) (rows : List StopRow) (trip : ℕ) → are_in_range trips routes stops carried rows ≡ true
+    → are_known (length stops) (stops_held rows (slice_get carried trip)) ≡ true
+known_held trips routes stops carried rows trip in_range =
+    known_at (length routes) (length stops) carried rows trip (slice_get carried trip) (all_in trips routes stops carried rows in_range) refl
+
+-- there is one reading for each stop
+pub one_each : (start : ℤ) (rows : List StopRow) (readings : List StopReading) → are_near start rows readings ≡ true → length readings ≡ length rows
+one_each start [] [] near = refl
+one_each start [] (reading ∷ readings) near = absurd (false≢true near)
+one_each start (row ∷ rows) [] near = absurd (false≢true near)
+one_each start (row ∷ rows) (reading ∷ readings) near =
+    let rest = one_each start rows readings (both (is_near (planned start row) reading) (are_near start rows readings) near).1 in
+    ap suc rest
+
+-- and their times are moments
+all_moments : (start : ℤ) (rows : List StopRow) (readings : List StopReading) → IsDayStart start → are_timed rows ≡ true → are_near start rows readings ≡ true
+    → AllByRecursion AreMoments readings
+all_moments start [] [] begins timed near = tt
+all_moments start [] (reading ∷ readings) begins timed near = absurd (false≢true near)
+all_moments start (row ∷ rows) [] begins timed near = tt
+all_moments start (row ∷ rows) (reading ∷ readings) begins timed near =
+    let here = both (is_near (planned start row) reading) (are_near start rows readings) near in
+    let times = both (is_timed row) (are_timed rows) timed in
+    (stop_moments start row reading begins times.0 here.0, all_moments start rows readings begins times.1 here.1)
+
+pub moments : (start : ℤ) (rows : List StopRow) (readings : List StopReading) → IsDayStart start → are_timed rows ≡ true → are_near start rows readings ≡ true
+    → All AreMoments readings
+moments start rows readings begins timed near = All-from_recursion AreMoments readings (all_moments start rows readings begins timed near)

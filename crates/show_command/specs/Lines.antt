@@ -1,0 +1,81 @@
+-- What `show` prints of a feed that was read: a line for each cancelled journey and for each stop of the others, a line for
+-- each entity that was set aside, and the line of counts.
+use Rattle.std.specs.Prelude.{ℕ, ℤ, List, [], ◌++◌, codes, decimal, length, slice_get, unwrap_or}
+use Rattle.std.specs.List.{enumerate_from, flat_map, zip}
+use Rattle.service_day.specs.DayTexts.{dashed_text}
+use Rattle.service_day.specs.Utc.{IsMoment, moment_text}
+use Rattle.stop_schedule.specs.Table.{Table}
+use Rattle.stop_schedule.specs.declared.stop_times.StopRow.{StopRow}
+use Rattle.journey_model.specs.FaultTexts.{fault_text}
+use Rattle.journey_model.specs.Schedules.{Schedule}
+use Rattle.journey_model.specs.declared.fault.Fault.{Fault}
+use Rattle.journey_model.specs.declared.readings.DatedReading.{DatedReading}
+use Rattle.journey_model.specs.declared.readings.JourneyReading.{JourneyReading}
+use Rattle.journey_model.specs.declared.readings.JourneyReading.TheVariants.{Cancelled, Stops}
+use Rattle.journey_model.specs.declared.readings.StopReading.{StopReading}
+use Rattle.journey_model.specs.declared.readings.StopReading.TheVariants.{Absent, Skipped, Timed}
+use Rattle.propagation.specs.declared.feeds.FeedReading.{FeedReading}
+
+-- the id of that number
+abbrev pub id_of : List (List ℕ) → ℕ → List ℕ
+id_of ids number = unwrap_or (slice_get ids number) []
+
+-- the words for a journey: its service day as `YYYY-MM-DD` and the id of its trip
+abbrev pub journey_name : ℤ → List ℕ → List ℕ
+journey_name day trip_id = dashed_text day ++ codes " " ++ trip_id
+
+-- an arrival and a departure, each as `YYYY-MM-DDThh:mm:ssZ`
+abbrev pub times_text : ℤ → ℤ → List ℕ
+times_text arrival departure = moment_text arrival ++ codes " " ++ moment_text departure
+
+-- the words for how a stop reads
+abbrev pub reading_text : StopReading → List ℕ
+reading_text Absent = codes "absent"
+reading_text Skipped = codes "skipped"
+reading_text (Timed arrival departure) = times_text arrival departure
+
+-- the times of a stop are moments, so that they have such texts
+abbrev pub AreMoments : StopReading → Type 0
+AreMoments Absent = Unit {0}
+AreMoments Skipped = Unit {0}
+AreMoments (Timed arrival departure) = IsMoment arrival × IsMoment departure
+
+-- `DAY TRIP cancelled`
+abbrev pub cancelled_line : List ℕ → List ℕ
+cancelled_line name = name ++ codes " cancelled\n"
+
+-- `DAY TRIP K STOP READING`, for the stop of that number in its trip
+abbrev pub stop_line : List ℕ → ℕ → List ℕ → StopReading → List ℕ
+stop_line name number stop_id reading =
+    name ++ codes " " ++ decimal number ++ codes " " ++ stop_id ++ codes " " ++ reading_text reading ++ codes "\n"
+
+-- the lines of stops with how they read, numbered from 1; the ids are those of the timetable's stops
+abbrev pub numbered_line : List (List ℕ) → List ℕ → ℕ × (StopRow × StopReading) → List ℕ
+numbered_line ids name one = stop_line name one.0 (id_of ids one.1.0.stop.0) one.1.1
+
+abbrev pub stop_lines : List (List ℕ) → List ℕ → List (StopRow × StopReading) → List ℕ
+stop_lines ids name stops = flat_map (numbered_line ids name) (enumerate_from 1 stops)
+
+-- the lines of a journey
+abbrev pub reading_lines : Table → ℕ → List ℕ → JourneyReading → List ℕ
+reading_lines table trip name Cancelled = cancelled_line name
+reading_lines table trip name (Stops readings) = stop_lines table.stops name (zip (table.stops_of trip) readings)
+
+abbrev pub journey_lines : Table → DatedReading → List ℕ
+journey_lines table one = reading_lines table one.trip.0 (journey_name one.day (id_of table.trips one.trip.0)) one.reading
+
+-- `aside I FAULT`, for the entity of that number
+abbrev pub aside_line : ℕ × Fault → List ℕ
+aside_line one = codes "aside " ++ decimal one.0 ++ codes " " ++ fault_text one.1 ++ codes "\n"
+
+-- `taken T passed P aside N`
+abbrev pub count_line : ℕ → ℕ → ℕ → List ℕ
+count_line taken passed aside =
+    codes "taken " ++ decimal taken ++ codes " passed " ++ decimal passed ++ codes " aside " ++ decimal aside ++ codes "\n"
+
+-- what is shown of a feed: the journeys in the order in which they were read, the entities set aside, and the counts
+abbrev pub shown : Schedule → FeedReading → List ℕ
+shown schedule feed =
+    flat_map (journey_lines schedule.table) feed.journeys
+    ++ flat_map aside_line feed.report.aside
+    ++ count_line feed.report.taken feed.report.passed (length feed.report.aside)

@@ -1,0 +1,113 @@
+-- The times that a journey says are moments.
+use Rattle.std.proofs.Common.{◌≡◌, ℕ, ℤ, pos, negsuc, map, ap, ◌+ℤ◌, ◌-ℤ◌, ◌≤◌, ◌<◌, ◌≤ℤ◌, Bool, true, false, ◌&&◌, List, [], ◌∷◌, length, slice_get, Option, Some, None, option_map, sym, int_le, nat_le, nat_lt, refl, arith, suc, zero, ◌+◌}
+use Rattle.std.specs.List.{list_all}
+use Rattle.std.proofs.lemmas.Bool.Decides.{nat_tests}
+use Rattle.std.proofs.lemmas.Int.{ints}
+use Rattle.service_day.specs.Starts.{IsDayStart}
+use Rattle.service_day.specs.Windows.{start_in}
+use Rattle.service_day.specs.Utc.{IsMoment}
+use Rattle.stop_schedule.specs.Planned.{planned}
+use Rattle.stop_schedule.specs.Stops.{is_timed}
+use Rattle.stop_schedule.specs.declared.stop_times.StopRow.{StopRow}
+use Rattle.journey_model.specs.Readings.{are_near, fits_trip, is_near}
+use Rattle.journey_model.specs.Runs.{Run}
+use Rattle.journey_model.specs.Schedules.{Schedule, run_from, run_on}
+use Rattle.journey_model.specs.Times.{is_delay}
+use Rattle.journey_model.specs.declared.readings.JourneyReading.{JourneyReading}
+use Rattle.journey_model.specs.declared.readings.JourneyReading.TheVariants.{Cancelled, Stops}
+use Rattle.journey_model.specs.declared.readings.StopReading.{StopReading}
+use Rattle.journey_model.specs.declared.readings.StopReading.TheVariants.{Absent, Skipped, Timed}
+use Rattle.siri_calls.specs.DeliveryTree.{skipped_at, stop_readings}
+use Rattle.siri_calls.specs.DeliveryTexts.{SaysMoments}
+
+-- both of two tests
+both : (a b : Bool) → (a && b) ≡ true → (a ≡ true) × (b ≡ true)
+both true b h = (refl, h)
+both false b h = absurd (cc)
+
+-- a time at most 99:59:59 behind a start of a service day
+within_day : (start : ℤ) (seconds : ℕ) → IsDayStart start → seconds ≤ 359999 → IsMoment (start +ℤ pos seconds)
+within_day start seconds day few = omega (arith, ints, day)
+
+-- the times of a stop, as facts
+few : (row : StopRow) → is_timed row ≡ true → (row.arrival ≤ 359999) × (row.departure ≤ 359999)
+few row timed =
+    let h = both (nat_le row.arrival 359999) (nat_le row.departure 359999) timed in
+    (grind (arith, nat_tests, h.0), grind (arith, nat_tests, h.1))
+
+pub planned_times : (start : ℤ) (row : StopRow) → IsDayStart start → is_timed row ≡ true
+    → IsMoment (planned start row).0 × IsMoment (planned start row).1
+planned_times start row day timed =
+    (within_day start row.arrival day (few row timed).0, within_day start row.departure day (few row timed).1)
+
+-- a delay, as facts
+week : (delay : ℤ) → is_delay delay ≡ true → (negsuc 604799 ≤ℤ delay) × (delay ≤ℤ pos 604800)
+week delay h =
+    let both_bounds = both (int_le (negsuc 604799) delay) (int_le delay (pos 604800)) h in
+    (omega (arith, ints, both_bounds.0), omega (arith, ints, both_bounds.1))
+
+-- a time at most a week from a planned one
+near_moment : (start : ℤ) (seconds : ℕ) (time : ℤ) → IsDayStart start → seconds ≤ 359999 → is_delay (time -ℤ (start +ℤ pos seconds)) ≡ true → IsMoment time
+near_moment start seconds time day few near =
+    let bounds = week (time -ℤ (start +ℤ pos seconds)) near in
+    omega (arith, ints, day, bounds.0, bounds.1)
+
+pub says_moments : (start : ℤ) (row : StopRow) (reading : StopReading) → IsDayStart start → is_timed row ≡ true
+    → is_near (planned start row) reading ≡ true → SaysMoments reading
+says_moments start row Absent day timed near = tt
+says_moments start row Skipped day timed near = tt
+says_moments start row (Timed arrival departure) day timed near =
+    let h = both (is_delay (arrival -ℤ (planned start row).0)) (is_delay (departure -ℤ (planned start row).1)) near in
+    let seconds = few row timed in
+    (near_moment start row.arrival arrival day seconds.0 h.0, near_moment start row.departure departure day seconds.1 h.1)
+
+-- each reading of a trip is near the planned times of its stop
+pub near_at : (start : ℤ) (rows : List StopRow) (readings : List StopReading) (place : ℕ) (row : StopRow) (reading : StopReading)
+    → are_near start rows readings ≡ true → slice_get rows place ≡ Some row → slice_get readings place ≡ Some reading
+    → is_near (planned start row) reading ≡ true
+near_at start [] readings place row reading near at there = absurd (cc)
+near_at start (one ∷ rows) [] place row reading near at there = absurd (cc)
+near_at start (one ∷ rows) (first ∷ readings) zero row reading near at there =
+    let same : one ≡ row = cc in
+    let same_reading : first ≡ reading = cc in
+    rw (← same, ← same_reading) (both _ _ near).0
+near_at start (one ∷ rows) (first ∷ readings) (suc place) row reading near at there =
+    near_at start rows readings place row reading (both (is_near (planned start one) first) (are_near start rows readings) near).1 at there
+
+-- there are as many readings as stops
+pub as_many : (start : ℤ) (rows : List StopRow) (readings : List StopReading) → are_near start rows readings ≡ true → length readings ≡ length rows
+as_many start [] [] near = refl
+as_many start [] (first ∷ readings) near = absurd (cc)
+as_many start (one ∷ rows) [] near = absurd (cc)
+as_many start (one ∷ rows) (first ∷ readings) near =
+    ap suc (as_many start rows readings (both (is_near (planned start one) first) (are_near start rows readings) near).1)
+
+-- a journey that skips all stops is near
+pub all_skipped : (start : ℤ) (rows : List StopRow) → are_near start rows (map skipped_at rows) ≡ true
+all_skipped start [] = refl
+all_skipped start (row ∷ rows) = all_skipped start rows
+
+-- what holds of each of the stops holds of one
+pub each_at : (test : StopRow → Bool) (rows : List StopRow) (place : ℕ) (row : StopRow) → list_all test rows ≡ true → slice_get rows place ≡ Some row → test row ≡ true
+each_at test [] place row all at = absurd (cc)
+each_at test (one ∷ rows) zero row all at = let same : one ≡ row = cc in rw (← same) (both (test one) (list_all test rows) all).0
+each_at test (one ∷ rows) (suc place) row all at = each_at test rows place row (both (test one) (list_all test rows) all).1 at
+
+-- a journey that skips all stops skips each
+pub skipped_there : (rows : List StopRow) (place : ℕ) → place < length rows → slice_get (map skipped_at rows) place ≡ Some Skipped
+skipped_there [] place within = absurd (omega arith)
+skipped_there (row ∷ rows) zero within = refl
+skipped_there (row ∷ rows) (suc place) within = skipped_there rows place (omega arith)
+
+-- the readings of a journey that fits its trip: one near each stop
+pub fits_near : (run : Run) (reading : JourneyReading) → fits_trip run.start run.stops reading ≡ true → are_near run.start run.stops (stop_readings run reading) ≡ true
+fits_near run Cancelled fits = all_skipped run.start run.stops
+fits_near run (Stops readings) fits = fits
+
+-- a trip on a day has the trip's stops
+pub stops_on : (schedule : Schedule) (trip : ℕ) (day : ℤ) (run : Run) → run_on schedule trip day ≡ Some run → run.stops ≡ schedule.table.stops_of trip
+stops_on schedule trip day run is = by (start_in schedule.window day) is
+  where
+    by : (start : Option ℤ) → option_map (run_from schedule.table trip) start ≡ Some run → run.stops ≡ schedule.table.stops_of trip
+    by None h = absurd (cc)
+    by (Some start) h = let same : run_from schedule.table trip start ≡ run = cc in sym (ap (λ r. r.stops) same)

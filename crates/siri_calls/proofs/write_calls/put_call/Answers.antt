@@ -1,0 +1,15 @@
+-- The three pieces of a call.
+use Rattle.std.proofs.Common.{◌≡◌, [], sym}
+use Rattle.std.proofs.lemmas.Option.{get_or_from_slice_get}
+use Rattle.std.proofs.lemmas.Result.{on_ok_weaker}
+use Rattle.siri_calls.specs.DeliveryTree.{id_at}
+use Rattle.siri_calls.specs.DeliveryTexts.{call_text}
+use Rattle.siri_calls.proofs.WrittenLemmas.{three_pieces}
+use Rattle.siri_calls.proofs.write_calls.put_call.Goals as goal
+
+pub returns : goal.returns
+unfolding call_text
+returns c =
+    let id : id_at c.args.run.now.table.now.stops c.args.row.now.stop.0 ≡ c.stop_id.result.now =
+    get_or_from_slice_get c.args.run.now.table.now.stops c.args.row.now.stop.0 c.stop_id.result.now [] c.stop_id.ensures.value in
+    on_ok_weaker c.put_stop.result (λ e. rw id (three_pieces c.args.out.now _ _ _ _ _ _ (rw c.planned_times.ensures.value at c.in_ok-put_aimed.ensures) c.in_ok-put_said.ensures e)) c.put_stop.ensures

@@ -1,0 +1,38 @@
+-- One call more.
+use Rattle.std.proofs.Common.{◌≡◌, ◌∙◌, ◌+◌, ◌<◌, ◌++◌, true, nat_lt, length, get_or, slice_get, Some, ap, arith}
+use Rattle.std.proofs.lemmas.Bool.Decides.{nat_tests}
+use Rattle.std.proofs.lemmas.Option.{slice_get-get_or}
+use Rattle.stop_schedule.specs.declared.stop_times.StopRow.{StopRow}
+use Rattle.siri_calls.specs.DeliveryTree.{stop_readings}
+use Rattle.siri_calls.specs.DeliveryTexts.{call_text}
+use Rattle.siri_calls.specs.TripRuns.{run_over}
+use Rattle.siri_calls.proofs.WrittenLemmas.{calls_on, one_more}
+use Rattle.siri_calls.proofs.WrittenTimes.{fits_near, near_at}
+use Rattle.siri_calls.proofs.write_calls.put_calls.Goals as goal
+
+no_row : StopRow
+no_row = record { sequence = 0; stop = record { 0 = 0 }; arrival = 0; departure = 0 }
+
+pub put_call-requires-clause-near : goal.put_call-requires-clause-near
+unfolding no_row
+put_call-requires-clause-near c =
+    let run = run_over c.args.run.now in
+    let stops = c.args.run.now.dated.stops.now in
+    let place = c.loop-place.place in
+    let within : place < length stops = omega arith in
+    near_at run.start stops (stop_readings run c.args.reading.now) place (get_or stops place no_row) c.reading_at-reading.result
+    (fits_near run c.args.reading.now c.requires.fits) (slice_get-get_or stops place no_row within) c.reading_at-reading.ensures
+
+pub loop-place-preserved : goal.loop-place-preserved
+unfolding no_row
+loop-place-preserved c =
+    let run = run_over c.args.run.now in
+    let stops = c.args.run.now.dated.stops.now in
+    let place = c.loop-place.place in
+    let row = get_or stops place no_row in
+    let within : place < length stops = omega arith in
+    let later : nat_lt 0 (place + 1) ≡ true = grind (arith, nat_tests) in
+    let is = calls_on run place row c.reading_at-reading.result (stop_readings run c.args.reading.now) (nat_lt 0 place) (place + 1)
+             (slice_get-get_or stops place no_row within) c.reading_at-reading.ensures in
+    let added = c.in_ok-put_call.ensures ∙ ap (λ l. l ++ call_text run (place + 1) row c.reading_at-reading.result) c.in_ok-put_comma.ensures in
+    rw later (one_more _ c.loop-place.out c.put_call.new.out _ _ _ _ is added c.loop-place.invariant)

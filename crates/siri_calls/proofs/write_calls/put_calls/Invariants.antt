@@ -1,0 +1,11 @@
+-- the calls so far, and behind them the text of the others
+use Rattle.std.proofs.Common.{◌≡◌, ◌+◌, ◌++◌, false, drop, length, nat_lt}
+use Rattle.siri_calls.specs.DeliveryTree.{stop_readings}
+use Rattle.siri_calls.specs.DeliveryTexts.{calls_text}
+use Rattle.siri_calls.specs.TripRuns.{run_over}
+use Rattle.siri_calls.proofs.write_calls.put_calls.Given as goal
+
+abbrev pub invariant-loop-place : goal.invariant-loop-place
+invariant-loop-place l =
+    l.out ++ calls_text (nat_lt 0 l.place) (run_over l.run) (l.place + 1) (drop l.place l.run.dated.stops.now) (drop l.place (stop_readings (run_over l.run) l.reading))
+    ≡ l.fn.out ++ calls_text false (run_over l.run) 1 l.run.dated.stops.now (stop_readings (run_over l.run) l.reading)

@@ -1,0 +1,9 @@
+-- The three pieces of a journey's end.
+use Rattle.std.proofs.lemmas.Result.{on_ok_weaker}
+use Rattle.siri_calls.proofs.WrittenLemmas.{three_pieces}
+use Rattle.siri_calls.proofs.write_journeys.put_closing.Goals as goal
+
+pub returns : goal.returns
+returns c =
+    let first = rw c.as_bytes.ensures.value at c.in_ok-put_text.ensures in
+    on_ok_weaker c.push.result (λ e. three_pieces c.args.out.now _ _ _ _ _ _ first c.in_ok-put_moment.ensures e) c.push.ensures.added

@@ -1,0 +1,126 @@
+//! The calls of a journey (SIRI 2.0, EstimatedCall), written. The functions meet `specs/DeliveryTexts.antt`.
+ghost use Rattle.std.specs.Prelude.{◌≡◌, ◌++◌, ◌+◌, ◌<◌, true, false, length, slice_get, Some, OnOk};
+ghost use Rattle.serde_json.specs.Written.{comma_if};
+ghost use Rattle.service_day.specs.Utc.{IsMoment};
+ghost use Rattle.stop_schedule.specs.Planned.{planned};
+ghost use Rattle.stop_schedule.specs.Stops.{are_known, is_timed};
+ghost use Rattle.journey_model.specs.Readings.{fits_trip, is_near};
+ghost use Rattle.siri_calls.specs.DeliveryTree.{stop_readings};
+ghost use Rattle.siri_calls.specs.DeliveryTexts.{SaysMoments, aimed_text, call_text, calls_text, said_text, stop_text};
+ghost use Rattle.siri_calls.specs.TripRuns.{run_over};
+
+use crate::trip_run::TripRun;
+use crate::write_texts::{put_number, put_text, put_times};
+use gw_base::Bytes;
+use journey_model::{JourneyReading, StopReading};
+use std::alloc::AllocError;
+use stop_schedule::StopRow;
+
+// The planned arrival and departure of a stop, in seconds since 1970.
+#[tactic(auto, using(crate::proofs::WrittenTimes::planned_times))]
+fn planned_times(run: &TripRun<'_>, row: &StopRow) -> (i64, i64)
+    requires { is_timed row.now ≡ true }
+    ensures value { result ≡ planned run.now.dated.start row.now }
+    ensures moments { IsMoment result.0 × IsMoment result.1 }
+{
+    let start = run.dated.start;
+    (start + row.arrival as i64, start + row.departure as i64)
+}
+
+// Adds the planned times of a stop, with which its call begins.
+fn put_aimed(out: &mut Bytes, times: &(i64, i64)) -> Result<(), AllocError>
+    requires { IsMoment times.now.0 × IsMoment times.now.1 }
+    ensures { OnOk result (out.new ≡ out.old ++ aimed_text times.now) }
+{
+    put_times(
+        out,
+        (b"{\"AimedArrivalTime\":", b",\"AimedDepartureTime\":"),
+        &times.0,
+        &times.1,
+    )
+}
+
+// Adds how a stop reads.
+fn put_said(out: &mut Bytes, reading: &StopReading) -> Result<(), AllocError>
+    requires { SaysMoments reading.now }
+    ensures { OnOk result (out.new ≡ out.old ++ said_text reading.now) }
+{
+    match reading {
+        StopReading::Absent => Ok(()),
+        StopReading::Skipped => out.extend(b",\"Cancellation\":true"),
+        StopReading::Timed { arrival, departure } => put_times(
+            out,
+            (b",\"ExpectedArrivalTime\":", b",\"ExpectedDepartureTime\":"),
+            arrival,
+            departure,
+        ),
+    }
+}
+
+// Adds which stop of the trip it is, counted from 1, and its id, with which its call ends.
+fn put_stop(out: &mut Bytes, order: u64, id: &str) -> Result<(), AllocError>
+    ensures { OnOk result (out.new ≡ out.old ++ stop_text order id.now) }
+{
+    put_number(out, b",\"Order\":", order)?;
+    put_text(out, b",\"StopPointRef\":", id.as_bytes())?;
+    out.push(b'}')
+}
+
+// Adds the call at a stop, counted from 1.
+#[tactic(auto, using(crate::proofs::WrittenTimes::says_moments), unfolding(crate::specs::DeliveryTexts::call_text))]
+fn put_call(
+    out: &mut Bytes,
+    run: &TripRun<'_>,
+    order: u64,
+    row: &StopRow,
+    reading: &StopReading,
+) -> Result<(), AllocError>
+    requires timed { is_timed row.now ≡ true }
+    requires known { row.now.stop.0 < length run.now.table.now.stops }
+    requires near { is_near (planned run.now.dated.start row.now) reading.now ≡ true }
+    ensures { OnOk result (out.new ≡ out.old ++ call_text (run_over run.now) order row.now reading.now) }
+{
+    put_aimed(out, &planned_times(run, row))?;
+    put_said(out, reading)?;
+    put_stop(out, order, run.table.stop_id(row.stop))
+}
+
+// How a stop of a trip reads by its place.
+fn reading_at(run: &TripRun<'_>, reading: &JourneyReading, place: usize) -> StopReading
+    requires fits { fits_trip run.now.dated.start run.now.dated.stops.now reading.now ≡ true }
+    requires within { place < length run.now.dated.stops.now }
+    ensures { slice_get (stop_readings (run_over run.now) reading.now) place ≡ Some result }
+{
+    match reading {
+        JourneyReading::Cancelled => StopReading::Skipped,
+        JourneyReading::Stops(readings) => readings.as_slice()[place],
+    }
+}
+
+/// Adds a comma, where something stands before.
+pub(crate) fn put_comma(out: &mut Bytes, later: bool) -> Result<(), AllocError>
+    ensures { OnOk result (out.new ≡ out.old ++ comma_if later) }
+{
+    if later {
+        return out.push(b',');
+    }
+    Ok(())
+}
+
+/// Adds the calls at all stops of a trip, and the bracket that closes them.
+pub(crate) fn put_calls(
+    out: &mut Bytes,
+    run: &TripRun<'_>,
+    reading: &JourneyReading,
+) -> Result<(), AllocError>
+    requires known { are_known (length run.now.table.now.stops) run.now.dated.stops.now ≡ true }
+    requires fits { fits_trip run.now.dated.start run.now.dated.stops.now reading.now ≡ true }
+    ensures { OnOk result (out.new ≡ out.old ++ calls_text false (run_over run.now) 1 run.now.dated.stops.now (stop_readings (run_over run.now) reading.now)) }
+{
+    for place in 0..run.dated.stops.len() {
+        let reading = reading_at(run, reading, place);
+        put_comma(out, place > 0)?;
+        put_call(out, run, place as u64 + 1, &run.dated.stops[place], &reading)?;
+    }
+    out.push(b']')
+}

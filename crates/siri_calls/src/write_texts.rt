@@ -1,0 +1,121 @@
+//! Strings, moments and numbers of JSON, written behind what leads to them.
+ghost use Rattle.std.specs.Prelude.{◌≡◌, ◌++◌, ◌<◌, OnOk};
+ghost use Rattle.std.specs.Char.{digit_char};
+ghost use Rattle.json.specs.Print.{escape, escape_byte, escape_letter, quoted};
+ghost use Rattle.service_day.specs.Utc.{IsMoment};
+ghost use Rattle.siri_calls.specs.DeliveryTexts.{led, led_moment, led_number, times_text};
+
+use gw_base::Bytes;
+use itoa::Buffer;
+use service_day::write_moment;
+use std::alloc::AllocError;
+
+// The letter of a byte's short escape, or 0 where it has none.
+fn short_escape(byte: u8) -> u8
+    ensures { result ≡ escape_letter byte }
+{
+    match byte {
+        b'"' | b'\\' => byte,
+        8 => b'b',
+        12 => b'f',
+        b'\n' => b'n',
+        b'\r' => b'r',
+        b'\t' => b't',
+        _ => 0,
+    }
+}
+
+// A digit of base 16, in lower case.
+fn hex_digit(digit: u8) -> u8
+    requires { digit < 16 }
+    ensures { result ≡ digit_char digit }
+{
+    if digit < 10 {
+        b'0' + digit
+    } else {
+        b'a' - 10 + digit
+    }
+}
+
+// Adds what stands in a string for a byte.
+#[tactic(auto, unfolding(json::specs::Print::escape_byte))]
+fn put_byte(out: &mut Bytes, byte: u8) -> Result<(), AllocError>
+    ensures { OnOk result (out.new ≡ out.old ++ escape_byte byte) }
+{
+    let letter = short_escape(byte);
+    if letter > 0 {
+        return out.extend(&[b'\\', letter]);
+    }
+    if byte < 0x20 {
+        return out.extend(&[
+            b'\\',
+            b'u',
+            b'0',
+            b'0',
+            hex_digit(byte / 16),
+            hex_digit(byte % 16),
+        ]);
+    }
+    out.push(byte)
+}
+
+// Adds the inside of a string.
+fn put_escaped(out: &mut Bytes, text: &[u8]) -> Result<(), AllocError>
+    ensures { OnOk result (out.new ≡ out.old ++ escape text.now) }
+{
+    for byte in text {
+        put_byte(out, *byte)?;
+    }
+    Ok(())
+}
+
+// Adds a text as a string, by the shortest escapes (RFC 8259, section 7).
+fn put_string(out: &mut Bytes, text: &[u8]) -> Result<(), AllocError>
+    ensures { OnOk result (out.new ≡ out.old ++ quoted text.now) }
+{
+    out.push(b'"')?;
+    put_escaped(out, text)?;
+    out.push(b'"')
+}
+
+/// Adds what leads to a text, and the text as a string.
+#[tactic(auto, unfolding(crate::specs::DeliveryTexts::led))]
+pub(crate) fn put_text(out: &mut Bytes, lead: &[u8], text: &[u8]) -> Result<(), AllocError>
+    ensures { OnOk result (out.new ≡ out.old ++ led lead.now text.now) }
+{
+    out.extend(lead)?;
+    put_string(out, text)
+}
+
+/// Adds what leads to a moment, and the moment of that many seconds since 1970 as a string.
+pub(crate) fn put_moment(out: &mut Bytes, lead: &[u8], secs: &i64) -> Result<(), AllocError>
+    requires { IsMoment secs.now }
+    ensures { OnOk result (out.new ≡ out.old ++ led_moment lead.now secs.now) }
+{
+    put_text(out, lead, &write_moment(*secs))
+}
+
+/// Adds an arrival and a departure, in seconds since 1970, each behind what leads to it.
+pub(crate) fn put_times(
+    out: &mut Bytes,
+    leads: (&[u8], &[u8]),
+    arrival: &i64,
+    departure: &i64,
+) -> Result<(), AllocError>
+    requires { IsMoment arrival.now × IsMoment departure.now }
+    ensures { OnOk result (out.new ≡ out.old
+        ++ times_text leads.entry.0.now leads.entry.1.now (arrival.now, departure.now)) }
+{
+    put_moment(out, leads.0, arrival)?;
+    put_moment(out, leads.1, departure)
+}
+
+/// Adds what leads to a number, and the number in decimal.
+#[tactic(auto, unfolding(crate::specs::DeliveryTexts::led_number))]
+pub(crate) fn put_number(out: &mut Bytes, lead: &[u8], number: u64) -> Result<(), AllocError>
+    ensures { OnOk result (out.new ≡ out.old ++ led_number lead.now number) }
+{
+    let mut digits = Buffer::new();
+    out.extend(lead)?;
+    out.extend(digits.format(number).as_bytes())
+}
