@@ -8,5 +8,6 @@ pub mod Readings
 pub mod Records
 pub mod Runs
 pub mod Schedules
+pub mod Situations
 pub mod Times
 pub mod Updates

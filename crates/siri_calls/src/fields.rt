@@ -34,7 +34,7 @@ fn required<T>(member: Member, form: Form<T>) -> Result<T, Fault>
 }
 
 /// A Flag that may be missing.
-pub(crate) fn optional_flag(tree: &Value, member: Member) -> Result<Option<bool>, Fault>
+pub fn optional_flag(tree: &Value, member: Member) -> Result<Option<bool>, Fault>
     ensures { result ≡ spec.optional_member forms.flag member (view tree.now) }
 {
     match tree.get(member.name()) {
@@ -44,7 +44,7 @@ pub(crate) fn optional_flag(tree: &Value, member: Member) -> Result<Option<bool>
 }
 
 /// A Whole that may be missing.
-pub(crate) fn optional_whole(tree: &Value, member: Member) -> Result<Option<u64>, Fault>
+pub fn optional_whole(tree: &Value, member: Member) -> Result<Option<u64>, Fault>
     ensures { result ≡ spec.optional_member forms.whole member (view tree.now) }
 {
     match tree.get(member.name()) {
@@ -54,7 +54,7 @@ pub(crate) fn optional_whole(tree: &Value, member: Member) -> Result<Option<u64>
 }
 
 /// A Text that may be missing.
-pub(crate) fn optional_text(tree: &Value, member: Member) -> Result<Option<&str>, Fault>
+pub fn optional_text(tree: &Value, member: Member) -> Result<Option<&str>, Fault>
     ensures { optional_text result ≡ spec.optional_member forms.text member (view tree.now) }
 {
     match tree.get(member.name()) {
@@ -64,7 +64,7 @@ pub(crate) fn optional_text(tree: &Value, member: Member) -> Result<Option<&str>
 }
 
 /// A moment that may be missing.
-pub(crate) fn optional_moment(
+pub fn optional_moment(
     tree: &Value,
     member: Member,
     zone: &Zone,
@@ -79,7 +79,7 @@ pub(crate) fn optional_moment(
 }
 
 /// An object that may be missing.
-pub(crate) fn optional_object(tree: &Value, member: Member) -> Result<Option<&Value>, Fault>
+pub fn optional_object(tree: &Value, member: Member) -> Result<Option<&Value>, Fault>
     ensures { optional_tree result ≡ spec.optional_member forms.object_form member (view tree.now) }
 {
     match tree.get(member.name()) {
@@ -89,7 +89,7 @@ pub(crate) fn optional_object(tree: &Value, member: Member) -> Result<Option<&Va
 }
 
 /// A Text that has to be there.
-pub(crate) fn required_text(tree: &Value, member: Member) -> Result<&str, Fault>
+pub fn required_text(tree: &Value, member: Member) -> Result<&str, Fault>
     ensures { required_text result ≡ spec.required_member forms.text member (view tree.now) }
 {
     match tree.get(member.name()) {
@@ -99,7 +99,7 @@ pub(crate) fn required_text(tree: &Value, member: Member) -> Result<&str, Fault>
 }
 
 /// A day that has to be there.
-pub(crate) fn required_day(tree: &Value, member: Member) -> Result<Day, Fault>
+pub fn required_day(tree: &Value, member: Member) -> Result<Day, Fault>
     ensures { result ≡ spec.required_member forms.day member (view tree.now) }
 {
     match tree.get(member.name()) {
@@ -109,7 +109,7 @@ pub(crate) fn required_day(tree: &Value, member: Member) -> Result<Day, Fault>
 }
 
 /// An object that has to be there.
-pub(crate) fn required_object(tree: &Value, member: Member) -> Result<&Value, Fault>
+pub fn required_object(tree: &Value, member: Member) -> Result<&Value, Fault>
     ensures { required_tree result ≡ spec.required_member forms.object_form member (view tree.now) }
 {
     match tree.get(member.name()) {
@@ -119,7 +119,7 @@ pub(crate) fn required_object(tree: &Value, member: Member) -> Result<&Value, Fa
 }
 
 /// A repeated element that may be missing, whose items are objects.
-pub(crate) fn optional_objects(tree: &Value, member: Member) -> Result<Option<&[Value]>, Fault>
+pub fn optional_objects(tree: &Value, member: Member) -> Result<Option<&[Value]>, Fault>
     ensures { optional_trees result ≡ spec.optional_member forms.objects member (view tree.now) }
 {
     match tree.get(member.name()) {

@@ -64,7 +64,7 @@ fn plain_text(tree: &Value) -> Form<&str>
 }
 
 /// A Text.
-pub(crate) fn text(tree: &Value) -> Form<&str>
+pub fn text(tree: &Value) -> Form<&str>
     ensures { text_form result ≡ spec.text (view tree.now) }
 {
     match tree {
@@ -88,7 +88,7 @@ fn flag_named(text: &str) -> Form<bool>
 }
 
 /// A Flag: a Boolean, or a Text among `true`, `1`, `false` and `0`.
-pub(crate) fn flag(tree: &Value) -> Form<bool>
+pub fn flag(tree: &Value) -> Form<bool>
     ensures { result ≡ spec.flag (view tree.now) }
 {
     match tree {
@@ -122,7 +122,7 @@ fn whole_named(text: &str) -> Form<u64>
 }
 
 /// A Whole: a number in decimal digits alone, or a Text of 1 to 20 decimal digits, below 2^64.
-pub(crate) fn whole(tree: &Value) -> Form<u64>
+pub fn whole(tree: &Value) -> Form<u64>
     ensures { result ≡ spec.whole (view tree.now) }
 {
     match tree {
@@ -139,7 +139,7 @@ pub(crate) fn whole(tree: &Value) -> Form<u64>
 }
 
 /// The moment that a Text names in a zone.
-pub(crate) fn moment(tree: &Value, zone: &Zone) -> Form<Instant>
+pub fn moment(tree: &Value, zone: &Zone) -> Form<Instant>
     ensures { moment_form result ≡ spec.moment zone.now (view tree.now) }
 {
     match text(tree) {
@@ -153,7 +153,7 @@ pub(crate) fn moment(tree: &Value, zone: &Zone) -> Form<Instant>
 }
 
 /// The day that a Text names, dashed or compact.
-pub(crate) fn day(tree: &Value) -> Form<Day>
+pub fn day(tree: &Value) -> Form<Day>
     ensures { result ≡ spec.day (view tree.now) }
 {
     match text(tree) {
@@ -167,7 +167,7 @@ pub(crate) fn day(tree: &Value) -> Form<Day>
 }
 
 /// An object.
-pub(crate) fn object_form(tree: &Value) -> Form<&Value>
+pub fn object_form(tree: &Value) -> Form<&Value>
     ensures { tree_form result ≡ spec.object_form (view tree.now) }
 {
     match tree {
@@ -189,7 +189,7 @@ pub(crate) fn object_form(tree: &Value) -> Form<&Value>
 }
 
 /// The items of a repeated element, which is an array or one item.
-pub(crate) fn repeated(tree: &Value) -> &[Value]
+pub fn repeated(tree: &Value) -> &[Value]
     ensures { map view result.now ≡ spec.repeated (view tree.now) }
 {
     match tree {
@@ -201,21 +201,21 @@ pub(crate) fn repeated(tree: &Value) -> &[Value]
 }
 
 /// Whether a tree is an object.
-pub(crate) fn is_object(tree: &Value) -> bool
+pub fn is_object(tree: &Value) -> bool
     ensures { result ≡ spec.is_object (view tree.now) }
 {
     matches!(tree, Value::Object(_))
 }
 
 /// Whether each of some trees is an object.
-pub(crate) fn are_objects(trees: &[Value]) -> bool
+pub fn are_objects(trees: &[Value]) -> bool
     ensures { result ≡ list_all (λ tree. spec.is_object (view tree)) trees.now }
 {
     trees.iter().all(|tree| is_object(tree))
 }
 
 /// A repeated element whose items are objects.
-pub(crate) fn objects(tree: &Value) -> Form<&[Value]>
+pub fn objects(tree: &Value) -> Form<&[Value]>
     ensures { trees_form result ≡ spec.objects (view tree.now) }
 {
     let trees = repeated(tree);

@@ -29,8 +29,8 @@ pub(crate) struct Place<'a> {
     pub service: Option<&'a Value>,
 }
 
-// The form of an object under a name.
-fn object_at(tree: &Value, member: Member) -> Form<&Value>
+/// The form of an object under a name.
+pub fn object_at(tree: &Value, member: Member) -> Form<&Value>
     ensures { tree_form result ≡ member_form object_form member (view tree.now) }
 {
     match tree.get(member.name()) {
@@ -53,8 +53,8 @@ fn siri(root: &Value) -> Result<&Value, Member>
     }
 }
 
-// The service delivery of a root.
-fn service_in(root: &Value) -> Result<&Value, Member>
+/// The service delivery of a root (SIRI 2.0, Siri and ServiceDelivery), or the member that is wrong.
+pub fn service_in(root: &Value) -> Result<&Value, Member>
     ensures { ok_map (λ tree. view tree.now) result ≡ spec.service_in (view root.now) }
 {
     let body = siri(root)?;
@@ -84,7 +84,7 @@ fn deliveries_in(service: &Value) -> Result<&[Value], Member>
 }
 
 /// The items of an element that may be missing.
-pub(crate) fn repeated_under(tree: &Value, member: Member) -> &[Value]
+pub fn repeated_under(tree: &Value, member: Member) -> &[Value]
     ensures { map view result.now ≡ spec.repeated_under member (view tree.now) }
 {
     match tree.get(member.name()) {

@@ -7,9 +7,9 @@ mod calls;
 mod delays;
 mod delivery;
 mod dense;
-mod fields;
-mod forms;
-mod frame;
+pub mod fields;
+pub mod forms;
+pub mod frame;
 mod header;
 mod items;
 mod judgement;
@@ -17,7 +17,7 @@ mod judging;
 #[cfg(test)]
 mod judging_tests;
 mod matching_calls;
-mod read_fault;
+pub mod read_fault;
 #[cfg(test)]
 mod tests;
 mod trip_run;

@@ -4,7 +4,7 @@ use std::alloc::{AllocError, AllocFailed};
 
 /// Why an item isn't read.
 #[derive(Clone, Copy, Debug, PartialEq, Eq)]
-pub(crate) enum ReadFault {
+pub enum ReadFault {
     /// It is set aside.
     Aside(Fault),
     /// Want of memory.
