@@ -36,7 +36,7 @@ moment_tree secs = string (moment_text secs)
 
 -- the id of a stop or a trip by its number
 abbrev pub id_at : List (List ℕ) → ℕ → List ℕ
-id_at ids number = slice_index_or ids number []
+id_at ids place = slice_index_or ids place []
 
 -- the planned times of a stop
 abbrev pub aimed_members : ℤ × ℤ → List (List ℕ × Data)

@@ -13,14 +13,14 @@ use Rattle.siri_calls.specs.Fields.{optional_member, required_member}
 use Rattle.siri_calls.specs.Forms.{text, day}
 use Rattle.stop_schedule.specs.Table.{Table}
 use Rattle.siri_situations.specs.Steps.{gather, trees_at, walk}
-use Rattle.siri_situations.specs.declared.affected.Affected.{Affected}
-use Rattle.siri_situations.specs.declared.affected.Affected.TheVariants.{Line, StopPoint, VehicleJourney}
+use Rattle.siri_situations.specs.declared.affected.AffectedKind.{AffectedKind}
+use Rattle.siri_situations.specs.declared.affected.AffectedKind.TheVariants.{Line, StopPoint, VehicleJourney}
 use Rattle.siri_situations.specs.declared.affected.Reference.{Reference}
 use Rattle.siri_situations.specs.declared.steps.Step.{Step}
 use Rattle.siri_situations.specs.declared.steps.Step.TheVariants.{Object, Repeated}
 
 -- the way from Affects to the objects that hold the references of a kind
-abbrev pub steps : Affected → List Step
+abbrev pub steps : AffectedKind → List Step
 steps Line = Object Member.Networks ∷ Repeated Member.AffectedNetwork ∷ Repeated Member.AffectedLine ∷ []
 steps StopPoint = Object Member.StopPoints ∷ Repeated Member.AffectedStopPoint ∷ []
 steps VehicleJourney =
@@ -46,7 +46,7 @@ journey_named table on id = record {
 }
 
 -- the reference that an object holds: one without its last member is passed over, but a journey needs its day and its id
-abbrev pub reference : Affected → Table → Data → Result (List Reference) Fault
+abbrev pub reference : AffectedKind → Table → Data → Result (List Reference) Fault
 reference Line table tree = do
   id ← optional_member text Member.LineRef tree
   Ok (map (line_named table) (option_to_list id))
@@ -62,17 +62,17 @@ reference VehicleJourney table tree = do
 abbrev pub day_in_form : Data → Bool
 day_in_form tree = is_ok (required_member day Member.DataFrameRef tree)
 
-abbrev pub days_in_form : Affected → List Data → Bool
+abbrev pub days_in_form : AffectedKind → List Data → Bool
 days_in_form Line trees = true
 days_in_form StopPoint trees = true
 days_in_form VehicleJourney trees = list_all day_in_form trees
 
-abbrev pub references_in : Affected → Table → List Data → Result (List Reference) Fault
+abbrev pub references_in : AffectedKind → Table → List Data → Result (List Reference) Fault
 references_in kind table trees =
     if days_in_form kind trees then gather (reference kind table) trees else Err (BadField Member.DataFrameRef)
 
 -- the references of a kind below Affects
-abbrev pub references_by : Affected → Table → List Data → Result (List Reference) Fault
+abbrev pub references_by : AffectedKind → Table → List Data → Result (List Reference) Fault
 references_by kind table affects = do
   trees ← walk (steps kind) affects
   references_in kind table trees

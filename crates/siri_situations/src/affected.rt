@@ -1,9 +1,12 @@
 //! What a situation affects. The functions meet `specs/Affected.antt`.
-ghost use Rattle.std.specs.Prelude.{◌≡◌, ◌++◌, ◌∷◌, [], Ok, IfErr, IfOk, map, option_to_list};
+ghost use Rattle.std.specs.Prelude.{◌≡◌, ◌++◌, Ok, IfErr, IfOk, map};
+ghost use Rattle.std.specs.List.{list_all};
 ghost use Rattle.serde_json.specs.View.{view};
 ghost use Rattle.siri_calls.specs.Shown.{ok_map, IsFaultOf};
 ghost use Rattle.siri_situations.specs.Affected as spec;
 ghost use Rattle.siri_situations.specs.Shown.{all_seen};
+ghost use Rattle.siri_situations.specs.Steps.{gather};
+ghost use Rattle.siri_situations.specs.declared.affected.AffectedKind.TheVariants as AffectedKind;
 ghost use Rattle.stop_schedule.specs.Seen.{seen};
 
 use crate::steps::{Step, trees_at, walk};
@@ -18,7 +21,7 @@ use stop_schedule::Timetable;
 
 /// What may be affected (SIRI 2.0, AffectedLine, AffectedStopPoint, AffectedVehicleJourney).
 #[derive(Clone, Copy, Debug, PartialEq, Eq)]
-pub(crate) enum Affected {
+pub(crate) enum AffectedKind {
     /// A line, which is a route.
     Line,
     /// A stop point.
@@ -37,20 +40,20 @@ pub(crate) struct Reference {
 }
 
 // The way from Affects to the objects that hold the references of a kind.
-fn steps(kind: Affected) -> &'static [Step]
+fn steps(kind: AffectedKind) -> &'static [Step]
     ensures { result.now ≡ spec.steps kind }
 {
     match kind {
-        Affected::Line => &[
+        AffectedKind::Line => &[
             Step::Object(Member::Networks),
             Step::Repeated(Member::AffectedNetwork),
             Step::Repeated(Member::AffectedLine),
         ],
-        Affected::StopPoint => &[
+        AffectedKind::StopPoint => &[
             Step::Object(Member::StopPoints),
             Step::Repeated(Member::AffectedStopPoint),
         ],
-        Affected::VehicleJourney => &[
+        AffectedKind::VehicleJourney => &[
             Step::Object(Member::VehicleJourneys),
             Step::Repeated(Member::AffectedVehicleJourney),
             Step::Object(Member::FramedVehicleJourneyRef),
@@ -92,36 +95,74 @@ fn journey_named(table: &Timetable, day: Day, id: &str) -> Reference
     }
 }
 
-// The reference to a journey that an object holds.
-fn journey_reference(table: &Timetable, tree: &Value) -> Result<Reference, Fault>
-    ensures { ok_map (λ one. one ∷ []) result
-        ≡ spec.reference Affected.VehicleJourney (seen table.now) (view tree.now) }
+// The line that an object names, if it names one, behind the references that were found before.
+fn add_line(found: &mut List<Reference>, table: &Timetable, tree: &Value) -> Result<(), ReadFault>
+    ensures found { IfOk result (λ _. ok_map (λ rest. found.old ++ rest)
+        (spec.reference AffectedKind.Line (seen table.now) (view tree.now)) ≡ Ok found.new) }
+    ensures fault { IfErr result
+        (IsFaultOf (spec.reference AffectedKind.Line (seen table.now) (view tree.now))) }
+{
+    match optional_text(tree, Member::LineRef) {
+        Ok(Some(id)) => {
+            found.push(line_named(table, id))?;
+            Ok(())
+        }
+        Ok(None) => Ok(()),
+        Err(fault) => Err(ReadFault::Aside(fault)),
+    }
+}
+
+// The stop that an object names, if it names one, behind the references that were found before.
+fn add_stop(found: &mut List<Reference>, table: &Timetable, tree: &Value) -> Result<(), ReadFault>
+    ensures found { IfOk result (λ _. ok_map (λ rest. found.old ++ rest)
+        (spec.reference AffectedKind.StopPoint (seen table.now) (view tree.now)) ≡ Ok found.new) }
+    ensures fault { IfErr result
+        (IsFaultOf (spec.reference AffectedKind.StopPoint (seen table.now) (view tree.now))) }
+{
+    match optional_text(tree, Member::StopPointRef) {
+        Ok(Some(id)) => {
+            found.push(stop_named(table, id))?;
+            Ok(())
+        }
+        Ok(None) => Ok(()),
+        Err(fault) => Err(ReadFault::Aside(fault)),
+    }
+}
+
+// The journey that an object names, behind the references that were found before.
+fn add_journey(
+    found: &mut List<Reference>,
+    table: &Timetable,
+    tree: &Value,
+) -> Result<(), ReadFault>
+    ensures found { IfOk result (λ _. ok_map (λ rest. found.old ++ rest)
+        (spec.reference AffectedKind.VehicleJourney (seen table.now) (view tree.now))
+        ≡ Ok found.new) }
+    ensures fault { IfErr result
+        (IsFaultOf (spec.reference AffectedKind.VehicleJourney (seen table.now) (view tree.now))) }
 {
     let day = required_day(tree, Member::DataFrameRef)?;
     let id = required_text(tree, Member::DatedVehicleJourneyRef)?;
-    Ok(journey_named(table, day, id))
+    found.push(journey_named(table, day, id))?;
+    Ok(())
 }
 
-// The reference of a kind that an object holds, if it holds one.
-fn reference(kind: Affected, table: &Timetable, tree: &Value) -> Result<Option<Reference>, Fault>
-    ensures { ok_map option_to_list result
-        ≡ spec.reference kind (seen table.now) (view tree.now) }
+// The reference of a kind that an object holds, if it holds one, behind those that were found before.
+fn add_reference(
+    found: &mut List<Reference>,
+    kind: AffectedKind,
+    table: &Timetable,
+    tree: &Value,
+) -> Result<(), ReadFault>
+    ensures found { IfOk result (λ _. ok_map (λ rest. found.old ++ rest)
+        (spec.reference kind (seen table.now) (view tree.now)) ≡ Ok found.new) }
+    ensures fault { IfErr result
+        (IsFaultOf (spec.reference kind (seen table.now) (view tree.now))) }
 {
     match kind {
-        Affected::Line => match optional_text(tree, Member::LineRef) {
-            Ok(Some(id)) => Ok(Some(line_named(table, id))),
-            Ok(None) => Ok(None),
-            Err(fault) => Err(fault),
-        },
-        Affected::StopPoint => match optional_text(tree, Member::StopPointRef) {
-            Ok(Some(id)) => Ok(Some(stop_named(table, id))),
-            Ok(None) => Ok(None),
-            Err(fault) => Err(fault),
-        },
-        Affected::VehicleJourney => match journey_reference(table, tree) {
-            Ok(one) => Ok(Some(one)),
-            Err(fault) => Err(fault),
-        },
+        AffectedKind::Line => add_line(found, table, tree),
+        AffectedKind::StopPoint => add_stop(found, table, tree),
+        AffectedKind::VehicleJourney => add_journey(found, table, tree),
     }
 }
 
@@ -132,50 +173,69 @@ fn day_in_form(tree: &Value) -> bool
     required_day(tree, Member::DataFrameRef).is_ok()
 }
 
-// Whether the days of all journeys have their form.
-fn days_in_form(kind: Affected, trees: &[&Value]) -> bool
+// Whether the day of each journey has its form.
+fn each_day_in_form(trees: &[&Value]) -> bool
+    ensures { result ≡ list_all (λ tree. spec.day_in_form (view tree.now)) trees.now }
+{
+    trees.iter().all(|tree| day_in_form(tree))
+}
+
+// Whether the days have their form, where objects hold references to journeys.
+fn days_in_form(kind: AffectedKind, trees: &[&Value]) -> bool
     ensures { result ≡ spec.days_in_form kind (all_seen trees.now) }
 {
     match kind {
-        Affected::Line | Affected::StopPoint => true,
-        Affected::VehicleJourney => trees.iter().all(|tree| day_in_form(tree)),
+        AffectedKind::Line | AffectedKind::StopPoint => true,
+        AffectedKind::VehicleJourney => each_day_in_form(trees),
     }
 }
 
 // The references that objects hold, behind those that were found before.
-fn add_references(
-    found: &mut Vec<Reference>,
-    kind: Affected,
+fn gather_references(
+    found: &mut List<Reference>,
+    kind: AffectedKind,
     table: &Timetable,
     trees: &[&Value],
 ) -> Result<(), ReadFault>
-    ensures found { IfOk result (λ _. ok_map (λ rest. found.old.items ++ rest)
-        (spec.references_in kind (seen table.now) (all_seen trees.now)) ≡ Ok found.new.items) }
+    ensures found { IfOk result (λ _. ok_map (λ rest. found.old ++ rest)
+        (gather (spec.reference kind (seen table.now)) (all_seen trees.now)) ≡ Ok found.new) }
+    ensures fault { IfErr result
+        (IsFaultOf (gather (spec.reference kind (seen table.now)) (all_seen trees.now))) }
+{
+    for tree in trees {
+        add_reference(found, kind, table, tree)?;
+    }
+    Ok(())
+}
+
+// The same, where the days of all journeys have their form.
+fn add_references(
+    found: &mut List<Reference>,
+    kind: AffectedKind,
+    table: &Timetable,
+    trees: &[&Value],
+) -> Result<(), ReadFault>
+    ensures found { IfOk result (λ _. ok_map (λ rest. found.old ++ rest)
+        (spec.references_in kind (seen table.now) (all_seen trees.now)) ≡ Ok found.new) }
     ensures fault { IfErr result
         (IsFaultOf (spec.references_in kind (seen table.now) (all_seen trees.now))) }
 {
     if !days_in_form(kind, trees) {
         return Err(ReadFault::Aside(Fault::BadField(Member::DataFrameRef)));
     }
-    for tree in trees {
-        let one = reference(kind, table, tree)?;
-        if let Some(one) = one {
-            found.push(one)?;
-        }
-    }
-    Ok(())
+    gather_references(found, kind, table, trees)
 }
 
 // The references of a kind below Affects, behind those that were found before.
 fn add_affected(
     alloc: Global,
-    found: &mut Vec<Reference>,
-    kind: Affected,
+    found: &mut List<Reference>,
+    kind: AffectedKind,
     table: &Timetable,
     affects: &[Value],
 ) -> Result<(), ReadFault>
-    ensures found { IfOk result (λ _. ok_map (λ rest. found.old.items ++ rest)
-        (spec.references_by kind (seen table.now) (map view affects.now)) ≡ Ok found.new.items) }
+    ensures found { IfOk result (λ _. ok_map (λ rest. found.old ++ rest)
+        (spec.references_by kind (seen table.now) (map view affects.now)) ≡ Ok found.new) }
     ensures fault { IfErr result
         (IsFaultOf (spec.references_by kind (seen table.now) (map view affects.now))) }
 {
@@ -191,16 +251,22 @@ fn references_below(
     alloc: Global,
     table: &Timetable,
     affects: &[Value],
-) -> Result<Vec<Reference>, ReadFault>
+) -> Result<List<Reference>, ReadFault>
     ensures found { IfOk result (λ found.
-        spec.references_below (seen table.now) (map view affects.now) ≡ Ok found.items) }
+        spec.references_below (seen table.now) (map view affects.now) ≡ Ok found) }
     ensures fault { IfErr result
         (IsFaultOf (spec.references_below (seen table.now) (map view affects.now))) }
 {
-    let mut found = Vec::new(alloc);
-    add_affected(alloc, &mut found, Affected::Line, table, affects)?;
-    add_affected(alloc, &mut found, Affected::StopPoint, table, affects)?;
-    add_affected(alloc, &mut found, Affected::VehicleJourney, table, affects)?;
+    let mut found = List::new(alloc);
+    add_affected(alloc, &mut found, AffectedKind::Line, table, affects)?;
+    add_affected(alloc, &mut found, AffectedKind::StopPoint, table, affects)?;
+    add_affected(
+        alloc,
+        &mut found,
+        AffectedKind::VehicleJourney,
+        table,
+        affects,
+    )?;
     Ok(found)
 }
 
@@ -209,9 +275,9 @@ pub(crate) fn read_references(
     alloc: Global,
     table: &Timetable,
     tree: &Value,
-) -> Result<Vec<Reference>, ReadFault>
+) -> Result<List<Reference>, ReadFault>
     ensures found { IfOk result (λ found.
-        spec.references (seen table.now) (view tree.now) ≡ Ok found.items) }
+        spec.references (seen table.now) (view tree.now) ≡ Ok found) }
     ensures fault { IfErr result (IsFaultOf (spec.references (seen table.now) (view tree.now))) }
 {
     let affects = trees_at(tree, &Step::Object(Member::Affects))?;

@@ -4,6 +4,7 @@ ghost use Rattle.std.specs.List.{list_all};
 ghost use Rattle.serde_json.specs.View.{view};
 ghost use Rattle.siri_calls.specs.Shown.{ok_map, instant_of, IsFaultOf};
 ghost use Rattle.siri_situations.specs.Periods as spec;
+ghost use Rattle.siri_situations.specs.Steps.{gather};
 
 use crate::steps::{Step, trees_at};
 use gw_base::{List, Member};
@@ -58,14 +59,15 @@ fn starts_in_form(trees: &[Value], zone: &Zone) -> bool
 }
 
 // The periods that objects say.
-fn periods_in(alloc: Global, trees: &[Value], zone: &Zone) -> Result<List<ValidPeriod>, ReadFault>
+fn gather_periods(
+    alloc: Global,
+    trees: &[Value],
+    zone: &Zone,
+) -> Result<List<ValidPeriod>, ReadFault>
     ensures found { IfOk result (λ found.
-        spec.periods_in zone.now (map view trees.now) ≡ Ok found) }
-    ensures fault { IfErr result (IsFaultOf (spec.periods_in zone.now (map view trees.now))) }
+        gather (spec.period zone.now) (map view trees.now) ≡ Ok found) }
+    ensures fault { IfErr result (IsFaultOf (gather (spec.period zone.now) (map view trees.now))) }
 {
-    if !starts_in_form(trees, zone) {
-        return Err(ReadFault::Aside(Fault::BadField(Member::StartTime)));
-    }
     let mut found = List::new(alloc);
     for tree in trees {
         let one = period(tree, zone)?;
@@ -74,6 +76,21 @@ fn periods_in(alloc: Global, trees: &[Value], zone: &Zone) -> Result<List<ValidP
         }
     }
     Ok(found)
+}
+
+// The same, where the starts of all periods have their form.
+fn periods_in(alloc: Global, trees: &[Value], zone: &Zone) -> Result<List<ValidPeriod>, ReadFault>
+    ensures found { IfOk result (λ found.
+        spec.periods_in zone.now (map view trees.now) ≡ Ok found) }
+    ensures fault { IfErr result (IsFaultOf (spec.periods_in zone.now (map view trees.now))) }
+{
+    if !starts_in_form(trees, zone) {
+        return Err(ReadFault::Aside(Fault::BadField(Member::StartTime)));
+    }
+    match gather_periods(alloc, trees, zone) {
+        Ok(found) => Ok(found),
+        Err(fault) => Err(fault),
+    }
 }
 
 /// The periods of a situation, in document order.

@@ -129,9 +129,9 @@ fn read_touched(
     alloc: Global,
     tree: &Value,
     table: &Timetable,
-) -> Result<(Vec<Reference>, i32), ReadFault>
+) -> Result<(List<Reference>, i32), ReadFault>
     ensures found { IfOk result (λ found.
-        spec.touched (seen table.now) (view tree.now) ≡ Ok (found.0.items, found.1)) }
+        spec.touched (seen table.now) (view tree.now) ≡ Ok (found.0, found.1)) }
     ensures fault { IfErr result (IsFaultOf (spec.touched (seen table.now) (view tree.now))) }
 {
     let references = read_references(alloc, table, tree)?;
