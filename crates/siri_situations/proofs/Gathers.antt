@@ -4,7 +4,9 @@ use Rattle.journey_model.specs.Chains.{◌>>=◌}
 use Rattle.gw_base.specs.declared.member.Member.{Member}
 use Rattle.journey_model.specs.declared.fault.Fault.{Fault}
 use Rattle.serde_json.specs.Data.{Data}
-use Rattle.siri_calls.specs.Shown.{ok_map}
+use Rattle.siri_calls.specs.Shown.{ok_map, IsFaultOf}
+use Rattle.siri_calls.specs.declared.read_fault.ReadFault.{ReadFault}
+use Rattle.siri_calls.specs.declared.read_fault.ReadFault.TheVariants.{Aside, Memory}
 use Rattle.siri_situations.specs.Steps.{gather}
 
 -- what was found, and what the trees left give, are all
@@ -30,7 +32,21 @@ pub one_refused : {A E : Type 0} (read : Data → Result (List A) E) (all : Resu
     → Err fault ≡ read tree → SoFar read (ok_map (λ rest. old ++ rest) all) found (tree ∷ left) → all ≡ Err fault
 one_refused read all old found tree left fault is so_far = same_fault old all fault (rw (← is) at so_far)
 
+pub refused : {A : Type 0} (read : Data → Result (List A) Fault) (all : Result (List A) Fault) (old found : List A) (tree : Data) (left : List Data) (fault : ReadFault)
+    → IsFaultOf (read tree) fault → SoFar read (ok_map (λ rest. old ++ rest) all) found (tree ∷ left) → IsFaultOf all fault
+refused read all old found tree left (Aside fault) is so_far = one_refused read all old found tree left fault (sym is) so_far
+refused read all old found tree left Memory is so_far = tt
+
 -- where nothing was found before
 pub none_before : {A E : Type 0} (all : Result (List A) E) → ok_map (λ rest. [] ++ rest) all ≡ all
 none_before (Ok rest) = refl
 none_before (Err fault) = refl
+
+-- what one tree gives was put behind what was found
+pub one_added : {A E : Type 0} (read : Data → Result (List A) E) (all : Result (List A) E) (found new : List A) (tree : Data) (left : List Data)
+    → ok_map (λ rest. found ++ rest) (read tree) ≡ Ok new → SoFar read all found (tree ∷ left) → SoFar read all new left
+one_added read all found new tree left added so_far = by (read tree) refl added
+  where
+    by : (answer : Result (List _) _) → read tree ≡ answer → ok_map (λ rest. found ++ rest) answer ≡ Ok new → SoFar read all new left
+    by (Ok first) is e = let same : found ++ first ≡ new = cc in rw (← same) (one_more read all found tree left first (sym is) so_far)
+    by (Err fault) is e = cc

@@ -101,13 +101,17 @@ references_in kind table trees = by (spec.days_in_form kind trees)
 references_by : (kind : AffectedKind) (table : Table) (affects : List Data) → OnFound (AreThere table) (spec.references_by kind table affects)
 references_by kind table affects = after (AreThere table) (walk (spec.steps kind) affects) _ (λ trees is. references_in kind table trees)
 
+by_kind : (kind : AffectedKind) (table : Table) (affects : List Data) (value : List Reference) → spec.references_by kind table affects ≡ Ok value
+    → AreThere table value
+by_kind kind table affects value is = found (AreThere table) (spec.references_by kind table affects) value (references_by kind table affects) is
+
 references_below : (table : Table) (affects : List Data) → OnFound (AreThere table) (spec.references_below table affects)
 references_below table affects =
-    let there = λ kind value is. found (AreThere table) (spec.references_by kind table affects) value (references_by kind table affects) is in
     after (AreThere table) (spec.references_by kinds.Line table affects) _ (λ lines is.
     after (AreThere table) (spec.references_by kinds.StopPoint table affects) _ (λ stops same.
     after (AreThere table) (spec.references_by kinds.VehicleJourney table affects) _ (λ journeys last.
-    joined table (lines ++ stops) journeys (joined table lines stops (there kinds.Line lines is) (there kinds.StopPoint stops same)) (there kinds.VehicleJourney journeys last))))
+    joined table (lines ++ stops) journeys (joined table lines stops (by_kind kinds.Line table affects lines is) (by_kind kinds.StopPoint table affects stops same))
+    (by_kind kinds.VehicleJourney table affects journeys last))))
 
 references : (table : Table) (tree : Data) → OnFound (AreThere table) (spec.references table tree)
 references table tree = after (AreThere table) (trees_at (Object Member.Affects) tree) _ (λ affects is. references_below table affects)

@@ -61,37 +61,27 @@ fn steps(kind: AffectedKind) -> &'static [Step]
     }
 }
 
-// A reference to a line.
-fn line_named(table: &Timetable, id: &str) -> Reference
-    ensures { result ≡ spec.line_named (seen table.now) id.now }
+// The route with an id, if there is one.
+fn find_line(table: &Timetable, id: &str) -> Option<Ref>
+    ensures { result ≡ (spec.line_named (seen table.now) id.now).known }
 {
-    Reference {
-        member: Member::LineRef,
-        known: table.find_route(id).map(Ref::Route),
-    }
+    table.find_route(id).map(Ref::Route)
 }
 
-// A reference to a stop.
-fn stop_named(table: &Timetable, id: &str) -> Reference
-    ensures { result ≡ spec.stop_named (seen table.now) id.now }
+// The stop with an id, if there is one.
+fn find_stop(table: &Timetable, id: &str) -> Option<Ref>
+    ensures { result ≡ (spec.stop_named (seen table.now) id.now).known }
 {
-    Reference {
-        member: Member::StopPointRef,
-        known: table.find_stop(id).map(Ref::Stop),
-    }
+    table.find_stop(id).map(Ref::Stop)
 }
 
-// A reference to a trip on a day.
-fn journey_named(table: &Timetable, day: Day, id: &str) -> Reference
-    ensures { result ≡ spec.journey_named (seen table.now) day id.now }
+// The trip with an id on a day, if there is one.
+fn find_journey(table: &Timetable, day: Day, id: &str) -> Option<Ref>
+    ensures { result ≡ (spec.journey_named (seen table.now) day id.now).known }
 {
-    let known = match table.find_trip(id) {
+    match table.find_trip(id) {
         Some(trip) => Some(Ref::Journey(trip, day)),
         None => None,
-    };
-    Reference {
-        member: Member::DatedVehicleJourneyRef,
-        known,
     }
 }
 
@@ -104,7 +94,11 @@ fn add_line(found: &mut List<Reference>, table: &Timetable, tree: &Value) -> Res
 {
     match optional_text(tree, Member::LineRef) {
         Ok(Some(id)) => {
-            found.push(line_named(table, id))?;
+            let known = find_line(table, id);
+            found.push(Reference {
+                member: Member::LineRef,
+                known,
+            })?;
             Ok(())
         }
         Ok(None) => Ok(()),
@@ -121,7 +115,11 @@ fn add_stop(found: &mut List<Reference>, table: &Timetable, tree: &Value) -> Res
 {
     match optional_text(tree, Member::StopPointRef) {
         Ok(Some(id)) => {
-            found.push(stop_named(table, id))?;
+            let known = find_stop(table, id);
+            found.push(Reference {
+                member: Member::StopPointRef,
+                known,
+            })?;
             Ok(())
         }
         Ok(None) => Ok(()),
@@ -143,7 +141,11 @@ fn add_journey(
 {
     let day = required_day(tree, Member::DataFrameRef)?;
     let id = required_text(tree, Member::DatedVehicleJourneyRef)?;
-    found.push(journey_named(table, day, id))?;
+    let known = find_journey(table, day, id);
+    found.push(Reference {
+        member: Member::DatedVehicleJourneyRef,
+        known,
+    })?;
     Ok(())
 }
 
@@ -203,7 +205,9 @@ fn gather_references(
         (IsFaultOf (gather (spec.reference kind (seen table.now)) (all_seen trees.now))) }
 {
     for tree in trees {
-        add_reference(found, kind, table, tree)?;
+        if let Err(fault) = add_reference(found, kind, table, tree) {
+            return Err(fault);
+        }
     }
     Ok(())
 }
