@@ -1,0 +1,4 @@
+pub mod Gathers
+pub mod KnownLemmas
+pub mod PeriodLemmas
+pub mod VerdictLemmas

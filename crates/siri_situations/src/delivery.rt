@@ -1,0 +1,132 @@
+//! A delivery of situations. The functions meet `specs/Deliveries.antt`.
+ghost use Rattle.std.specs.Prelude.{◌++◌, ◌∷◌, [], ℕ, List as Values, Result as Answer, map, IfOk, OnOk};
+ghost use Rattle.std.specs.List.{flat_map};
+ghost use Rattle.gw_base.specs.declared.member.Member.TheVariants as Member;
+ghost use Rattle.journey_model.specs.Schedules.{schedule_of};
+ghost use Rattle.journey_model.specs.declared.fault.Fault as faults;
+ghost use Rattle.journey_model.specs.declared.situation.Situation as of_journeys;
+ghost use Rattle.serde_json.specs.View.{view};
+ghost use Rattle.siri_calls.specs.Frame.{repeated_under as trees_under};
+ghost use Rattle.siri_situations.specs.Deliveries.{HasVerdicts, ReadsSituations, ReferToKnown};
+ghost use Rattle.siri_situations.specs.Shown.{all_seen};
+ghost use Rattle.siri_situations.specs.Situations as spec;
+
+use crate::frame::groups_in;
+use crate::situations::verdict;
+use gw_base::{List, Member};
+use journey_model::{Context, Fault, Situation};
+use serde_json::Value;
+use siri_calls::DeliveryFault;
+use siri_calls::frame::repeated_under;
+use siri_calls::read_fault::ReadFault;
+use std::alloc::{AllocError, Global};
+
+/// What an item of a delivery is.
+#[derive(Debug, Drop)]
+pub enum Item {
+    /// A situation.
+    Taken(Situation),
+    /// It is set aside.
+    Aside(Fault),
+}
+
+/// What a delivery says.
+#[derive(Debug, Drop)]
+pub struct SituationDelivery {
+    /// Its items, in document order.
+    pub items: List<Item>,
+    /// How many references of the situations that are taken aren't known; a count stays at its last
+    /// value.
+    pub passed: u64,
+}
+
+// What an item is, behind those before.
+fn add_item(
+    alloc: Global,
+    delivery: &mut SituationDelivery,
+    tree: &Value,
+    context: &Context<'_>,
+) -> Result<(), AllocError>
+    ensures { (earlier : Values (Answer (of_journeys.Situation × ℕ) faults.Fault))
+        → HasVerdicts delivery.old earlier
+        → OnOk result (HasVerdicts delivery.new
+        (earlier ++ spec.verdict (schedule_of context.now) (view tree.now) ∷ [])) }
+{
+    match verdict(alloc, tree, context) {
+        Ok((situation, unknown)) => {
+            delivery.items.push(Item::Taken(situation))?;
+            delivery.passed = delivery.passed.saturating_add(unknown);
+            Ok(())
+        }
+        Err(ReadFault::Aside(fault)) => delivery.items.push(Item::Aside(fault)),
+        Err(ReadFault::Memory) => Err(AllocError),
+    }
+}
+
+// What the items are that stand in an object, behind those before.
+fn add_items(
+    alloc: Global,
+    delivery: &mut SituationDelivery,
+    group: &Value,
+    context: &Context<'_>,
+) -> Result<(), AllocError>
+    ensures { (earlier : Values (Answer (of_journeys.Situation × ℕ) faults.Fault))
+        → HasVerdicts delivery.old earlier
+        → OnOk result (HasVerdicts delivery.new
+        (earlier ++ map (spec.verdict (schedule_of context.now))
+        (trees_under Member.PtSituationElement (view group.now)))) }
+{
+    let trees = repeated_under(group, Member::PtSituationElement);
+    for tree in trees {
+        add_item(alloc, delivery, tree, context)?;
+    }
+    Ok(())
+}
+
+// What all items are.
+fn all_items(
+    alloc: Global,
+    groups: &[&Value],
+    context: &Context<'_>,
+) -> Result<SituationDelivery, AllocError>
+    ensures { IfOk result (λ delivery. HasVerdicts delivery
+        (map (spec.verdict (schedule_of context.now))
+        (flat_map (trees_under Member.PtSituationElement) (all_seen groups.now)))) }
+{
+    let mut delivery = SituationDelivery {
+        items: List::new(alloc),
+        passed: 0,
+    };
+    for group in groups {
+        add_items(alloc, &mut delivery, group, context)?;
+    }
+    Ok(delivery)
+}
+
+/// Reads a delivery of situations (SIRI 2.0, SituationExchangeDelivery; in JSON after SIRI Lite): each
+/// situation of it, in document order, is taken, or set aside with its first fault. NotJson comes
+/// exactly where the body isn't JSON in UTF-8, NotDelivery where the way down to its situations is
+/// broken, with the first member that is wrong. Want of memory may come in the place of any answer.
+pub fn read_situations(
+    alloc: Global,
+    body: &[u8],
+    context: &Context<'_>,
+) -> Result<SituationDelivery, DeliveryFault>
+    ensures reads { ReadsSituations (schedule_of context.now) body.now result }
+    ensures known { IfOk result (λ delivery.
+        ReferToKnown (schedule_of context.now).table delivery.items) }
+{
+    let root = match Value::from_slice(alloc, body) {
+        Ok(root) => root,
+        Err(fault) if fault.is_memory() => return Err(DeliveryFault::Memory),
+        Err(_) => return Err(DeliveryFault::NotJson),
+    };
+    let groups = match groups_in(alloc, &root) {
+        Ok(groups) => groups,
+        Err(fault) => return Err(fault),
+    };
+    match all_items(alloc, groups.as_slice(), context) {
+        Ok(delivery) => Ok(delivery),
+        Err(AllocError) => Err(DeliveryFault::Memory),
+    }
+}

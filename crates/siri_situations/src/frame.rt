@@ -1,0 +1,71 @@
+//! The way down from the root of a delivery to its situations. The functions meet `specs/Frame.antt`.
+ghost use Rattle.std.specs.Prelude.{◌≡◌, Ok, IfErr, IfOk, map};
+ghost use Rattle.serde_json.specs.View.{view};
+ghost use Rattle.siri_calls.specs.Shown.{ok_map, trees_of, IsFrameFault};
+ghost use Rattle.siri_situations.specs.Frame as spec;
+ghost use Rattle.siri_situations.specs.Shown.{all_seen};
+ghost use Rattle.siri_situations.specs.Steps.{gather};
+
+use crate::steps::add_trees;
+use gw_base::Member;
+use serde_json::Value;
+use siri_calls::DeliveryFault;
+use siri_calls::forms::{Form, objects};
+use siri_calls::frame::{object_at, service_in};
+use std::alloc::Global;
+use std::slice;
+
+// The deliveries of a service delivery, which have to be there.
+fn deliveries_in(service: &Value) -> Result<&[Value], Member>
+    ensures { ok_map trees_of result ≡ spec.deliveries_in (view service.now) }
+{
+    let Some(found) = service.get("SituationExchangeDelivery") else {
+        return Err(Member::SituationExchangeDelivery);
+    };
+    match found {
+        Value::Array(_) | Value::Object(_) => match objects(found) {
+            Form::Missing | Form::Wrong => Err(Member::SituationExchangeDelivery),
+            Form::Found(trees) => Ok(trees),
+        },
+        Value::Null | Value::Bool(_) | Value::Number(_) | Value::String(_) => {
+            Err(Member::SituationExchangeDelivery)
+        }
+    }
+}
+
+// The object in which the situations of a delivery stand, if it is there.
+fn group(delivery: &Value) -> Result<&[Value], Member>
+    ensures { ok_map trees_of result ≡ spec.group (view delivery.now) }
+{
+    match object_at(delivery, Member::Situations) {
+        Form::Missing => Ok(&[]),
+        Form::Wrong => Err(Member::Situations),
+        Form::Found(found) => Ok(slice::from_ref(found)),
+    }
+}
+
+// Those of deliveries.
+fn groups_of<'a>(alloc: Global, deliveries: &'a [Value]) -> Result<Vec<&'a Value>, DeliveryFault>
+    ensures found { IfOk result (λ found.
+        gather spec.group (map view deliveries.now) ≡ Ok (all_seen found.items)) }
+    ensures fault { IfErr result (IsFrameFault (gather spec.group (map view deliveries.now))) }
+{
+    let mut found = Vec::new(alloc);
+    for delivery in deliveries {
+        let under = group(delivery)?;
+        add_trees(&mut found, under)?;
+    }
+    Ok(found)
+}
+
+/// The objects in which the situations of a root stand, in document order, or the first row of the way
+/// down that is broken.
+pub(crate) fn groups_in(alloc: Global, root: &Value) -> Result<Vec<&Value>, DeliveryFault>
+    ensures found { IfOk result (λ found.
+        spec.groups_in (view root.now) ≡ Ok (all_seen found.items)) }
+    ensures fault { IfErr result (IsFrameFault (spec.groups_in (view root.now))) }
+{
+    let service = service_in(root)?;
+    let deliveries = deliveries_in(service)?;
+    groups_of(alloc, deliveries)
+}

@@ -1,0 +1,18 @@
+//! Deliveries of situations (SIRI 2.0, SituationExchangeDelivery, in JSON after SIRI Lite): what each
+//! situation of one says.
+#![tactic(auto)]
+
+mod affected;
+mod delivery;
+mod frame;
+mod periods;
+mod said;
+mod senses;
+mod situations;
+mod steps;
+#[cfg(test)]
+mod tests;
+
+pub use delivery::{Item, SituationDelivery, read_situations};
+pub use journey_model::{Ref, Situation, ValidPeriod};
+pub use siri_calls::DeliveryFault;

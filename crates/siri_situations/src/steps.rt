@@ -1,0 +1,92 @@
+//! The way down from an object to what stands in it. The functions meet `specs/Steps.antt`.
+ghost use Rattle.std.specs.Prelude.{◌≡◌, ◌++◌, map, Ok, IfErr, IfOk, OnOk};
+ghost use Rattle.serde_json.specs.View.{view};
+ghost use Rattle.siri_calls.specs.Shown.{ok_map, trees_of, IsFaultOf};
+ghost use Rattle.siri_situations.specs.Shown.{all_seen};
+ghost use Rattle.siri_situations.specs.Steps as spec;
+
+use gw_base::Member;
+use journey_model::Fault;
+use serde_json::Value;
+use siri_calls::fields::{optional_object, optional_objects};
+use siri_calls::read_fault::ReadFault;
+use std::alloc::{AllocError, Global};
+use std::slice;
+
+/// A step down from an object, to a member that may be missing.
+#[derive(Clone, Copy, Debug, PartialEq, Eq)]
+pub(crate) enum Step {
+    /// To an object.
+    Object(Member),
+    /// To repeated objects.
+    Repeated(Member),
+}
+
+/// The trees to which a step leads from one.
+pub(crate) fn trees_at<'a>(tree: &'a Value, step: &Step) -> Result<&'a [Value], Fault>
+    ensures { ok_map trees_of result ≡ spec.trees_at step.now (view tree.now) }
+{
+    match step {
+        Step::Object(member) => match optional_object(tree, *member) {
+            Ok(Some(found)) => Ok(slice::from_ref(found)),
+            Ok(None) => Ok(&[]),
+            Err(fault) => Err(fault),
+        },
+        Step::Repeated(member) => match optional_objects(tree, *member) {
+            Ok(Some(found)) => Ok(found),
+            Ok(None) => Ok(&[]),
+            Err(fault) => Err(fault),
+        },
+    }
+}
+
+/// Trees, behind those that were found before.
+pub(crate) fn add_trees<'a>(
+    found: &mut Vec<&'a Value>,
+    trees: &'a [Value],
+) -> Result<(), AllocError>
+    ensures { OnOk result
+        (all_seen found.new.items ≡ all_seen found.old.items ++ map view trees.now) }
+{
+    for tree in trees {
+        found.push(tree)?;
+    }
+    Ok(())
+}
+
+// The trees to which a step leads from trees.
+fn step_from<'a>(
+    alloc: Global,
+    trees: &[&'a Value],
+    step: &Step,
+) -> Result<Vec<&'a Value>, ReadFault>
+    ensures found { IfOk result (λ found.
+        spec.gather (spec.trees_at step.now) (all_seen trees.now) ≡ Ok (all_seen found.items)) }
+    ensures fault { IfErr result
+        (IsFaultOf (spec.gather (spec.trees_at step.now) (all_seen trees.now))) }
+{
+    let mut found = Vec::new(alloc);
+    for tree in trees {
+        let under = trees_at(tree, step)?;
+        add_trees(&mut found, under)?;
+    }
+    Ok(found)
+}
+
+/// The trees at the end of a way.
+pub(crate) fn walk<'a>(
+    alloc: Global,
+    start: &'a [Value],
+    steps: &[Step],
+) -> Result<Vec<&'a Value>, ReadFault>
+    ensures found { IfOk result (λ found.
+        spec.walk steps.now (map view start.now) ≡ Ok (all_seen found.items)) }
+    ensures fault { IfErr result (IsFaultOf (spec.walk steps.now (map view start.now))) }
+{
+    let mut trees = Vec::new(alloc);
+    add_trees(&mut trees, start)?;
+    for step in steps {
+        trees = step_from(alloc, trees.as_slice(), step)?;
+    }
+    Ok(trees)
+}
