@@ -1,0 +1,9 @@
+-- The bytes are those of the situation's message.
+use Rattle.alert_map.proofs.AlertLemmas.{made, meant}
+use Rattle.alert_map.proofs.entities.alert_entity.Goals as goal
+
+pub returns-clause-bytes : goal.returns-clause-bytes
+returns-clause-bytes c = made c.entity_bytes.result c.in_ok-entity.entity _ c.in_ok-entity.ensures c.entity_bytes.ensures.written
+
+pub returns-clause-means : goal.returns-clause-means
+returns-clause-means c = meant c.entity_bytes.result c.in_ok-entity.entity _ c.in_ok-entity.ensures c.entity_bytes.ensures.means

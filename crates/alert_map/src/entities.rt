@@ -1,0 +1,73 @@
+//! The entity with which an alert is served (GTFS Realtime reference, FeedEntity).
+ghost use Rattle.std.specs.Prelude.{◌≡◌, ◌++◌, ℕ, List, IfOk};
+ghost use Rattle.gw_base.specs.declared.messages.Entity.{Entity};
+ghost use Rattle.gw_base.specs.declared.messages.Feed.{Feed};
+ghost use Rattle.stop_schedule.specs.Seen.{seen};
+ghost use Rattle.journey_model.specs.Situations.{AreKnown};
+ghost use Rattle.feed_messages.specs.Tables.{MeansFeed, with_entity};
+ghost use Rattle.feed_messages.specs.Written.{written};
+ghost use Rattle.alert_map.specs.Alerts as spec;
+
+use crate::alerts::alert_of;
+use feed_messages::entity_bytes;
+use gw_base::{Bytes, Entity, Text};
+use journey_model::Situation;
+use std::alloc::{AllocError, Global};
+use stop_schedule::Timetable;
+use wire_fields::first_number;
+
+// The id of a situation's entity.
+fn alert_id(alloc: Global, number: &str) -> Result<Text, AllocError>
+    ensures { IfOk result (λ id. id ≡ spec.alert_id number.now) }
+{
+    let mut id = Text::copied(alloc, "alert:")?;
+    id.push(number)?;
+    Ok(id)
+}
+
+// What the entity of a situation says.
+fn message(alloc: Global, table: &Timetable, situation: &Situation) -> Result<Entity, AllocError>
+    requires { AreKnown (seen table.now) situation.now.refs }
+    ensures { IfOk result (λ entity. entity ≡ spec.alert_message (seen table.now) situation.now) }
+{
+    let id = alert_id(alloc, situation.number.as_str())?;
+    let alert = alert_of(alloc, table, situation)?;
+    Ok(Entity {
+        id,
+        deleted: false,
+        trip_update: None,
+        alert: Some(alert),
+    })
+}
+
+/// The bytes of a situation's entity as a field of a feed (GTFS Realtime reference, FeedEntity), whether it is served or not:
+/// the id `alert:` with the situation's number, and its alert. Behind the bytes of a feed they mean that feed with this
+/// entity more. The condition is that the timetable has all that is referred to. Err for want of memory, also where there
+/// are more bytes than a buffer can have.
+pub fn alert_entity(
+    alloc: Global,
+    table: &Timetable,
+    situation: &Situation,
+) -> Result<Bytes, AllocError>
+    requires { AreKnown (seen table.now) situation.now.refs }
+    ensures bytes { IfOk result (λ bytes. bytes ≡ written (spec.alert_message (seen table.now) situation.now)) }
+    ensures means { IfOk result (λ bytes. (before : List ℕ) (feed : Feed) → MeansFeed before feed
+        → MeansFeed (before ++ bytes) (with_entity feed (spec.alert_message (seen table.now) situation.now))) }
+{
+    let entity = message(alloc, table, situation)?;
+    entity_bytes(alloc, &entity)
+}
+
+/// How many bytes the body of an entity has, by the bytes that stand for it in a feed: the number behind its tag (protobuf
+/// encoding, "Message Structure"). 0 where they are no entity's. Takes no memory.
+pub fn entity_body_len(bytes: &[u8]) -> u64
+    ensures { (entity : Entity) → bytes.now ≡ written entity → result ≡ spec.entity_body_len entity }
+{
+    let [_, rest @ ..] = bytes else {
+        return 0;
+    };
+    match first_number(rest) {
+        Some((len, _)) => len,
+        None => 0,
+    }
+}

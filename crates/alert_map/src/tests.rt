@@ -1,0 +1,83 @@
+//! The bytes of an alert's entity.
+ghost use Rattle.std.specs.Prelude.{◌<◌, length};
+
+use crate::{alert_entity, entity_body_len};
+use gw_base::{Bytes, List, MemoryFiles, Text};
+use journey_model::{Ref, Situation, ValidPeriod};
+use std::alloc::{AllocError, Global};
+use std::process::Abort;
+use std::test::Fail;
+use stop_schedule::{RouteNo, Timetable, read_timetable};
+
+static FOLDER: [(&str, &[u8]); 6] = [
+    ("g/agency.txt", b"agency_timezone\nEurope/Paris\n"),
+    ("g/stops.txt", b"stop_id\nA\n"),
+    ("g/routes.txt", b"route_id\nR1\nR2\n"),
+    ("g/trips.txt", b"route_id,service_id,trip_id\nR1,D,T1\n"),
+    (
+        "g/calendar.txt",
+        b"service_id,monday,tuesday,wednesday,thursday,friday,saturday,sunday,start_date,end_date\nD,1,1,1,1,1,1,1,20240301,20240630\n",
+    ),
+    (
+        "g/stop_times.txt",
+        b"trip_id,arrival_time,departure_time,stop_id,stop_sequence\nT1,08:00:00,08:00:00,A,10\n",
+    ),
+];
+
+// The alert of the route R1 from 2024-05-01T00:00:00Z on: a technical problem with significant delays, `Late`.
+const ENTITY: &[u8] =
+    b"\x12(\x0a\x08alert:S1*\x1c\x0a\x06\x08\x80\x8c\xc6\xb1\x06*\x04\x12\x02R10\x038\x03R\x08\x0a\x06\x0a\x04Late";
+
+// The timetable of the folder.
+fn table(rt: &impl Abort, alloc: Global) -> Result<Timetable, AllocError> {
+    let mut files = List::new(alloc);
+    for (name, bytes) in FOLDER.iter() {
+        files.push((Text::copied(alloc, name)?, List::copied(alloc, bytes)?))?;
+    }
+    let mut files = MemoryFiles::make(files, List::new(alloc));
+    Ok(
+        read_timetable(alloc, &mut files, "g")
+            .ok()
+            .expect(rt, "a table"),
+    )
+}
+
+// The periods of the situation.
+fn periods(alloc: Global) -> Result<List<ValidPeriod>, AllocError> {
+    let mut periods = List::new(alloc);
+    periods.push(ValidPeriod {
+        start: Some(1_714_521_600),
+        end: None,
+    })?;
+    Ok(periods)
+}
+
+// The entity of the situation.
+fn entity_of(alloc: Global, table: &Timetable, route: RouteNo) -> Result<Bytes, AllocError>
+    requires { route.0 < length table.now.routes }
+{
+    let mut refs = List::new(alloc);
+    refs.push(Ref::Route(route))?;
+    let situation = Situation {
+        number: Text::copied(alloc, "S1")?,
+        version: 1,
+        served: true,
+        periods: periods(alloc)?,
+        refs,
+        cause: 3,
+        effect: 3,
+        summary: Some(Text::copied(alloc, "Late")?),
+        description: None,
+    };
+    alert_entity(alloc, table, &situation)
+}
+
+#[test]
+fn a_situation_is_written_as_its_entity(rt: HostRuntime) -> Result<(), Fail> {
+    let table = table(&rt, rt.alloc())?;
+    let route = table.find_route("R1").expect(&rt, "a route");
+    let bytes = entity_of(rt.alloc(), &table, route)?;
+    assert_eq!(rt; bytes.as_slice(), ENTITY);
+    assert_eq!(rt; entity_body_len(bytes.as_slice()), 40);
+    Ok(())
+}
