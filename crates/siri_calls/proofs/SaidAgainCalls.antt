@@ -87,9 +87,9 @@ call-read zone run order row (Timed arrival departure) sound id timed near =
     let said = read-moments run.start row arrival departure sound.start timed near in
     let ref : required_member text Member.StopPointRef tree ≡ Ok (id_at run.ids row.stop.0) = rw (filled-some (id_at run.ids row.stop.0) id) refl in
     let first : event zone false Member.ActualArrivalTime Member.ExpectedArrivalTime tree ≡ Ok (Some arrival)
-      = rw (filled-some (moment_text arrival) (some-moment_text arrival), moment_of-moment_text zone arrival said.0) refl in
+    = rw (filled-some (moment_text arrival) (some-moment_text arrival), moment_of-moment_text zone arrival said.0) refl in
     let last : event zone false Member.ActualDepartureTime Member.ExpectedDepartureTime tree ≡ Ok (Some departure)
-      = rw (filled-some (moment_text departure) (some-moment_text departure), moment_of-moment_text zone departure said.1) refl in
+    = rw (filled-some (moment_text departure) (some-moment_text departure), moment_of-moment_text zone departure said.1) refl in
     call-by zone tree (id_at run.ids row.stop.0) order false (Some arrival) (Some departure) refl ref refl refl first last
 
 -- the calls at the stops from a place on
@@ -229,7 +229,7 @@ no-faults run place (row ∷ rows) [] at near = refl
 no-faults run place (row ∷ rows) (reading ∷ readings) at near =
     let nears = and_parts (is_near (planned run.start row) reading) (are_near run.start rows readings) near in
     let first : fault_of_delay run (place, (place, said_call run (place + 1) row reading)) ≡ None
-      = subst (λ plan. cond (skips reading) None (delay_fault place plan (arrival_said reading) (departure_said reading)) ≡ None) (sym (planned-here run place row rows at)) (no-fault place (planned run.start row) reading nears.0) in
+    = subst (λ plan. cond (skips reading) None (delay_fault place plan (arrival_said reading) (departure_said reading)) ≡ None) (sym (planned-here run place row rows at)) (no-fault place (planned run.start row) reading nears.0) in
     ap (λ found. option_or found (delays_fault run (placed_from run (place + 1) rows readings))) first
     ∙ no-faults run (place + 1) rows readings (drop-behind run.stops place row rows at) nears.1
 

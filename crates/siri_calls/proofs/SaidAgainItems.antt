@@ -85,11 +85,11 @@ header-said schedule frame recorded one run at on id =
     let place = item_place frame (journey_of_run schedule recorded one run) in
     let reference = framed_ref one.day (id_at schedule.table.trips one.trip.0) in
     let time : recorded_at schedule.zone place ≡ Ok (recorded, 0)
-      = rw (filled-some (moment_text recorded) (some-moment_text recorded), moment_of-moment_text schedule.zone recorded at) refl in
+    = rw (filled-some (moment_text recorded) (some-moment_text recorded), moment_of-moment_text schedule.zone recorded at) refl in
     let date : required_member day Member.DataFrameRef reference ≡ Ok one.day
-      = rw (filled-some (dashed_text one.day) (some-dashed_text one.day), day_of-dashed_text one.day on) refl in
+    = rw (filled-some (dashed_text one.day) (some-dashed_text one.day), day_of-dashed_text one.day on) refl in
     let name : required_member text Member.DatedVehicleJourneyRef reference ≡ Ok (id_at schedule.table.trips one.trip.0)
-      = rw (filled-some (id_at schedule.table.trips one.trip.0) id) refl in
+    = rw (filled-some (id_at schedule.table.trips one.trip.0) id) refl in
     header-by schedule.zone place (recorded, 0) reference one.day (id_at schedule.table.trips one.trip.0) (is_cancelled_journey one.reading) false time refl date name refl
 
 -- ---- how it is judged
@@ -130,7 +130,7 @@ calls-said schedule recorded one run (Stops readings) e sound fits =
     let tree = journey_of_run schedule recorded one run in
     let same : stop_readings run one.reading ≡ readings = ap (stop_readings run) e in
     let trees : call_trees tree ≡ Ok (call_trees_from run 1 run.stops readings)
-      = trees-said schedule recorded one run ∙ ap (λ all. Ok (call_trees_from run 1 run.stops all)) same in
+    = trees-said schedule recorded one run ∙ ap (λ all. Ok (call_trees_from run 1 run.stops all)) same in
     unless-by schedule.zone tree (call_trees_from run 1 run.stops readings) (read_from run 0 run.stops readings) trees
     (calls-read schedule.zone run 0 run.stops readings sound sound.known sound.timed fits)
 

@@ -33,32 +33,71 @@ name letters h = IsUtf8-are_ascii letters h
 plain-call : (run : Run) (order : ℕ) (row : StopRow) (reading : StopReading) → IsSoundRun run → order < 2 ^ 64 → IsUtf8 (id_at run.ids row.stop.0) → is_timed row ≡ true
     → is_near (planned run.start row) reading ≡ true → IsPlain 1 (call_tree run order row reading)
 plain-call run order row Absent sound small id timed near =
-    let plan = planned-moments run.start row sound.start timed in
-    (
-      refl, name (codes "AimedArrivalTime") refl, IsUtf8-moment_text (planned run.start row).0 plan.0,
-      (refl, name (codes "AimedDepartureTime") refl, IsUtf8-moment_text (planned run.start row).1 plan.1,
-      (refl, name (codes "Order") refl, small,
-      (refl, name (codes "StopPointRef") refl, id, tt))),
+    let plan = planned-moments run.start row sound.start timed in (
+      refl,
+      name (codes "AimedArrivalTime") refl,
+      IsUtf8-moment_text (planned run.start row).0 plan.0,
+      (
+        refl,
+        name (codes "AimedDepartureTime") refl,
+        IsUtf8-moment_text (planned run.start row).1 plan.1,
+        (
+          refl,
+          name (codes "Order") refl,
+          small,
+          (refl, name (codes "StopPointRef") refl, id, tt),
+        ),
+      ),
     )
 plain-call run order row Skipped sound small id timed near =
-    let plan = planned-moments run.start row sound.start timed in
-    (
-      refl, name (codes "AimedArrivalTime") refl, IsUtf8-moment_text (planned run.start row).0 plan.0,
-      (refl, name (codes "AimedDepartureTime") refl, IsUtf8-moment_text (planned run.start row).1 plan.1,
-      (refl, name (codes "Cancellation") refl, tt,
-      (refl, name (codes "Order") refl, small,
-      (refl, name (codes "StopPointRef") refl, id, tt)))),
+    let plan = planned-moments run.start row sound.start timed in (
+      refl,
+      name (codes "AimedArrivalTime") refl,
+      IsUtf8-moment_text (planned run.start row).0 plan.0,
+      (
+        refl,
+        name (codes "AimedDepartureTime") refl,
+        IsUtf8-moment_text (planned run.start row).1 plan.1,
+        (
+          refl,
+          name (codes "Cancellation") refl,
+          tt,
+          (
+            refl,
+            name (codes "Order") refl,
+            small,
+            (refl, name (codes "StopPointRef") refl, id, tt),
+          ),
+        ),
+      ),
     )
 plain-call run order row (Timed arrival departure) sound small id timed near =
     let plan = planned-moments run.start row sound.start timed in
-    let said = read-moments run.start row arrival departure sound.start timed near in
-    (
-      refl, name (codes "AimedArrivalTime") refl, IsUtf8-moment_text (planned run.start row).0 plan.0,
-      (refl, name (codes "AimedDepartureTime") refl, IsUtf8-moment_text (planned run.start row).1 plan.1,
-      (refl, name (codes "ExpectedArrivalTime") refl, IsUtf8-moment_text arrival said.0,
-      (refl, name (codes "ExpectedDepartureTime") refl, IsUtf8-moment_text departure said.1,
-      (refl, name (codes "Order") refl, small,
-      (refl, name (codes "StopPointRef") refl, id, tt))))),
+    let said = read-moments run.start row arrival departure sound.start timed near in (
+      refl,
+      name (codes "AimedArrivalTime") refl,
+      IsUtf8-moment_text (planned run.start row).0 plan.0,
+      (
+        refl,
+        name (codes "AimedDepartureTime") refl,
+        IsUtf8-moment_text (planned run.start row).1 plan.1,
+        (
+          refl,
+          name (codes "ExpectedArrivalTime") refl,
+          IsUtf8-moment_text arrival said.0,
+          (
+            refl,
+            name (codes "ExpectedDepartureTime") refl,
+            IsUtf8-moment_text departure said.1,
+            (
+              refl,
+              name (codes "Order") refl,
+              small,
+              (refl, name (codes "StopPointRef") refl, id, tt),
+            ),
+          ),
+        ),
+      ),
     )
 
 -- the calls at stops from one on
@@ -71,8 +110,7 @@ plain-calls run order (row ∷ rows) (reading ∷ readings) sound small known ti
     let knowns = and_parts (nat_lt row.stop.0 (length run.ids)) _ known in
     let times = and_parts (is_timed row) (list_all is_timed rows) timed in
     let nears = and_parts (is_near (planned run.start row) reading) (are_near run.start rows readings) near in
-    let id = IsUtf8-id (id_at run.ids row.stop.0) (id-at run.ids row.stop.0 sound.ids (ltb-true _ _ knowns.0)) in
-    (
+    let id = IsUtf8-id (id_at run.ids row.stop.0) (id-at run.ids row.stop.0 sound.ids (ltb-true _ _ knowns.0)) in (
       plain-call run order row reading sound (omega arith) id times.0 nears.0,
       plain-calls run (order + 1) rows readings sound (omega arith) knowns.1 times.1 nears.1,
     )
@@ -94,17 +132,36 @@ plain-journey schedule recorded one sound h at =
     let sound-one = sound-run schedule one sound h in
     let calls = plain-calls run 1 run.stops (stop_readings run one.reading) sound-one (omega (arith, sound-one.few)) sound-one.known sound-one.timed (near-readings run one.reading h.servable.fits) in
     let trip = IsUtf8-id _ (id-at schedule.table.trips one.trip.0 sound.trips h.servable.trip_in) in
-    let line = IsUtf8-id _ (sound.route_of one.trip.0 h.servable.trip_in) in
-    (
-      refl, name (codes "Cancellation") refl, tt,
-      (refl, name (codes "EstimatedCalls") refl, (refl, name (codes "EstimatedCall") refl, calls, tt),
-      (refl, name (codes "FramedVehicleJourneyRef") refl, (
-        refl, name (codes "DataFrameRef") refl, IsUtf8-dashed_text one.day h.is_day,
-        (refl, name (codes "DatedVehicleJourneyRef") refl, trip, tt),
+    let line = IsUtf8-id _ (sound.route_of one.trip.0 h.servable.trip_in) in (
+      refl,
+      name (codes "Cancellation") refl,
+      tt,
+      (
+        refl,
+        name (codes "EstimatedCalls") refl,
+        (refl, name (codes "EstimatedCall") refl, calls, tt),
+        (
+          refl,
+          name (codes "FramedVehicleJourneyRef") refl,
+          (
+            refl,
+            name (codes "DataFrameRef") refl,
+            IsUtf8-dashed_text one.day h.is_day,
+            (refl, name (codes "DatedVehicleJourneyRef") refl, trip, tt),
+          ),
+          (
+            refl,
+            name (codes "IsCompleteStopSequence") refl,
+            tt,
+            (
+              refl,
+              name (codes "LineRef") refl,
+              line,
+              (refl, name (codes "RecordedAtTime") refl, IsUtf8-moment_text recorded at, tt),
+            ),
+          ),
+        ),
       ),
-      (refl, name (codes "IsCompleteStopSequence") refl, tt,
-      (refl, name (codes "LineRef") refl, line,
-      (refl, name (codes "RecordedAtTime") refl, IsUtf8-moment_text recorded at, tt))))),
     )
 
 pub recorded-moment : (recorded : Option ℤ) (moment : ℤ) → IfSome recorded IsMoment → IsMoment moment → IsMoment (unwrap_or recorded moment)
@@ -116,8 +173,7 @@ plain-journeys : (schedule : Schedule) (moment : ℤ) (journeys : List DatedRead
 plain-journeys schedule moment [] sound at all = tt
 plain-journeys schedule moment (one ∷ others) sound at all =
     let h = All-head (IsSayable schedule) one others all in
-    let first = plain-journey schedule (unwrap_or one.recorded moment) one sound h (recorded-moment one.recorded moment h.is_recorded at) in
-    (
+    let first = plain-journey schedule (unwrap_or one.recorded moment) one sound h (recorded-moment one.recorded moment h.is_recorded at) in (
       subst (λ found. IsPlain 4 (journey_on schedule moment one found)) (sym h.servable.on_day) first,
       plain-journeys schedule moment others sound at (All-tail (IsSayable schedule) one others all),
     )
@@ -129,7 +185,9 @@ plain-delivery schedule moment journeys sound at all =
     let stamp = IsUtf8-moment_text moment at in
     let frame : IsPlain 6 (frame_tree schedule moment journeys) = (refl, name (codes "EstimatedVehicleJourney") refl, plain-journeys schedule moment journeys sound at all, (refl, name (codes "RecordedAtTime") refl, stamp, tt)) in
     let timetable : IsPlain 8 (timetable_tree schedule moment journeys) = (
-      refl, name (codes "EstimatedJourneyVersionFrame") refl, (frame, tt),
+      refl,
+      name (codes "EstimatedJourneyVersionFrame") refl,
+      (frame, tt),
       (refl, name (codes "ResponseTimestamp") refl, stamp, (refl, name (codes "version") refl, name (codes "2.0") refl, tt)),
     ) in
     let service : IsPlain 10 (service_tree schedule moment journeys) = (refl, name (codes "EstimatedTimetableDelivery") refl, (timetable, tt), (refl, name (codes "ResponseTimestamp") refl, stamp, tt)) in

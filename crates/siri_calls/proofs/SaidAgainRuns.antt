@@ -65,8 +65,7 @@ pub read-moments : (start : ℤ) (row : StopRow) (arrival departure : ℤ) → I
     → IsMoment arrival × IsMoment departure
 read-moments start row arrival departure h timed near =
     let both = and_parts (nat_le row.arrival 359999) (nat_le row.departure 359999) timed in
-    let nears = and_parts (is_delay (arrival -ℤ (planned start row).0)) (is_delay (departure -ℤ (planned start row).1)) near in
-    (
+    let nears = and_parts (is_delay (arrival -ℤ (planned start row).0)) (is_delay (departure -ℤ (planned start row).1)) near in (
       near-moment (planned start row).0 arrival start row.arrival refl (leb-true _ _ both.0) h nears.0,
       near-moment (planned start row).1 departure start row.departure refl (leb-true _ _ both.1) h nears.1,
     )
