@@ -64,11 +64,7 @@ pub fn optional_text(tree: &Value, member: Member) -> Result<Option<&str>, Fault
 }
 
 /// A moment that may be missing.
-pub fn optional_moment(
-    tree: &Value,
-    member: Member,
-    zone: &Zone,
-) -> Result<Option<Instant>, Fault>
+pub fn optional_moment(tree: &Value, member: Member, zone: &Zone) -> Result<Option<Instant>, Fault>
     ensures { optional_moment result
         ≡ spec.optional_member (forms.moment zone.now) member (view tree.now) }
 {
