@@ -1,7 +1,6 @@
 -- What is read of trees, one after the other.
 use Rattle.std.proofs.Common.{◌≡◌, ◌∙◌, refl, ap, sym, List, [], ◌∷◌, ◌++◌, append_assoc, Result, Ok, Err}
 use Rattle.journey_model.specs.Chains.{◌>>=◌}
-use Rattle.gw_base.specs.declared.member.Member.{Member}
 use Rattle.journey_model.specs.declared.fault.Fault.{Fault}
 use Rattle.serde_json.specs.Data.{Data}
 use Rattle.siri_calls.specs.Shown.{ok_map, IsFaultOf}

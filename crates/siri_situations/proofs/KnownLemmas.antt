@@ -1,5 +1,5 @@
 -- What a situation affects is known.
-use Rattle.std.proofs.Common.{◌≡◌, ◌∙◌, ℕ, ℤ, refl, sym, ap, subst, Bool, true, false, ◌&&◌, List, [], ◌∷◌, ◌++◌, length, map, Option, Some, None, option_map, Result, Ok, Err, if◌then◌else◌}
+use Rattle.std.proofs.Common.{◌≡◌, ◌∙◌, ℕ, refl, ap, subst, Bool, true, false, ◌&&◌, List, [], ◌∷◌, ◌++◌, length, map, Option, Some, None, option_map, Result, Ok, Err, if◌then◌else◌}
 use Rattle.std.specs.Prelude.{⊤, cond, nat_lt, option_to_list, position}
 use Rattle.std.specs.List.{cons_option, list_all, position_or_len}
 use Rattle.std.specs.Str.{bytes_eq}
@@ -9,9 +9,7 @@ use Rattle.journey_model.specs.Chains.{◌>>=◌}
 use Rattle.journey_model.specs.Schedules.{Schedule}
 use Rattle.journey_model.specs.Situations.{is_known}
 use Rattle.journey_model.specs.declared.fault.Fault.{Fault}
-use Rattle.journey_model.specs.declared.fault.Fault.TheVariants as Fault
 use Rattle.journey_model.specs.declared.situation.Ref.{Ref}
-use Rattle.journey_model.specs.declared.situation.Ref.TheVariants as Ref
 use Rattle.journey_model.specs.declared.situation.Situation.{Situation}
 use Rattle.serde_json.specs.Data.{Data}
 use Rattle.siri_calls.specs.Fields.{optional_member, required_member}

@@ -1,4 +1,4 @@
-use Rattle.std.proofs.Common.{◌∙◌, sym}
+use Rattle.std.proofs.Common.{◌∙◌}
 use Rattle.siri_calls.proofs.TreeLemmas.{list_all-map}
 use Rattle.siri_situations.specs.Affected.{day_in_form}
 use Rattle.siri_situations.specs.Shown.{seen}
