@@ -1,5 +1,5 @@
 -- What is published where the work was done.
-use Rattle.std.proofs.Common.{◌≡◌, ◌≢◌, ℕ, ℤ, pos, Bool, true, false, List, length, Result, Ok, Err, Option, Some, None, IfSome, codes, ◌++◌, sym, ap, subst, ◌∙◌,  refl, if◌then◌else◌}
+use Rattle.std.proofs.Common.{◌≡◌, ◌≢◌, ℕ, ℤ, pos, Bool, true, false, List, length, Result, Ok, Err, Option, Some, None, IfSome, codes, ◌++◌, sym, ap, subst, ◌∙◌, refl, if◌then◌else◌}
 use Rattle.std.specs.List.{flat_map}
 use Rattle.std.specs.Ordering.{int_eq}
 use Rattle.std.specs.Prelude.{nat_le}

@@ -238,12 +238,7 @@ fn lines_of_file<F: Files>(
 }
 
 // The work of `show`.
-fn show<F: Files>(
-    alloc: Global,
-    files: &mut F,
-    scope: &Scope<'_>,
-    feed: &str,
-) -> Result<Done, Exit>
+fn show<F: Files>(alloc: Global, files: &mut F, scope: &Scope<'_>, feed: &str) -> Result<Done, Exit>
     requires { HasWindow scope.now.from scope.now.days }
     ensures told { IfSome (F.told files.old) (λ told. UnlessFree is_free result
         (steps.ShowWork (record { over = scope_of scope.now; feed = feed.now }) told)) }

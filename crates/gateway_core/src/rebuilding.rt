@@ -7,8 +7,8 @@ ghost use Rattle.gateway_core.specs.Winners.{AreServable, IsWritten, all_held};
 ghost use Rattle.journey_model.specs.Records.{Recorded, recorded};
 ghost use Rattle.journey_model.specs.Schedules.{IsServable, schedule_of};
 
-use crate::named::Named;
 use crate::latest::{Latest, latest_records};
+use crate::named::Named;
 use feed_messages::header_bytes;
 use gw_base::{Bytes, Moment};
 use journey_model::{Context, JourneyRecord};

@@ -15,10 +15,7 @@ const SHOW: &str =
 
 // Deliveries of one journey, each with the lines of its stops.
 static ROUNDS: [(&str, &str); 26] = [
-    (
-        "$<{$R,$1,$C}$>",
-        "2024-05-01 T1 cancelled\n",
-    ),
+    ("$<{$R,$1,$C}$>", "2024-05-01 T1 cancelled\n"),
     (
         "$<{$R,$1,$({$P:'A',$O:1,$a:'2024-05-01T06:01:00Z',$d:'2024-05-01T06:01:00Z'},\
         {$P:'B',$O:2,$a:'2024-05-01T06:11:00Z',$d:'2024-05-01T06:12:00Z'},\
