@@ -141,7 +141,7 @@ fn zone_word<'a>(flag: &Text, value: &'a Text) -> ZoneWord<'a>
 }
 
 // What the words say of what a command works over.
-fn scope(words: &[Text]) -> Scope<'_>
+fn over(words: &[Text]) -> Scope<'_>
     requires { (over : said.Scope) × SaysScope words.now over }
     ensures { SaysScope words.now (scope_of result) }
 {
@@ -159,7 +159,7 @@ fn to_gtfsrt(words: &[Text]) -> Work<'_>
     ensures { Says words.now (job_of result) }
 {
     Work::ToGtfsrt {
-        over: scope(words),
+        over: over(words),
         at: moment(&words[10]).unwrap(),
         more: &words[11..],
     }
@@ -171,7 +171,7 @@ fn to_siri(words: &[Text]) -> Work<'_>
     ensures { Says words.now (job_of result) }
 {
     Work::ToSiri {
-        over: scope(words),
+        over: over(words),
         at: moment(&words[10]).unwrap(),
         feed: &words[12],
     }
@@ -183,13 +183,13 @@ fn show(words: &[Text]) -> Work<'_>
     ensures { Says words.now (job_of result) }
 {
     Work::Show {
-        over: scope(words),
+        over: over(words),
         feed: &words[10],
     }
 }
 
 // What the words of a command say.
-fn work(words: &[Text]) -> Work<'_>
+fn read(words: &[Text]) -> Work<'_>
     requires { (job : said.Job) × IsJob words.now job }
     ensures { Says words.now (job_of result) }
 {
@@ -206,5 +206,5 @@ pub fn job(words: &[Text]) -> Result<Work<'_>, BadWord>
     ensures refused { IfErr result (λ bad. IsRefusedAt words.now bad.at) }
 {
     check(&COMMANDS, words)?;
-    Ok(work(words))
+    Ok(read(words))
 }

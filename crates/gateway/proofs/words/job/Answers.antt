@@ -1,6 +1,6 @@
 use Rattle.std.proofs.lemmas.Result.{err_from_is_err_and}
 use Rattle.gateway.specs.Words.{commands, show, to_gtfsrt, to_siri}
-use Rattle.gateway.proofs.WordLemmas.{read}
+use Rattle.gateway.proofs.WordLemmas.{read as can_read}
 use Rattle.gateway.proofs.words.job.Goals as goal
 
 pub returns-in_err-check-clause-refused : goal.returns-in_err-check-clause-refused
@@ -9,6 +9,6 @@ returns-in_err-check-clause-refused c =
     let p = err_from_is_err_and c.from_residual.result c.from_residual.ensures.1 in
     rw (p.1, p.2) (record { stops = c.in_err-check.ensures.refused })
 
-pub work-requires : goal.work-requires
+pub read-requires : goal.read-requires
 unfolding commands to_gtfsrt to_siri show
-work-requires c = read c.args.words.now c.in_ok-check.ensures.accepted
+read-requires c = can_read c.args.words.now c.in_ok-check.ensures.accepted
