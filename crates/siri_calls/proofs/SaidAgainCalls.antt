@@ -1,26 +1,24 @@
 -- The calls that a delivery says are read as the calls of their stops, which read as the journey does.
-use Rattle.std.proofs.Common.{◌≡◌, ℕ, zero, suc, ◌+◌, ◌-◌, ◌<◌, ◌≤◌, List, [], ◌∷◌, length, map, drop, position, bytes_eq, find, slice_get, Bool, true, false, ◌&&◌, ◌||◌, ◌==◌, nat_lt, nat_le, cond, Option, Some, None, Result, Ok, Err, arith, add-one, le-leb, lt-ltb, ltb-true, refl, sym, ap, ap₂, ◌∙◌, subst, ℤ, ◌-ℤ◌}
+use Rattle.std.proofs.Common.{◌≡◌, ℕ, zero, suc, ◌+◌, ◌-◌, ◌<◌, ◌≤◌, List, [], ◌∷◌, length, map, drop, find, slice_get, Bool, true, false, ◌||◌, ◌==◌, nat_lt, nat_le, cond, Option, Some, None, Ok, arith, add-one, le-leb, ltb-true, refl, sym, ap, ap₂, ◌∙◌, subst, ℤ, ◌-ℤ◌}
 use Rattle.std.specs.List.{list_all, list_any, range_with_len}
-use Rattle.std.specs.Option.{option_map_or, option_or}
+use Rattle.std.specs.Option.{option_or}
 use Rattle.std.proofs.lemmas.Bool.{and_parts}
 use Rattle.std.proofs.lemmas.Bool.Decides.{nat_tests}
 use Rattle.gw_base.specs.declared.member.Member.{Member}
 use Rattle.serde_json.specs.Data.{Data}
-use Rattle.service_day.specs.Utc.{IsMoment, moment_text}
+use Rattle.service_day.specs.Utc.{moment_text}
 use Rattle.service_day.specs.declared.zones.Rules.{Rules}
 use Rattle.stop_schedule.specs.Planned.{planned}
 use Rattle.stop_schedule.specs.Stops.{is_timed}
 use Rattle.stop_schedule.specs.declared.stop_times.StopRow.{StopRow}
-use Rattle.journey_model.specs.Chains.{◌>>=◌}
 use Rattle.journey_model.specs.Matching.{call_place, fits_order, is_of_stop, place_behind, stands_at}
 use Rattle.journey_model.specs.Readings.{are_near, is_near}
 use Rattle.journey_model.specs.Runs.{Run, planned_at}
 use Rattle.journey_model.specs.Times.{delay_fault, is_delay}
-use Rattle.journey_model.specs.declared.fault.Fault.{Fault}
 use Rattle.journey_model.specs.declared.readings.JourneyReading.TheVariants.{Stops}
 use Rattle.journey_model.specs.declared.readings.StopReading.{StopReading}
 use Rattle.journey_model.specs.declared.readings.StopReading.TheVariants.{Absent, Skipped, Timed}
-use Rattle.siri_calls.specs.Calls.{call, call_read, calls, event, statuses}
+use Rattle.siri_calls.specs.Calls.{call, calls, event, statuses}
 use Rattle.siri_calls.specs.DeliveryTree.{call_tree, call_trees_from, id_at}
 use Rattle.siri_calls.specs.Fields.{optional_member, required_member}
 use Rattle.siri_calls.specs.Forms.{filled, flag, text, whole}

@@ -1,7 +1,6 @@
 -- Ids that are distinct, by their places.
-use Rattle.std.proofs.Common.{◌≡◌, ℕ, zero, suc, ◌<◌, ◌≤◌, List, [], ◌∷◌, length, get_or, position, bytes_eq, Bool, true, false, ◌&&◌, ◌||◌, not, cond, IsUtf8, arith, lt-ltb, refl, sym, ap, ◌∙◌, subst, Some}
-use Rattle.std.specs.List.{list_all, list_any, position_or_len}
-use Rattle.std.specs.Str.{is_utf8}
+use Rattle.std.proofs.Common.{◌≡◌, ℕ, zero, suc, ◌<◌, List, [], ◌∷◌, length, get_or, position, bytes_eq, Bool, true, false, not, IsUtf8, arith, lt-ltb, refl, sym, ap, ◌∙◌, Some}
+use Rattle.std.specs.List.{list_all, list_any}
 use Rattle.std.proofs.lemmas.Bool.{and_parts, or_parts, not-true, leb-true, true≢false}
 use Rattle.std.proofs.lemmas.List.Sums.{position_or_len_is}
 use Rattle.std.proofs.lemmas.Slice.Eq.{bytes_eq-Decides}

@@ -1,16 +1,13 @@
 -- The journeys that a delivery says are read as they are said.
-use Rattle.std.proofs.Common.{◌≡◌, ℕ, ◌+◌, ◌<◌, List, [], ◌∷◌, ◌++◌, length, map, codes, position, bytes_eq, Bool, true, false, ◌&&◌, All, Option, Some, None, Result, Ok, Err, unwrap_or, IfSome, arith, append-nil, refl, sym, ap, ap₂, ◌∙◌, subst, ℤ}
+use Rattle.std.proofs.Common.{◌≡◌, ℕ, ◌+◌, ◌<◌, List, [], ◌∷◌, ◌++◌, length, map, position, bytes_eq, Bool, true, false, All, Option, Some, Result, Ok, unwrap_or, append-nil, refl, ap, ap₂, ◌∙◌, ℤ}
 use Rattle.std.specs.List.{list_all}
-use Rattle.std.specs.Option.{ok_or}
 use Rattle.std.proofs.lemmas.List.Elements.{All-head, All-tail}
 use Rattle.gw_base.specs.declared.member.Member.{Member}
 use Rattle.serde_json.specs.Data.{Data}
-use Rattle.serde_json.specs.Find.{get}
 use Rattle.service_day.specs.Days.{IsDay}
 use Rattle.service_day.specs.DayTexts.{dashed_text}
 use Rattle.service_day.specs.Utc.{IsMoment, moment_text}
 use Rattle.service_day.specs.declared.zones.Rules.{Rules}
-use Rattle.stop_schedule.specs.Ids.{is_id}
 use Rattle.stop_schedule.specs.Sound.{IsSound}
 use Rattle.stop_schedule.specs.declared.stop_times.StopRow.{StopRow}
 use Rattle.journey_model.specs.Chains.{◌>>=◌}
@@ -36,7 +33,7 @@ use Rattle.siri_calls.specs.Verdicts.{calls_unless, header, item_read, recorded_
 use Rattle.siri_calls.proofs.SaidAgainCalls.{calls-read, filled-some, no-extras, read_from, stops-read}
 use Rattle.siri_calls.proofs.SaidAgainIds.{id-at, position-id, some-id}
 use Rattle.service_day.proofs.MomentTextLemmas.{day_of-dashed_text, moment_of-moment_text, some-dashed_text, some-moment_text}
-use Rattle.siri_calls.proofs.SaidAgainPlain.{near-readings, recorded-moment}
+use Rattle.siri_calls.proofs.SaidAgainPlain.{recorded-moment}
 use Rattle.siri_calls.proofs.SaidAgainRuns.{IsSoundRun, sound-run}
 
 -- ---- the trees of calls

@@ -1,10 +1,9 @@
 -- The tree of a delivery is plain: its texts are UTF-8, its numbers are of 64 bits, and the names of members rise.
-use Rattle.std.proofs.Common.{◌≡◌, ℕ, zero, suc, ◌+◌, ◌<◌, ◌≤◌, ◌^◌, List, [], ◌∷◌, ◌++◌, length, map, codes, Bool, true, false, ◌&&◌, nat_lt, IsUtf8, All, Option, Some, None, IfSome, unwrap_or, arith, ltb-true, refl, sym, ap, ◌∙◌, subst, ℤ}
+use Rattle.std.proofs.Common.{◌≡◌, ℕ, ◌+◌, ◌<◌, ◌^◌, List, [], ◌∷◌, length, map, codes, true, nat_lt, IsUtf8, All, Option, Some, None, IfSome, unwrap_or, arith, ltb-true, refl, sym, subst, ℤ}
 use Rattle.std.specs.List.{list_all}
 use Rattle.std.proofs.lemmas.Bool.{and_parts}
 use Rattle.std.proofs.lemmas.List.Elements.{All-head, All-tail}
 use Rattle.json.proofs.Printed.Utf8.{are_ascii, IsUtf8-are_ascii}
-use Rattle.serde_json.specs.Data.{Data}
 use Rattle.service_day.specs.Utc.{IsMoment}
 use Rattle.stop_schedule.specs.Planned.{planned}
 use Rattle.stop_schedule.specs.Sound.{IsSound}
@@ -12,15 +11,15 @@ use Rattle.stop_schedule.specs.Stops.{is_timed}
 use Rattle.stop_schedule.specs.declared.stop_times.StopRow.{StopRow}
 use Rattle.journey_model.specs.Readings.{are_near, fits_trip, is_near}
 use Rattle.journey_model.specs.Runs.{Run}
-use Rattle.journey_model.specs.Schedules.{Schedule, run_on}
+use Rattle.journey_model.specs.Schedules.{Schedule}
 use Rattle.journey_model.specs.declared.readings.DatedReading.{DatedReading}
 use Rattle.journey_model.specs.declared.readings.JourneyReading.{JourneyReading}
 use Rattle.journey_model.specs.declared.readings.JourneyReading.TheVariants.{Cancelled, Stops}
 use Rattle.journey_model.specs.declared.readings.StopReading.{StopReading}
 use Rattle.journey_model.specs.declared.readings.StopReading.TheVariants.{Absent, Skipped, Timed}
-use Rattle.siri_calls.specs.DeliveryTree.{all_calls, call_tree, call_trees_from, delivery_tree, frame_tree, framed_ref, id_at, items_of, journey_of_run, journey_on, journey_tree, moment_tree, service_tree, skipped_at, stop_readings, timetable_tree}
+use Rattle.siri_calls.specs.DeliveryTree.{call_tree, call_trees_from, delivery_tree, frame_tree, id_at, items_of, journey_of_run, journey_on, journey_tree, service_tree, skipped_at, stop_readings, timetable_tree}
 use Rattle.siri_calls.specs.Sayable.{IsSayable}
-use Rattle.siri_calls.proofs.SaidAgainIds.{all-at, id-at, IsUtf8-id}
+use Rattle.siri_calls.proofs.SaidAgainIds.{id-at, IsUtf8-id}
 use Rattle.service_day.proofs.MomentTextLemmas.{IsUtf8-dashed_text, IsUtf8-moment_text}
 use Rattle.siri_calls.proofs.SaidAgainRuns.{IsSoundRun, planned-moments, read-moments, sound-run}
 use Rattle.siri_calls.proofs.SaidAgainTrees.{ArePlain, IsPlain}

@@ -1,24 +1,22 @@
 -- The run of a journey that a delivery says: its ids, its stops and its times.
-use Rattle.std.proofs.Common.{◌≡◌, ℕ, ◌+◌, ◌<◌, ◌≤◌, List, [], ◌∷◌, length, get_or, Bool, true, ◌&&◌, nat_lt, nat_le, IsUtf8, Option, Some, None, IfSome, option_map, arith, refl, sym, ap, ◌∙◌, subst, ℤ, pos, negsuc, ◌+ℤ◌, ◌-ℤ◌}
+use Rattle.std.proofs.Common.{◌≡◌, ℕ, ◌<◌, ◌≤◌, length, true, nat_lt, nat_le, Option, Some, None, IfSome, option_map, arith, refl, subst, ℤ, pos, ◌+ℤ◌, ◌-ℤ◌}
 use Rattle.std.specs.List.{list_all}
-use Rattle.std.proofs.lemmas.Bool.{and_parts, leb-true, ltb-true}
-use Rattle.std.proofs.lemmas.Bool.Decides.{nat_tests}
+use Rattle.std.proofs.lemmas.Bool.{and_parts, leb-true}
 use Rattle.std.proofs.lemmas.Int.{ints}
 use Rattle.service_day.specs.Starts.{IsDayStart}
 use Rattle.service_day.specs.Utc.{IsMoment}
 use Rattle.service_day.specs.Windows.{start_in}
-use Rattle.stop_schedule.specs.Ids.{are_ids, is_id}
+use Rattle.stop_schedule.specs.Ids.{are_ids}
 use Rattle.stop_schedule.specs.Planned.{planned}
 use Rattle.stop_schedule.specs.Sound.{IsSound}
-use Rattle.stop_schedule.specs.Stops.{are_known, are_rising, are_stops_of, are_timed, is_timed}
+use Rattle.stop_schedule.specs.Stops.{is_timed}
 use Rattle.stop_schedule.specs.declared.stop_times.StopRow.{StopRow}
 use Rattle.journey_model.specs.Readings.{is_near}
 use Rattle.journey_model.specs.Runs.{Run}
-use Rattle.journey_model.specs.Schedules.{Schedule, run_from, run_on}
+use Rattle.journey_model.specs.Schedules.{Schedule, run_from}
 use Rattle.journey_model.specs.Times.{is_delay}
 use Rattle.journey_model.specs.declared.readings.DatedReading.{DatedReading}
-use Rattle.journey_model.specs.declared.readings.StopReading.{StopReading}
-use Rattle.journey_model.specs.declared.readings.StopReading.TheVariants.{Absent, Skipped, Timed}
+use Rattle.journey_model.specs.declared.readings.StopReading.TheVariants.{Timed}
 use Rattle.siri_calls.specs.Sayable.{IsSayable}
 
 -- the ids by which the stops of a run are numbered are ids, its stops are of them, and its day has a start

@@ -1,5 +1,5 @@
 -- What a delivery that was written says when it is read again.
-use Rattle.std.specs.Prelude.{◌≡◌, ℕ, ℤ, List, map, unwrap_or, Some, Result, Ok, Option}
+use Rattle.std.specs.Prelude.{◌≡◌, ℕ, ℤ, List, map, unwrap_or, Some, Result, Ok}
 use Rattle.journey_model.specs.Records.{Recorded}
 use Rattle.journey_model.specs.Schedules.{Schedule}
 use Rattle.journey_model.specs.declared.fault.Fault.{Fault}

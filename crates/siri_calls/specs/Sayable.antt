@@ -1,5 +1,5 @@
 -- Readings that a delivery can say.
-use Rattle.std.specs.Prelude.{ℤ, IfSome}
+use Rattle.std.specs.Prelude.{IfSome}
 use Rattle.service_day.specs.Days.{IsDay}
 use Rattle.service_day.specs.Starts.{IsDayStart}
 use Rattle.service_day.specs.Utc.{IsMoment}
