@@ -67,6 +67,7 @@ days_in_form Line trees = true
 days_in_form StopPoint trees = true
 days_in_form VehicleJourney trees = list_all day_in_form trees
 
+-- the references that objects of a kind hold
 abbrev pub references_in : AffectedKind → Table → List Data → Result (List Reference) Fault
 references_in kind table trees =
     if days_in_form kind trees then gather (reference kind table) trees else Err (BadField Member.DataFrameRef)
@@ -85,6 +86,7 @@ references_below table affects = do
   journeys ← references_by VehicleJourney table affects
   Ok (lines ++ stops ++ journeys)
 
+-- the references of a situation: none where Affects is missing
 abbrev pub references : Table → Data → Result (List Reference) Fault
 references table tree = do
   affects ← trees_at (Object Member.Affects) tree

@@ -23,6 +23,7 @@ kept None None = []
 kept None (Some end) = record { start = None; end = Some end } ∷ []
 kept (Some start) end = record { start = Some start; end = end } ∷ []
 
+-- the period that an object says, if it is kept
 abbrev pub period : Rules → Data → Result (List ValidPeriod) Fault
 period zone tree = do
   start ← optional_member (moment zone) Member.StartTime tree

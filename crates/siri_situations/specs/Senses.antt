@@ -39,6 +39,7 @@ effect_named condition =
     (if bytes_eq condition (codes "altered") then pos 6 else
     (if bytes_eq condition (codes "disrupted") then pos 6 else pos 8))))))
 
+-- the effect where the condition may be missing
 abbrev pub effect_of : Option (List ℕ) → ℤ
 effect_of None = pos 8
 effect_of (Some condition) = effect_named condition

@@ -65,7 +65,7 @@ touched table tree = do
   number ← effect tree
   Ok (all, number)
 
--- the situation, and how many of its references aren't known: the forms of all members come before what it affects
+-- a situation of what it says, its cause, its effect and what it affects
 abbrev pub situation_of : Said → ℤ → ℤ → List Ref → Situation
 situation_of all cause_number effect_number refs = record {
   number = all.head.number;
@@ -79,6 +79,7 @@ situation_of all cause_number effect_number refs = record {
   description = all.words.description;
 }
 
+-- the situation, and how many of its references aren't known: the forms of all members come before what is known
 abbrev pub situation : Schedule → Data → Result (Situation × ℕ) Fault
 situation schedule tree = do
   all ← said schedule.zone tree
@@ -86,6 +87,7 @@ situation schedule tree = do
   affects ← affected touches.0
   Ok (situation_of all (cause tree) touches.1 affects.0, affects.1)
 
+-- what an item is: it has to be an object
 abbrev pub verdict : Schedule → Data → Result (Situation × ℕ) Fault
 verdict schedule tree = if is_object tree then situation schedule tree else Err (BadField Member.PtSituationElement)
 
