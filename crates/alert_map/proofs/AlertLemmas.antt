@@ -1,5 +1,5 @@
 -- The texts of days, and how long the bodies of entities are.
-use Rattle.std.proofs.Common.{◌≡◌, ◌∙◌, ◌<◌, ◌≤◌, ◌-◌, ◌^◌, ◌++◌, ◌∷◌, ◌&&◌, Bool, true, false, ℕ, List, [], length, length-append, take, drop, Result, Ok, Err, refl, ap, inl, inr, arith}
+use Rattle.std.proofs.Common.{◌≡◌, ◌∙◌, ◌<◌, ◌≤◌, ◌-◌, ◌^◌, ◌++◌, ◌∷◌, ◌&&◌, Bool, true, false, ℕ, List, [], length, length-append, take, drop, Result, Ok, Err, refl, sym, subst, ap, inl, inr, arith}
 use Rattle.std.proofs.lemmas.Bool.{cases_lt, false≢true, lt-ltb, ltb-true}
 use Rattle.std.proofs.lemmas.List.{get_or_past, take_all}
 use Rattle.std.proofs.lemmas.List.Elements.{All-from_recursion}
@@ -104,5 +104,5 @@ each_known table refs known = All-from_recursion (IsKnown table) refs (each refs
     each (one ∷ refs) h = (is_there table one (and-left (is_known table one) _ h), each refs (and-right (is_known table one) _ h))
 
 -- the timetable has the one route that is referred to
-pub known_one : (table : Table) (route : RouteNo) → route.0 < length table.routes → AreKnown table (Route route ∷ [])
-known_one table route within = rw (lt-ltb route.0 (length table.routes) within) refl
+pub known_one : (table : Table) (refs : List Ref) (route : RouteNo) → refs ≡ Route route ∷ [] → route.0 < length table.routes → AreKnown table refs
+known_one table refs route is within = rw is (rw (lt-ltb route.0 (length table.routes) within) refl)

@@ -50,9 +50,11 @@ pub fn alert_entity(
     situation: &Situation,
 ) -> Result<Bytes, AllocError>
     requires { AreKnown (seen table.now) situation.now.refs }
-    ensures bytes { IfOk result (λ bytes. bytes ≡ written (spec.alert_message (seen table.now) situation.now)) }
+    ensures bytes { IfOk result
+        (λ bytes. bytes ≡ written (spec.alert_message (seen table.now) situation.now)) }
     ensures means { IfOk result (λ bytes. (before : List ℕ) (feed : Feed) → MeansFeed before feed
-        → MeansFeed (before ++ bytes) (with_entity feed (spec.alert_message (seen table.now) situation.now))) }
+        → MeansFeed (before ++ bytes)
+        (with_entity feed (spec.alert_message (seen table.now) situation.now))) }
 {
     let entity = message(alloc, table, situation)?;
     entity_bytes(alloc, &entity)
@@ -61,7 +63,8 @@ pub fn alert_entity(
 /// How many bytes the body of an entity has, by the bytes that stand for it in a feed: the number behind its tag (protobuf
 /// encoding, "Message Structure"). 0 where they are no entity's. Takes no memory.
 pub fn entity_body_len(bytes: &[u8]) -> u64
-    ensures { (entity : Entity) → bytes.now ≡ written entity → result ≡ spec.entity_body_len entity }
+    ensures { (entity : Entity) → bytes.now ≡ written entity
+        → result ≡ spec.entity_body_len entity }
 {
     let [_, rest @ ..] = bytes else {
         return 0;

@@ -66,7 +66,8 @@ fn trip_on(alloc: Global, trip_id: &str, day: Day) -> Result<TripDescriptor, All
 
 // The selector of a trip on a day.
 fn trip_selector(alloc: Global, trip_id: &str, day: Day) -> Result<Selector, AllocError>
-    ensures { IfOk result (λ selector. selector ≡ spec.trip_selector trip_id.now (compact_text day)) }
+    ensures { IfOk result
+        (λ selector. selector ≡ spec.trip_selector trip_id.now (compact_text day)) }
 {
     Ok(Selector {
         agency_id: None,
@@ -95,7 +96,8 @@ pub(crate) fn selectors_of(
     refs: &[Ref],
 ) -> Result<List<Selector>, AllocError>
     requires { IsEachKnown (seen table.now) refs.now }
-    ensures { IfOk result (λ selectors. selectors ≡ map (spec.selector_of (seen table.now)) refs.now) }
+    ensures { IfOk result
+        (λ selectors. selectors ≡ map (spec.selector_of (seen table.now)) refs.now) }
 {
     let mut selectors = List::new(alloc);
     for one in refs {

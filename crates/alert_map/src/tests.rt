@@ -1,5 +1,5 @@
 //! The bytes of an alert's entity.
-ghost use Rattle.std.specs.Prelude.{◌<◌, length};
+ghost use Rattle.std.specs.Prelude.{◌≡◌, ◌<◌, ◌∷◌, [], length, IfOk};
 
 use crate::{alert_entity, entity_body_len};
 use gw_base::{Bytes, List, MemoryFiles, Text};
@@ -52,23 +52,40 @@ fn periods(alloc: Global) -> Result<List<ValidPeriod>, AllocError> {
     Ok(periods)
 }
 
-// The entity of the situation.
-fn entity_of(alloc: Global, table: &Timetable, route: RouteNo) -> Result<Bytes, AllocError>
-    requires { route.0 < length table.now.routes }
+// What the situation refers to.
+fn refs(alloc: Global, route: RouteNo) -> Result<List<Ref>, AllocError>
+    ensures { IfOk result (λ refs. refs ≡ Ref.Route route ∷ []) }
 {
     let mut refs = List::new(alloc);
     refs.push(Ref::Route(route))?;
-    let situation = Situation {
-        number: Text::copied(alloc, "S1")?,
+    Ok(refs)
+}
+
+// The situation.
+fn situation(alloc: Global, route: RouteNo) -> Result<Situation, AllocError>
+    ensures { IfOk result (λ one. one.refs ≡ Ref.Route route ∷ []) }
+{
+    let number = Text::copied(alloc, "S1")?;
+    let summary = Text::copied(alloc, "Late")?;
+    let periods = periods(alloc)?;
+    Ok(Situation {
+        number,
         version: 1,
         served: true,
-        periods: periods(alloc)?,
-        refs,
+        periods,
+        refs: refs(alloc, route)?,
         cause: 3,
         effect: 3,
-        summary: Some(Text::copied(alloc, "Late")?),
+        summary: Some(summary),
         description: None,
-    };
+    })
+}
+
+// Its entity.
+fn entity_of(alloc: Global, table: &Timetable, route: RouteNo) -> Result<Bytes, AllocError>
+    requires { route.0 < length table.now.routes }
+{
+    let situation = situation(alloc, route)?;
     alert_entity(alloc, table, &situation)
 }
 

@@ -21,9 +21,11 @@ fn add_running(
     readings: &[StopReading],
 ) -> Result<(), AllocError>
     requires reading { one.now.reading ≡ JourneyReading.Stops readings.now }
-    requires fits { FitsSchedule (schedule_of context.now) one.now.trip.0 one.now.day one.now.reading }
+    requires fits { FitsSchedule (schedule_of context.now)
+        one.now.trip.0 one.now.day one.now.reading }
     ensures { OnOk result (lines.new
-        ≡ lines.old ++ spec.reading_lines (seen context.now.table.now) one.now.trip.0 name.now one.now.reading) }
+        ≡ lines.old ++ spec.reading_lines (seen context.now.table.now) one.now.trip.0 name.now
+        one.now.reading) }
 {
     let Some(dated) = context.dated(one.trip, one.day) else {
         unreachable!();
@@ -59,9 +61,11 @@ fn add_journeys(
     context: &Context<'_>,
     journeys: &[DatedReading],
 ) -> Result<(), AllocError>
-    requires { All (λ one. FitsSchedule (schedule_of context.now) one.trip.0 one.day one.reading) journeys.now }
+    requires { All (λ one. FitsSchedule (schedule_of context.now) one.trip.0 one.day one.reading)
+        journeys.now }
     ensures { OnOk result
-        (lines.new ≡ lines.old ++ flat_map (spec.journey_lines (seen context.now.table.now)) journeys.now) }
+        (lines.new ≡ lines.old
+        ++ flat_map (spec.journey_lines (seen context.now.table.now)) journeys.now) }
 {
     for one in journeys {
         add_journey(alloc, lines, context, one)?;
@@ -116,7 +120,8 @@ pub fn show_lines(
     context: &Context<'_>,
     reading: &FeedReading,
 ) -> Result<Bytes, AllocError>
-    requires { All (λ one. FitsSchedule (schedule_of context.now) one.trip.0 one.day one.reading) reading.now.journeys }
+    requires { All (λ one. FitsSchedule (schedule_of context.now) one.trip.0 one.day one.reading)
+        reading.now.journeys }
     ensures { IfOk result (λ lines. lines ≡ spec.shown (schedule_of context.now) reading.now) }
 {
     let report = &reading.report;

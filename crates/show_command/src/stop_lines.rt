@@ -89,7 +89,8 @@ pub(crate) fn add_stops(
     requires known { are_known (length table.now.stops) stops.now ≡ true }
     requires moments { All spec.AreMoments readings.now }
     ensures { OnOk result
-        (lines.new ≡ lines.old ++ spec.stop_lines table.now.stops name.now (zip stops.now readings.now)) }
+        (lines.new ≡ lines.old
+        ++ spec.stop_lines table.now.stops name.now (zip stops.now readings.now)) }
 {
     for (place, stop) in stops.iter().enumerate() {
         let stop_id = table.stop_id(stop.stop);

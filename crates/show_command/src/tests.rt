@@ -4,7 +4,7 @@ mod vectors;
 
 use crate::show_lines;
 use feed_messages::read_feed;
-use gw_base::Bytes;
+use gw_base::{Bytes, Feed};
 use journey_model::Context;
 use propagation::readings_of;
 use std::alloc::{AllocError, Global};
@@ -13,20 +13,15 @@ use std::test::Fail;
 use vectors::VECTORS;
 
 // What is shown of a feed.
-fn lines_of(
-    rt: &impl Abort,
-    alloc: Global,
-    context: &Context<'_>,
-    bytes: &[u8],
-) -> Result<Bytes, AllocError> {
-    let feed = read_feed(alloc, bytes).expect(rt, "a feed");
-    let reading = readings_of(alloc, &feed, context)?;
+fn lines_of(alloc: Global, context: &Context<'_>, feed: &Feed) -> Result<Bytes, AllocError> {
+    let reading = readings_of(alloc, feed, context)?;
     show_lines(alloc, context, &reading)
 }
 
 // These lines are shown of a feed.
 fn assert_shown(rt: &impl Abort, alloc: Global, context: &Context<'_>, bytes: &[u8], wanted: &str) {
-    let lines = lines_of(rt, alloc, context, bytes).expect(rt, "memory");
+    let feed = read_feed(alloc, bytes).expect(rt, "a feed");
+    let lines = lines_of(alloc, context, &feed).expect(rt, "memory");
     assert_eq!(rt; lines.as_slice(), wanted.as_bytes());
 }
 

@@ -4,4 +4,4 @@ use Rattle.alert_map.proofs.AlertLemmas.{known_one}
 use Rattle.alert_map.proofs.tests.entity_of.Goals as goal
 
 pub alert_entity-requires : goal.alert_entity-requires
-alert_entity-requires c = rw (c.in_ok-push.ensures.added, c.new-refs.ensures.empty) (known_one (seen c.args.table.now) c.args.route c.requires)
+alert_entity-requires c = known_one (seen c.args.table.now) _ c.args.route c.in_ok-situation.ensures c.requires
