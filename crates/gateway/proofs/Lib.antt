@@ -1,4 +1,5 @@
 mod DeliveryLemmas
+mod FeedSteps
 mod FormLemmas
 mod MomentLemmas
 mod PublishedLemmas

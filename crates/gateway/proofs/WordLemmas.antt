@@ -1,8 +1,10 @@
 -- What the words of an accepted list say.
-use Rattle.std.proofs.Common.{◌≡◌, refl, ap, sym, ◌∙◌, ℕ, ◌<◌, ◌≤◌, ◌&&◌, ℤ, List, [], ◌∷◌, Option, Some, None, length, drop, get_or, slice_get, subst, arith, Bool, true, false, cond}
+use Rattle.std.proofs.Common.{◌≡◌, ◌≢◌, ◌+◌, refl, ap, sym, ◌∙◌, ℕ, ◌<◌, ◌≤◌, ◌&&◌, ℤ, List, [], ◌∷◌, Option, Some, None, length, drop, get_or, slice_get, subst, arith, Bool, true, false, cond}
 use Rattle.std.specs.Prelude.{IsSomeAnd, codes, int_le, is_some, nat_eq, nat_le, option_and_then, pos, ◌+ℤ◌, ◌-ℤ◌}
 use Rattle.std.specs.Cmp.Lexicographic.{pointwise, same_text}
+use Rattle.std.proofs.lemmas.Bool.{true≢false}
 use Rattle.std.proofs.lemmas.Bool.Decides.{nat_tests}
+use Rattle.std.proofs.lemmas.Cmp.{nat_list_eq_equiv}
 use Rattle.std.proofs.lemmas.Int.{ints}
 use Rattle.std.proofs.lemmas.Option.{none-some, option_and_then_some, same_Some, slice_get_read, slice_get_within}
 use Rattle.gateway.specs.Forms.{beginning, day_count, decimal_number, ends_in_time}
@@ -110,10 +112,9 @@ read (name ∷ words) is =
 -- ---- which command a list is by its name
 
 name_differs : {a b : List ℕ} (name : Option (List ℕ)) → name ≡ Some a → name ≡ Some b → pointwise nat_eq a b ≡ false → ⊥
-name_differs {a} {b} name here there differ = let same : a ≡ b = same_Some a b (sym here ∙ there) in absurd (grind (nat_tests, same, differ, same_text_back a b same))
-  where
-    same_text_back : (a b : List ℕ) → a ≡ b → pointwise nat_eq a b ≡ true
-    same_text_back a b e = rw (← e) (text_refl a)
+name_differs {a} {b} name here there differ =
+    let same : a ≡ b = same_Some a b (sym here ∙ there) in
+    true≢false (sym (nat_list_eq_equiv.refl a) ∙ ap (pointwise nat_eq a) same ∙ differ)
 
 pub gtfsrt_of : (words : List (List ℕ)) (job : Job) → IsJob words job → slice_get words 0 ≡ Some (codes "to-gtfsrt")
     → (command : ToGtfsrt) × SaysToGtfsrt words command
@@ -129,9 +130,9 @@ siri_of words (show_job command) is named = absurd (name_differs (slice_get word
 
 pub show_of : (words : List (List ℕ)) (job : Job) → IsJob words job → slice_get words 0 ≢ Some (codes "to-gtfsrt") → slice_get words 0 ≢ Some (codes "to-siri")
     → (command : Show) × SaysShow words command
-show_of words (gtfsrt_job command) is no other = absurd (no is.says.name)
-show_of words (siri_job command) is no other = absurd (other is.says.name)
-show_of words (show_job command) is no other = (command, is.says)
+show_of words (gtfsrt_job command) is first other = absurd (first is.says.name)
+show_of words (siri_job command) is first other = absurd (other is.says.name)
+show_of words (show_job command) is first other = (command, is.says)
 
 -- what is read at a place where a value is known to be is the value
 pub read_at : {A : Type 0} (f : List ℕ → Option A) (words : List (List ℕ)) (k : ℕ) (known value : A) (word : List ℕ)

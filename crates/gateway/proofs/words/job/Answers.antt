@@ -12,3 +12,7 @@ returns-in_err-check-clause-refused c =
 pub read-requires : goal.read-requires
 unfolding commands to_gtfsrt to_siri show
 read-requires c = can_read c.args.words.now c.in_ok-check.ensures.accepted
+
+pub returns-clause-accepted : goal.returns-clause-accepted
+unfolding commands to_gtfsrt to_siri show
+returns-clause-accepted c = record { accepted = c.in_ok-check.ensures.accepted; says = c.read.ensures }

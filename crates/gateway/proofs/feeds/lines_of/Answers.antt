@@ -1,0 +1,12 @@
+-- The readings of the feed, and their lines.
+use Rattle.std.proofs.Common.{◌∙◌, ap}
+use Rattle.show_command.specs.Lines.{shown}
+use Rattle.gateway.proofs.feeds.lines_of.Goals as goal
+
+pub returns : goal.returns
+returns c = (
+  c.in_ok-reading.reading,
+  rw c.context.ensures at c.in_ok-reading.ensures,
+  c.in_ok-out.ensures ∙ ap (λ schedule. shown schedule c.in_ok-reading.reading) c.context-2.ensures,
+  c.new.ensures.empty,
+)
