@@ -136,6 +136,18 @@ fn written(
     }
 }
 
+// What is written of a delivery.
+fn written_of(
+    alloc: Global,
+    context: &Context<'_>,
+    delivery: Delivery,
+    moment: Moment,
+) -> Option<Bytes>
+    requires { AreServable (schedule_of context.now) delivery.items }
+{
+    written(alloc, context, last_record(delivery), moment).ok()
+}
+
 // What is written of what is read.
 fn written_again(
     alloc: Global,
@@ -143,8 +155,10 @@ fn written_again(
     body: &str,
     moment: Moment,
 ) -> Option<Bytes> {
-    let delivery = read_delivery(alloc, body.as_bytes(), context).ok()?;
-    written(alloc, context, last_record(delivery), moment).ok()
+    match read_delivery(alloc, body.as_bytes(), context) {
+        Ok(delivery) => written_of(alloc, context, delivery, moment),
+        Err(_) => None,
+    }
 }
 
 // A case says what it does.
