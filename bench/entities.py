@@ -1,9 +1,9 @@
 #!/usr/bin/env python3
-"""Prints the bytes that the tests expect of entities of trips, as Rust byte strings.
+"""Prints the bytes that the tests expect of entities of trips and of alerts, as Rust byte strings.
 
 It writes protobuf from the schema by itself (gtfs-realtime.proto: FeedEntity, TripUpdate, TripDescriptor,
-StopTimeUpdate, StopTimeEvent) and shares nothing with the crates. crates/gateway/src/tests/entities.rt holds what it
-prints.
+StopTimeUpdate, StopTimeEvent, Alert, TimeRange, EntitySelector, TranslatedString) and shares nothing with the crates.
+crates/gateway/src/tests/entities.rt and situations.rt hold what it prints.
 
 usage: bench/entities.py
 """
@@ -26,6 +26,13 @@ CANCELLED = [
 DELAYED = [
     ("T1_LATE", "T1", "20240501", "2024-05-01T06:00:00", 10, 60, "2024-05-01T06:00:00"),
     ("T1_EARLY", "T1", "20240501", "2024-05-01T06:00:00", 10, -1, "2024-05-01T06:00:00"),
+]
+# Alerts for the route R1: the name, the situation's number, when it begins, its cause and effect, and its header.
+ALERTS = [
+    ("S1_LATE", "S1", "2024-05-01T00:00:00", 3, 3, "Late"),
+    ("S1_LATER", "S1", None, 1, 8, "Later"),
+    ("S2_BARE", "S2", None, 1, 8, None),
+    ("S10_BARE", "S10", None, 1, 8, None),
 ]
 
 
@@ -62,6 +69,14 @@ def stop_update(sequence, delay, planned):
     return bytes_field(2, number_field(1, sequence) + bytes_field(2, event) + bytes_field(3, event))
 
 
+def alert(number, start, cause, effect, header):
+    period = bytes_field(1, number_field(1, moment_of(start))) if start else b""
+    selector = bytes_field(5, bytes_field(2, b"R1"))
+    text = bytes_field(10, bytes_field(1, bytes_field(1, header.encode()))) if header else b""
+    body = period + selector + number_field(6, cause) + number_field(7, effect) + text
+    return bytes_field(2, bytes_field(1, f"alert:{number}".encode()) + bytes_field(5, body))
+
+
 def show(name, body):
     text = "".join(f"\\x{byte:02x}" for byte in body)
     print(f'{name}: b"{text}"')
@@ -72,6 +87,8 @@ def main():
         show(name, entity(trip_id, date, recorded, 3, b""))
     for name, trip_id, date, recorded, sequence, delay, planned in DELAYED:
         show(name, entity(trip_id, date, recorded, 0, stop_update(sequence, delay, planned)))
+    for name, number, start, cause, effect, header in ALERTS:
+        show(name, alert(number, start, cause, effect, header))
 
 
 if __name__ == "__main__":

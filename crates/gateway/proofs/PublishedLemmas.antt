@@ -1,6 +1,5 @@
 -- What is published where the work was done.
 use Rattle.std.proofs.Common.{◌≡◌, ◌≢◌, ℕ, ℤ, pos, Bool, true, false, List, length, Result, Ok, Err, Option, Some, None, IfSome, codes, ◌++◌, sym, ap, subst, ◌∙◌, refl, if◌then◌else◌}
-use Rattle.std.specs.List.{flat_map}
 use Rattle.std.specs.Ordering.{int_eq}
 use Rattle.std.specs.Prelude.{nat_le}
 use Rattle.std.proofs.lemmas.Bool.{true≢false}
@@ -16,8 +15,8 @@ use Rattle.stop_schedule.specs.Table.{Table}
 use Rattle.stop_schedule.specs.Timetable.{timetable}
 use Rattle.stop_schedule.specs.declared.table_fault.TableFault.{TableFault}
 use Rattle.feed_messages.specs.Tables.{MeansFeed}
-use Rattle.latest_store.specs.Entities.{messages}
-use Rattle.gateway_core.specs.Deliveries.{all_taken, schedule_in}
+use Rattle.gateway_core.specs.Deliveries.{all_situations, all_taken, schedule_in}
+use Rattle.gateway_core.specs.Feeds.{entities_of}
 use Rattle.gateway.specs.Bodies.{differential_end}
 use Rattle.gateway.specs.Published.{IsFullFeed, IsSetting, IsZone, Publishes, PublishesFeed, PublishesLines, PublishesOf, PublishesSiri}
 use Rattle.gateway.specs.Words.{IsJob, Job, NamedZone, Scope, Show, ToGtfsrt, ToSiri, by_rule, by_file, gtfsrt_job, show_job, siri_job}
@@ -95,9 +94,9 @@ feed_published files command done before now (setting, setting_is, (deliveries, 
       bytes = done.out;
       written = written;
       rebuilt = rebuilt;
-      entities = flat_map (messages schedule) rebuilt.ordered;
-      means = rebuilt.means;
-      gives = λ trip within day. gives command.at schedule (all_taken deliveries) done.out rebuilt trip day;
+      entities = entities_of schedule rebuilt.ordered rebuilt.numbered;
+      means = rebuilt.is_feed.means;
+      gives = λ trip within day. gives command.at schedule (all_taken deliveries) (all_situations deliveries) done.out rebuilt trip day;
     }
 
 -- the delivery of the feed that was read says what it says

@@ -16,7 +16,7 @@ use Rattle.propagation.specs.Feeds.{IsReading}
 use Rattle.propagation.specs.declared.feeds.FeedReading.{FeedReading}
 use Rattle.show_command.specs.Lines.{shown}
 use Rattle.reverse_calls.specs.Siri.{IsSiri}
-use Rattle.gateway_core.specs.Deliveries.{all_taken, schedule_in}
+use Rattle.gateway_core.specs.Deliveries.{all_situations, all_taken, schedule_in}
 use Rattle.gateway_core.specs.Feeds.{IsRebuilt}
 use Rattle.gateway_core.specs.Gives.{GivesLatest}
 use Rattle.gateway.specs.Words.{IsJob, Job, NamedZone, Scope, Show, ToGtfsrt, ToSiri, by_rule, by_file, gtfsrt_job, siri_job, show_job}
@@ -36,9 +36,9 @@ pub record IsSetting (over : Scope) (files : Directory) (setting : Setting) : Ty
   pub zone_is : IsZone over.zone files zone
   pub window : IsWindow zone over.from over.days setting.window
 
--- standard output got the feed that is rebuilt from all records taken of the files' deliveries, in order. Read as protobuf, its
--- bytes mean a full dataset of version 2.0, made at the moment of the command; and this feed, propagated by GTFS Realtime's
--- rules, gives every stop of every journey exactly the time, skip or absence of the last-recorded SIRI journey
+-- standard output got the feed that is rebuilt from all records and situations taken of the files' deliveries, in order. Read as
+-- protobuf, its bytes mean a full dataset of version 2.0, made at the moment of the command; and this feed, propagated by GTFS
+-- Realtime's rules, gives every stop of every journey exactly the time, skip or absence of the last-recorded SIRI journey
 pub record PublishesFeed (command : ToGtfsrt) (files : Directory) (before now : Option (List ℕ)) : Type 0 where
   pub setting : Setting
   pub over : IsSetting command.over files setting
@@ -46,7 +46,7 @@ pub record PublishesFeed (command : ToGtfsrt) (files : Directory) (before now : 
   pub read : Deliveries setting files command.more [] (Ok deliveries)
   pub bytes : List ℕ
   pub written : now ≡ with_bytes before bytes
-  pub rebuilt : IsRebuilt command.at (schedule_in setting) (all_taken deliveries) bytes
+  pub rebuilt : IsRebuilt command.at (schedule_in setting) (all_taken deliveries) (all_situations deliveries) bytes
   pub entities : List Entity
   pub means : MeansFeed bytes (full_dataset command.at entities)
   pub gives : (trip : ℕ) → trip < length setting.table.trips → (day : ℤ) → GivesLatest (schedule_in setting) command.at entities (all_taken deliveries) trip day

@@ -28,7 +28,7 @@ unfoldable pub to_gtfsrt : Command
 to_gtfsrt = record {
   name = codes "to-gtfsrt";
   pairs = over_a_folder (at_pair ∷ []);
-  repeated = record { flags = codes "--et" ∷ []; form = is_filled };
+  repeated = record { flags = codes "--et" ∷ codes "--sx" ∷ []; form = is_filled };
 }
 
 unfoldable pub to_siri : Command

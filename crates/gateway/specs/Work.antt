@@ -1,7 +1,9 @@
 -- The order of work of the commands: the timetable, the zone, the window, each further file and its content. Each step finds
 -- something or ends the work, and the first end counts.
 use Rattle.std.specs.Prelude.{◌≡◌, ℕ, ℤ, pos, List, [], ◌∷◌, ◌++◌, codes, length, nat_le, if◌then◌else◌, Option, Some, None, Result, Ok, Err}
+use Rattle.std.specs.Bool.{MatchBool}
 use Rattle.std.specs.Ordering.{int_eq}
+use Rattle.std.specs.Str.{bytes_eq}
 use Rattle.gw_base.specs.Directory.{bytes_of}
 use Rattle.gw_base.specs.Steps.{◌>>=◌}
 use Rattle.gw_base.specs.declared.messages.Feed.{Feed}
@@ -27,10 +29,15 @@ use Rattle.gateway_core.specs.Feeds.{IsRebuilt}
 use Rattle.siri_calls.specs.Deliveries.{ReadsBody}
 use Rattle.siri_calls.specs.declared.delivery.Delivery.{Delivery}
 use Rattle.siri_calls.specs.declared.delivery.DeliveryFault.{DeliveryFault}
-use Rattle.gateway_core.specs.Deliveries.{all_reports, all_taken, schedule_in}
+use Rattle.siri_situations.specs.Deliveries.{ReadsSituations}
+use Rattle.siri_situations.specs.declared.delivery.SituationDelivery.{SituationDelivery}
+use Rattle.gateway_core.specs.Alerts.{limited_delivery}
+use Rattle.gateway_core.specs.Deliveries.{all_reports, all_situations, all_taken, schedule_in}
 use Rattle.gateway_core.specs.Reports.{feed_report}
 use Rattle.gateway.specs.Bodies.{body_end, differential_end, feed_end, many_calls_end}
 use Rattle.gateway.specs.Words.{Job, NamedZone, Scope, Show, ToGtfsrt, ToSiri, by_rule, by_file, gtfsrt_job, siri_job, show_job}
+use Rattle.gateway_core.specs.declared.named.Delivered.{Delivered}
+use Rattle.gateway_core.specs.declared.named.Delivered.TheVariants.{Journeys, Situations}
 use Rattle.gateway_core.specs.declared.named.Named.{Named}
 use Rattle.gateway.specs.declared.exit.Exit.{Exit}
 use Rattle.gateway.specs.declared.exit.Exit.TheVariants.{Refused}
@@ -113,23 +120,49 @@ abbrev pub DeliveryOf : Setting → List ℕ → List ℕ → Result Delivery Ex
 DeliveryOf setting name body (Ok delivery) = ReadsBody (schedule_in setting) body (Ok delivery)
 DeliveryOf setting name body (Err end) = (fault : DeliveryFault) × ReadsBody (schedule_in setting) body (Err fault) × (end ≡ body_end name fault)
 
--- what the delivery of a file says
-abbrev pub FileDelivery : Setting → List ℕ → Directory → Result Delivery Exit → Type 0
-FileDelivery setting name files = do
+-- and what one of situations says: those with too long an alert are set aside
+abbrev pub SituationsRead : Setting → List ℕ → List ℕ → Result SituationDelivery Exit → Type 0
+SituationsRead setting name body (Ok delivery) = ReadsSituations (schedule_in setting) body (Ok delivery)
+SituationsRead setting name body (Err end) = (fault : DeliveryFault) × ReadsSituations (schedule_in setting) body (Err fault) × (end ≡ body_end name fault)
+
+abbrev pub SituationsOf : Setting → List ℕ → List ℕ → Result SituationDelivery Exit → Type 0
+SituationsOf setting name body = do
+  delivery ← SituationsRead setting name body
+  Found (limited_delivery (seen setting.table) delivery)
+
+-- what a body delivers: behind the flag `--sx` situations, and behind `--et` journeys
+abbrev pub DeliversJourneys : Setting → List ℕ → List ℕ → Result Delivered Exit → Type 0
+DeliversJourneys setting name body = do
+  delivery ← DeliveryOf setting name body
+  Found (Journeys delivery)
+
+abbrev pub DeliversSituations : Setting → List ℕ → List ℕ → Result Delivered Exit → Type 0
+DeliversSituations setting name body = do
+  delivery ← SituationsOf setting name body
+  Found (Situations delivery)
+
+abbrev pub Delivers : Setting → List ℕ → List ℕ → List ℕ → Result Delivered Exit → Type 0
+Delivers setting flag name body answer =
+    MatchBool (bytes_eq flag (codes "--sx")) (DeliversSituations setting name body answer) (DeliversJourneys setting name body answer)
+
+-- what a file delivers
+abbrev pub FileDelivers : Setting → List ℕ → List ℕ → Directory → Result Delivered Exit → Type 0
+FileDelivers setting flag name files = do
   body ← FurtherFile body_limit name files
-  DeliveryOf setting name body
+  Delivers setting flag name body
 
 -- the deliveries of the files that words name, a flag before each, behind those read so far
 abbrev pub Deliveries : Setting → Directory → List (List ℕ) → List Named → Result (List Named) Exit → Type 0
 Deliveries setting files [] so_far = Found so_far
 Deliveries setting files (flag ∷ []) so_far = Found so_far
 Deliveries setting files (flag ∷ name ∷ words) so_far = do
-  delivery ← FileDelivery setting name files
-  Deliveries setting files words (so_far ++ record { name = name; delivery = delivery } ∷ [])
+  delivered ← FileDelivers setting flag name files
+  Deliveries setting files words (so_far ++ record { name = name; delivered = delivered } ∷ [])
 
--- the feed of the records that were taken, made at that moment, and the reports on all deliveries
+-- the feed of what was taken, made at that moment, and the reports on all deliveries
 abbrev pub Converted : ℤ → Setting → List Named → Result Done Exit → Type 0
-Converted at setting deliveries (Ok done) = IsRebuilt at (schedule_in setting) (all_taken deliveries) done.out × (done.err ≡ all_reports deliveries)
+Converted at setting deliveries (Ok done) =
+    IsRebuilt at (schedule_in setting) (all_taken deliveries) (all_situations deliveries) done.out × (done.err ≡ all_reports deliveries)
 Converted at setting deliveries (Err end) = ⊥
 
 -- the conversion of the files' deliveries

@@ -10,6 +10,7 @@ mod frame;
 mod items;
 mod rounds;
 mod runs;
+mod situations;
 mod told;
 mod updates;
 mod words;

@@ -50,7 +50,7 @@ pub enum Work<'a> {
         over: Scope<'a>,
         /// The moment at which the feed is made.
         at: Moment,
-        /// The words of the deliveries: for each a flag and a file.
+        /// The words of the deliveries: for each a flag, which says what it delivers, and a file.
         more: &'a [Text],
     },
     /// `to-siri`: a feed becomes a delivery.
@@ -113,7 +113,7 @@ static COMMANDS: [Command; 3] = [
         name: "to-gtfsrt",
         pairs: &[GTFS, ZONE, FROM, DAYS, AT],
         repeated: Pair {
-            flags: &["--et"],
+            flags: &["--et", "--sx"],
             form: Form::Filled,
         },
     },

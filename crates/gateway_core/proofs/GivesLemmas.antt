@@ -8,6 +8,9 @@ use Rattle.std.specs.Prelude.{find, option_map, int_lt, nat_lt}
 use Rattle.std.specs.List.{AllByRecursion, filter_map, flat_map, list_all, list_any}
 use Rattle.std.specs.Option.{option_or}
 use Rattle.std.specs.Ordering.{int_eq}
+use Rattle.std.proofs.lemmas.List.{append-nil}
+use Rattle.std.specs.Prelude.{if◌then◌else◌}
+use Rattle.alert_map.specs.Alerts.{alert_message}
 use Rattle.gw_base.specs.declared.messages.Entity.{Entity}
 use Rattle.gw_base.specs.declared.messages.Feed.{Feed}
 use Rattle.feed_messages.specs.Tables.{full_dataset}
@@ -23,11 +26,13 @@ use Rattle.journey_model.specs.declared.readings.JourneyReading.{JourneyReading}
 use Rattle.journey_model.specs.declared.readings.JourneyReading.TheVariants.{Cancelled, Stops}
 use Rattle.journey_model.specs.declared.readings.StopReading.{StopReading}
 use Rattle.journey_model.specs.declared.readings.StopReading.TheVariants.{Absent, Skipped, Timed}
+use Rattle.journey_model.specs.declared.situation.Situation.{Situation}
 use Rattle.latest_store.specs.Entities.{is_absent, is_silent, messages}
 use Rattle.latest_store.specs.Latest.{HasLatest, IsLatest, is_later, is_of}
 use Rattle.latest_store.specs.Reads.{SaysItself, dated_reading}
 use Rattle.latest_store.proofs.EntityLemmas.{messages_none, messages_one}
-use Rattle.gateway_core.specs.Feeds.{IsRebuilt, are_in_order, comes_before}
+use Rattle.gateway_core.specs.Alerts.{alerts}
+use Rattle.gateway_core.specs.Feeds.{IsRebuilt, are_ordered_by, comes_before, entities_of}
 use Rattle.gateway_core.specs.Gives.{GivesLatest}
 
 -- an element that passes a test, amid a list
@@ -185,14 +190,14 @@ own_reading schedule trip day one servable of_one = by (is_silent one.reading) r
     by false silent = rw (messages_one schedule one servable.run servable.on_day silent, of_one) refl
 
 -- the readings of records in order are those of the first one of each journey
-all_read : (schedule : Schedule) (trip : ℕ) (day : ℤ) (records : List Recorded) → AllByRecursion (λ one. IsServable schedule one.trip one.day one.reading) records → are_in_order records ≡ true
+all_read : (schedule : Schedule) (trip : ℕ) (day : ℤ) (records : List Recorded) → AllByRecursion (λ one. IsServable schedule one.trip one.day one.reading) records → are_ordered_by comes_before records ≡ true
     → or_nothing (last_reading trip day (flat_map (dated schedule) records)) (nothing_known schedule trip)
     ≡ or_nothing (option_map (λ one. one.reading) (find (is_of trip day) records)) (nothing_known schedule trip)
 all_read schedule trip day [] servable in_order = refl
 all_read schedule trip day (one ∷ others) servable in_order = by (is_of trip day one) refl (all_read schedule trip day others servable.1 parts.1)
   where
-    parts : (list_all (comes_before one) others ≡ true) × (are_in_order others ≡ true)
-    parts = and_parts (list_all (comes_before one) others) (are_in_order others) in_order
+    parts : (list_all (comes_before one) others ≡ true) × (are_ordered_by comes_before others ≡ true)
+    parts = and_parts (list_all (comes_before one) others) (are_ordered_by comes_before others) in_order
 
     by : (b : Bool) → is_of trip day one ≡ b
         → or_nothing (last_reading trip day (flat_map (dated schedule) others)) (nothing_known schedule trip)
@@ -208,12 +213,34 @@ all_read schedule trip day (one ∷ others) servable in_order = by (is_of trip d
       e,
     ) behind
 
+-- alerts give nothing
+none_given : (schedule : Schedule) (feed : Feed) (situations : List Situation)
+    → filter_map given (map (entity_said schedule feed) (flat_map (alerts schedule.table) situations)) ≡ []
+none_given schedule feed [] = refl
+none_given schedule feed (one ∷ others) = by one.served (none_given schedule feed others)
+  where
+    by : (served : Bool) → filter_map given (map (entity_said schedule feed) (flat_map (alerts schedule.table) others)) ≡ []
+        → filter_map given (map (entity_said schedule feed) ((if served then alert_message schedule.table one ∷ [] else []) ++ flat_map (alerts schedule.table) others)) ≡ []
+    by true rest = rest
+    by false rest = rest
+
+given_behind : (schedule : Schedule) (feed : Feed) (records : List Recorded) (situations : List Situation) → AllByRecursion (SaysItself schedule) records
+    → filter_map given (map (entity_said schedule feed) (entities_of schedule records situations)) ≡ flat_map (dated schedule) records
+given_behind schedule feed records situations says =
+    let journeys = flat_map (messages schedule) records in
+    let behind = flat_map (alerts schedule.table) situations in
+    ap (filter_map given) (map_append (entity_said schedule feed) journeys behind)
+    ∙ filter_map-append given (map (entity_said schedule feed) journeys) (map (entity_said schedule feed) behind)
+    ∙ ap (λ end. filter_map given (map (entity_said schedule feed) journeys) ++ end) (none_given schedule feed situations)
+    ∙ append-nil (filter_map given (map (entity_said schedule feed) journeys))
+    ∙ given_is schedule feed records says
+
 -- the feed of the latest records gives just their readings
-pub gives : (at : ℤ) (schedule : Schedule) (records : List Recorded) (bytes : List ℕ) (is : IsRebuilt at schedule records bytes) (trip : ℕ) (day : ℤ)
-    → GivesLatest schedule at (flat_map (messages schedule) is.ordered) records trip day
-gives at schedule records bytes is trip day found latest =
-    let entities = flat_map (messages schedule) is.ordered in
+pub gives : (at : ℤ) (schedule : Schedule) (records : List Recorded) (situations : List Situation) (bytes : List ℕ) (is : IsRebuilt at schedule records situations bytes)
+    (trip : ℕ) (day : ℤ) → GivesLatest schedule at (entities_of schedule is.ordered is.numbered) records trip day
+gives at schedule records situations bytes is trip day found latest =
+    let entities = entities_of schedule is.ordered is.numbered in
     let same : find (is_of trip day) is.ordered ≡ found = same_latest records trip day (find (is_of trip day) is.ordered) found (is.latest trip day) latest in
-    ap (λ all. or_nothing (last_reading trip day all) (nothing_known schedule trip)) (given_is schedule (full_dataset at entities) is.ordered is.says)
+    ap (λ all. or_nothing (last_reading trip day all) (nothing_known schedule trip)) (given_behind schedule (full_dataset at entities) is.ordered is.numbered is.says)
     ∙ all_read schedule trip day is.ordered is.servable is.in_order
     ∙ ap (λ one. or_nothing (option_map (λ (one : Recorded). one.reading) one) (nothing_known schedule trip)) same

@@ -1,5 +1,6 @@
 mod FeedLemmas
 pub mod GivesLemmas
+mod HeldLemmas
 mod ReportLemmas
 mod TakenLemmas
 mod WinnerLemmas

@@ -1,3 +1,4 @@
+pub mod Alerts
 pub mod Deliveries
 pub mod Feeds
 pub mod Gives

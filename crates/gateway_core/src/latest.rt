@@ -1,10 +1,11 @@
 //! The latest record of each journey. The functions meet `specs/Winners.antt`.
 ghost use Rattle.std.specs.Prelude.{◌≡◌, ◌++◌, ◌∷◌, [], List, IfOk, OnOk, option_map};
 ghost use Rattle.journey_model.specs.Records.{Recorded, recorded};
-ghost use Rattle.gateway_core.specs.Deliveries.{all_taken};
-ghost use Rattle.gateway_core.specs.Winners.{HoldsLatest, counts, taken_in};
+ghost use Rattle.gateway_core.specs.Deliveries.{all_taken, records_in};
+ghost use Rattle.gateway_core.specs.Winners.{HoldsLatest, counts_by, taken_in};
+ghost use Rattle.latest_store.specs.Latest.{was_later};
 
-use crate::named::Named;
+use crate::named::{Delivered, Named};
 use journey_model::JourneyRecord;
 use latest_store::wins;
 use siri_calls::Item;
@@ -16,7 +17,8 @@ pub type Latest<'a> = BTreeMap<(i32, u32), &'a JourneyRecord>;
 
 // Whether a record that arrives counts in the place of the one that is held for its journey.
 fn counts(held: Option<&&JourneyRecord>, arriving: &JourneyRecord) -> bool
-    ensures { result ≡ counts (option_map (λ one. recorded one.now.now) held.entry) (recorded arriving.now) }
+    ensures { result ≡ counts_by was_later
+        (option_map (λ one. recorded one.now.now) held.entry) (recorded arriving.now) }
 {
     match held {
         Some(held) => wins(&held.at, &arriving.at),
@@ -58,13 +60,27 @@ fn keep_all<'a>(latest: &mut Latest<'a>, items: &'a [Item]) -> Result<(), AllocE
     Ok(())
 }
 
+// Holds the latest of the records that are held and those of a delivery.
+fn keep_delivered<'a>(
+    latest: &mut Latest<'a>,
+    delivered: &'a Delivered,
+) -> Result<(), AllocError>
+    ensures { (records : List Recorded) → HoldsLatest records latest.old
+        → OnOk result (HoldsLatest (records ++ records_in delivered.now) latest.new) }
+{
+    match delivered {
+        Delivered::Journeys(delivery) => keep_all(latest, delivery.items.as_slice()),
+        Delivered::Situations(_) => Ok(()),
+    }
+}
+
 /// Of all records that were taken the latest of each journey (SIRI 2.0, RecordedAtTime).
 pub fn latest_records(alloc: Global, deliveries: &[Named]) -> Result<Latest<'_>, AllocError>
     ensures { IfOk result (λ latest. HoldsLatest (all_taken deliveries.now) latest) }
 {
     let mut latest = BTreeMap::new(alloc);
     for one in deliveries {
-        keep_all(&mut latest, one.delivery.items.as_slice())?;
+        keep_delivered(&mut latest, &one.delivered)?;
     }
     Ok(latest)
 }

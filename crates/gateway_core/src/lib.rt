@@ -1,14 +1,17 @@
-//! What deliveries make together: of all records taken the latest of each journey, the feed that is rebuilt from them, and
-//! the reports on what was taken and set aside.
+//! What deliveries make together: of all records taken the latest of each journey, and of all situations the newest of each
+//! number, the feed that is rebuilt from them, and the reports on what was taken and set aside.
 #![tactic(auto)]
 
+mod alerts;
 mod latest;
 mod named;
+mod newest;
 mod rebuilding;
 mod reporting;
 mod setting;
 
-pub use named::Named;
+pub use alerts::limited_delivery;
+pub use named::{Delivered, Named};
 pub use rebuilding::rebuilt;
 pub use reporting::{feed_report, reports};
 pub use setting::Setting;

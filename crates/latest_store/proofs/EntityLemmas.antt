@@ -6,6 +6,7 @@ use Rattle.std.proofs.lemmas.List.{append-nil, get_or_past}
 use Rattle.std.proofs.lemmas.Str.{IsUtf8-from_ascii}
 use Rattle.std.specs.Char.{IsAsciiDigit}
 use Rattle.std.specs.Prelude.{All, IfOk, IsUtf8, slice_get}
+use Rattle.std.specs.List.{flat_map}
 use Rattle.gw_base.specs.declared.messages.Entity.{Entity}
 use Rattle.gw_base.specs.declared.messages.Feed.{Feed}
 use Rattle.feed_messages.specs.Tables.{MeansFeed, MeansEntity}
@@ -15,7 +16,7 @@ use Rattle.journey_model.specs.Records.{Recorded}
 use Rattle.journey_model.specs.Runs.{Run}
 use Rattle.journey_model.specs.Schedules.{Schedule, run_on}
 use Rattle.latest_store.specs.Entities as spec
-use Rattle.latest_store.specs.Entities.{all_written, id_of, is_silent, message, messages}
+use Rattle.latest_store.specs.Entities.{id_of, is_silent, message, messages}
 use Rattle.latest_store.specs.Reads.{with_messages}
 
 -- digits are text
@@ -45,7 +46,7 @@ id_found (first ∷ trips) (suc trip) id found = id_found trips trip id found
 -- the bytes of the one message
 pub entity_one : (schedule : Schedule) (one : Recorded) (run : Run) → run_on schedule one.trip one.day ≡ Some run → is_silent one.reading ≡ false
     → spec.entity schedule one ≡ written (message (id_of schedule.table.trips one.trip) run one)
-entity_one schedule one run on silent = ap all_written (messages_one schedule one run on silent) ∙ append-nil (written (message (id_of schedule.table.trips one.trip) run one))
+entity_one schedule one run on silent = ap (flat_map written) (messages_one schedule one run on silent) ∙ append-nil (written (message (id_of schedule.table.trips one.trip) run one))
 
 -- where the bytes of a message were made, they are those of the record and mean it
 pub made : {E : Type 0} (result : Result (List ℕ) E) (schedule : Schedule) (one : Recorded) (run : Run) (entity : Entity)

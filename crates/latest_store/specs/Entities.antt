@@ -1,6 +1,6 @@
 -- The entity of a record (GTFS Realtime reference, FeedEntity, TripUpdate, TripDescriptor).
 use Rattle.std.specs.Prelude.{ℕ, ℤ, pos, Bool, true, false, List, [], ◌∷◌, ◌++◌, codes, slice_index_or, unsigned_abs, Option, Some, None, if◌then◌else◌}
-use Rattle.std.specs.List.{list_all}
+use Rattle.std.specs.List.{flat_map, list_all}
 use Rattle.gw_base.specs.declared.messages.Entity.{Entity}
 use Rattle.gw_base.specs.declared.messages.TripDescriptor.{TripDescriptor}
 use Rattle.gw_base.specs.declared.messages.TripUpdate.{TripUpdate}
@@ -64,11 +64,6 @@ messages_on schedule one (Some run) =
 abbrev pub messages : Schedule → Recorded → List Entity
 messages schedule one = messages_on schedule one (run_on schedule one.trip one.day)
 
--- the bytes of messages, each as a field of its feed
-abbrev pub all_written : List Entity → List ℕ
-all_written [] = []
-all_written (entity ∷ entities) = written entity ++ all_written entities
-
 -- the entity of a record: its bytes in a feed, none where nothing is known
 abbrev pub entity : Schedule → Recorded → List ℕ
-entity schedule one = all_written (messages schedule one)
+entity schedule one = flat_map written (messages schedule one)

@@ -1,28 +1,51 @@
--- Which of the records of a journey counts (SIRI 2.0, RecordedAtTime).
+-- Which of the records of a journey counts (SIRI 2.0, RecordedAtTime), and which of the situations of a number (SIRI 2.0,
+-- SituationNumber, Version).
 use Rattle.std.specs.Prelude.{◌≡◌, ◌==◌, ◌&&◌, ◌||◌, ℕ, ℤ, int_lt, nat_lt, Bool, false, true, not, List, ◌∷◌, ◌++◌, Option, Some, None}
 use Rattle.std.specs.List.{list_any}
 use Rattle.std.specs.Ordering.{int_eq}
+use Rattle.std.specs.Str.{bytes_eq}
 use Rattle.journey_model.specs.Records.{Recorded}
+use Rattle.journey_model.specs.declared.situation.Situation.{Situation}
+
+-- of those that pass a test one counts: none of them before it is later, and each one behind it is earlier
+pub record IsLatestOf {A : Type 0} (is_its : A → Bool) (is_later : A → A → Bool) (all : List A) (one : A) : Type 0 where
+  pub before : List A
+  pub behind : List A
+  pub among : all ≡ before ++ one ∷ behind
+  pub its : is_its one ≡ true
+  pub none_later : list_any (λ other. is_its other && is_later other one) before ≡ false
+  pub none_as_late : list_any (λ other. is_its other && not (is_later one other)) behind ≡ false
+
+-- the one that counts, or that none passes the test
+abbrev pub HasLatestOf : {A : Type 0} → (A → Bool) → (A → A → Bool) → List A → Option A → Type 0
+HasLatestOf is_its is_later all None = list_any is_its all ≡ false
+HasLatestOf is_its is_later all (Some one) = IsLatestOf is_its is_later all one
 
 -- an instant is later than another, both in seconds since 1970 and nanoseconds
 abbrev pub is_later : ℤ × ℕ → ℤ × ℕ → Bool
 is_later a b = int_lt b.0 a.0 || (int_eq a.0 b.0 && nat_lt b.1 a.1)
 
--- a record is of a trip on a day
+-- a record is of a trip on a day, and was recorded later than another
 abbrev pub is_of : ℕ → ℤ → Recorded → Bool
 is_of trip day one = (one.trip == trip) && int_eq one.day day
 
--- a record counts for a trip on a day: of the records of that journey none before it was recorded later, and each one behind
--- it was recorded earlier
-pub record IsLatest (records : List Recorded) (trip : ℕ) (day : ℤ) (one : Recorded) : Type 0 where
-  pub before : List Recorded
-  pub behind : List Recorded
-  pub among : records ≡ before ++ one ∷ behind
-  pub its : is_of trip day one ≡ true
-  pub none_later : list_any (λ other. is_of trip day other && is_later other.at one.at) before ≡ false
-  pub none_as_late : list_any (λ other. is_of trip day other && not (is_later one.at other.at)) behind ≡ false
+abbrev pub was_later : Recorded → Recorded → Bool
+was_later a b = is_later a.at b.at
 
 -- the record that counts for a trip on a day, or that there is none of that journey
+abbrev pub IsLatest : List Recorded → ℕ → ℤ → Recorded → Type 0
+IsLatest records trip day one = IsLatestOf (is_of trip day) was_later records one
+
 abbrev pub HasLatest : List Recorded → ℕ → ℤ → Option Recorded → Type 0
-HasLatest records trip day None = list_any (is_of trip day) records ≡ false
-HasLatest records trip day (Some one) = IsLatest records trip day one
+HasLatest records trip day found = HasLatestOf (is_of trip day) was_later records found
+
+-- a situation has a number, and a greater version than another
+abbrev pub has_number : List ℕ → Situation → Bool
+has_number number one = bytes_eq one.number number
+
+abbrev pub is_newer : Situation → Situation → Bool
+is_newer a b = nat_lt b.version a.version
+
+-- the situation that counts for a number, or that there is none of it
+abbrev pub HasNewest : List Situation → List ℕ → Option Situation → Type 0
+HasNewest situations number found = HasLatestOf (has_number number) is_newer situations found

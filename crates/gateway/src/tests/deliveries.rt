@@ -70,8 +70,8 @@ fn assert_deliveries(
     assert_run(rt, alloc, more, &given, expected);
 }
 
-// The deliveries `f` and `h`, given by their short texts, come to a feed of these entities and this report.
-fn assert_taken(
+/// The deliveries `f` and `h`, given by their short texts, come to a feed of these entities and this report.
+pub fn assert_taken(
     rt: &impl Abort,
     alloc: Global,
     more: &str,

@@ -98,6 +98,16 @@ fn meaning(letter: char) -> &'static str {
         'a' => "\"ExpectedArrivalTime\"",
         'd' => "\"ExpectedDepartureTime\"",
         '@' => "2024-05-01T",
+        '[' => {
+            "{\"ServiceDelivery\":{\"SituationExchangeDelivery\":[{\"Situations\":{\"PtSituationElement\":["
+        }
+        ']' => "]}}]}}",
+        'N' => "\"SituationNumber\"",
+        'W' => "\"Version\"",
+        'E' => "\"Consequences\"",
+        'L' => {
+            "\"Affects\":{\"Networks\":{\"AffectedNetwork\":{\"AffectedLine\":{\"LineRef\":\"R1\"}}}}"
+        }
         _ => "?",
     }
 }

@@ -48,12 +48,12 @@ static WRONG: [(usize, &str); 41] = [
     (10, "2024-05-01"),
     (10, "1969-12-31T23:59:59Z"),
     (10, "9999-01-01T00:00:00Z"),
-    (11, "--sx"),
+    (11, "--feed"),
     (12, ""),
 ];
 
 // Lists of words, each with where it stops being the start of an accepted one.
-static LISTS: [(&str, usize); 15] = [
+static LISTS: [(&str, usize); 16] = [
     (
         "to-siri --gtfs g --zone-rule x --from 2024-05-01 --days 2 --at 2024-05-01T06:00:00Z --et f",
         11,
@@ -90,12 +90,16 @@ static LISTS: [(&str, usize); 15] = [
         13,
     ),
     (
-        "to-gtfsrt --gtfs g --zone-rule R --from 2024-05-01 --days 2 --at 2024-05-01T06:00:00Z --et f --sx f",
+        "to-gtfsrt --gtfs g --zone-rule R --from 2024-05-01 --days 2 --at 2024-05-01T06:00:00Z --et f --vm f",
         13,
     ),
     (
         "to-gtfsrt --gtfs g --zone-rule R --from 2024-05-01 --days 2 --at 2024-05-01T06:00:00Z --et f --et",
         14,
+    ),
+    (
+        "to-siri --gtfs g --zone-rule x --from 2024-05-01 --days 2 --at 2024-05-01T06:00:00Z --feed f --sx f",
+        13,
     ),
     (
         "to-gtfsrt --gtfs g --zone-rule R --from 2024-05-01 --days 2 --at 2024-05-01T06:00:00Z --et f --et ",

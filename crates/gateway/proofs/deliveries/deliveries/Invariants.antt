@@ -2,7 +2,7 @@
 use Rattle.std.proofs.Common.{◌≡◌, ◌≤◌, List, Result, length, [], IfSome}
 use Rattle.std.specs.List.{AllByRecursion}
 use Rattle.gateway_core.specs.Deliveries.{schedule_in}
-use Rattle.gateway_core.specs.Deliveries.{CanServeAll}
+use Rattle.gateway_core.specs.Deliveries.{CanServe}
 use Rattle.gateway.specs.Work.{Deliveries}
 use Rattle.gateway_core.specs.declared.named.Named.{Named}
 use Rattle.gateway.specs.declared.exit.Exit.{Exit}
@@ -13,7 +13,7 @@ invariant-loop-name g l = record {
   told : (answer : Result (List Named) Exit) → IfSome (g.F.Files.told l.fn.files) (λ told. Deliveries l.setting told l.rest l.found answer → Deliveries l.setting told l.words [] answer);
   counts : g.F.Files.faults l.fn.files ≤ g.F.Files.faults l.files;
   same : g.F.Files.told l.files ≡ g.F.Files.told l.fn.files;
-  servable : AllByRecursion (λ (one : Named). CanServeAll (schedule_in l.setting) one.delivery) l.found;
+  servable : AllByRecursion (λ (one : Named). CanServe (schedule_in l.setting) one.delivered) l.found;
 }
 
 abbrev pub decreases-loop-name : goal.decreases-loop-name

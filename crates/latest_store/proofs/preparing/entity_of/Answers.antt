@@ -1,11 +1,12 @@
 -- The entity is the record's one message, which says its reading.
 use Rattle.std.proofs.Common.{◌≡◌, ◌∙◌, sym, ap}
+use Rattle.std.specs.List.{flat_map}
+use Rattle.feed_messages.specs.Written.{written}
 use Rattle.journey_model.specs.Records.{Recorded, recorded}
 use Rattle.journey_model.specs.Dated.{run_of}
 use Rattle.journey_model.specs.Runs.{Run}
 use Rattle.journey_model.specs.Schedules.{Schedule, schedule_of}
 use Rattle.latest_store.proofs.EntityLemmas.{anyway, id_found, made, meant, means_none, messages_none}
-use Rattle.latest_store.specs.Entities.{all_written}
 use Rattle.latest_store.specs.Reads.{SaysItself}
 use Rattle.latest_store.proofs.ReadingLemmas.{IsNamed, says_itself, silent_says}
 use Rattle.latest_store.proofs.preparing.entity_of.Goals as goal
@@ -13,7 +14,7 @@ use Rattle.latest_store.proofs.preparing.entity_of.Goals as goal
 pub returns-then-is_silent-clause-bytes : goal.returns-then-is_silent-clause-bytes
 returns-then-is_silent-clause-bytes c =
     let run : Run = run_of c.args.context.now.table.now.stops c.args.dated.now in
-    c.new.ensures.empty ∙ sym (ap all_written (messages_none (schedule_of c.args.context.now) (recorded c.args.rec.now) run c.requires.on_day (sym c.is_silent.ensures ∙ c.if-is_silent.true)))
+    c.new.ensures.empty ∙ sym (ap (flat_map written) (messages_none (schedule_of c.args.context.now) (recorded c.args.rec.now) run c.requires.on_day (sym c.is_silent.ensures ∙ c.if-is_silent.true)))
 
 pub returns-then-is_silent-clause-means : goal.returns-then-is_silent-clause-means
 returns-then-is_silent-clause-means c = λ before feed h.
