@@ -23,8 +23,9 @@ use std::process::ExitCode;
 const USAGE: &str = "\
 usage: gateway to-gtfsrt --gtfs DIR ZONE --from DAY --days N --at MOMENT
                          [--et FILE | --sx FILE]...
-       gateway to-siri --gtfs DIR ZONE --from DAY --days N --at MOMENT --feed FILE
-       gateway show --gtfs DIR ZONE --from DAY --days N --feed FILE
+       gateway to-siri   --gtfs DIR ZONE --from DAY --days N --at MOMENT
+                         --feed FILE
+       gateway show      --gtfs DIR ZONE --from DAY --days N --feed FILE
        gateway --help | --version
 
 to-gtfsrt  makes a GTFS Realtime feed of SIRI deliveries: estimated timetables
@@ -39,9 +40,9 @@ DAY, N     the first service day, as 2024-05-01, and the number of days: 1 to 32
 MOMENT     when the result is made, in UTC, as 2024-05-01T06:00:00Z
 FILE       a delivery in JSON (--et, --sx), or a feed in protobuf (--feed)
 
-Standard output gets the result, standard error a report on each file (show prints
-its own) or why there is no result. Statuses: 0 done, 2 bad words, 65 bad input,
-66 a missing file, 71 no memory, 74 a failed device.
+Standard output gets the result, and standard error a report on each file or why
+there is no result; of show, the report ends the result. Statuses: 0 done,
+2 bad words, 65 bad input, 66 a missing file, 71 no memory, 74 a failed device.
 ";
 
 const VERSION: &str = concat!("gateway ", "0.1.0", "\n");
