@@ -21,15 +21,28 @@ use gw_base::{NoClock, NoDoor};
 use std::process::ExitCode;
 
 const USAGE: &str = "\
-usage: gateway to-gtfsrt --gtfs DIR ZONE --from YYYY-MM-DD --days N --at YYYY-MM-DDThh:mm:ssZ [--et FILE]..
-       gateway to-siri   --gtfs DIR ZONE --from YYYY-MM-DD --days N --at YYYY-MM-DDThh:mm:ssZ --feed FILE
-       gateway show      --gtfs DIR ZONE --from YYYY-MM-DD --days N --feed FILE
+usage: gateway to-gtfsrt --gtfs DIR ZONE --from DAY --days N --at MOMENT
+                         [--et FILE | --sx FILE]...
+       gateway to-siri   --gtfs DIR ZONE --from DAY --days N --at MOMENT
+                         --feed FILE
+       gateway show      --gtfs DIR ZONE --from DAY --days N --feed FILE
+       gateway --help | --version
 
-DIR is a GTFS Schedule folder, and N the number of service days from the first on that are served (1 to 32).
-ZONE is --zone-rule RULE, a POSIX rule such as CET-1CEST,M3.5.0,M10.5.0/3, or --zone-file FILE, a TZif file.
-to-gtfsrt makes a GTFS Realtime feed of any number of SIRI estimated timetables (JSON), to-siri makes such a
-timetable of a feed, and show prints what a feed says of each stop of each journey. They write to standard
-output, and the first two a report on each file to standard error.
+to-gtfsrt  makes a GTFS Realtime feed of SIRI deliveries: estimated timetables
+           (--et) and situations (--sx)
+to-siri    makes a SIRI delivery with every call of the journeys of a feed
+show       prints how each stop of the journeys of a feed reads
+
+DIR        a GTFS Schedule folder
+ZONE       its time zone: --zone-file FILE, a TZif file, or --zone-rule RULE, a
+           POSIX rule such as 'CET-1CEST,M3.5.0,M10.5.0/3'
+DAY, N     the first service day, as 2024-05-01, and the number of days: 1 to 32
+MOMENT     when the result is made, in UTC, as 2024-05-01T06:00:00Z
+FILE       a delivery in JSON (--et, --sx), or a feed in protobuf (--feed)
+
+Standard output gets the result, and standard error a report on each file or why
+there is no result; of show, the report ends the result. Statuses: 0 done,
+2 bad words, 65 bad input, 66 a missing file, 71 no memory, 74 a failed device.
 ";
 
 const VERSION: &str = concat!("gateway ", "0.1.0", "\n");
