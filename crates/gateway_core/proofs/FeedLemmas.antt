@@ -2,24 +2,21 @@
 use Rattle.std.proofs.Common.{◌≡◌, ◌∙◌, ◌++◌, ◌∷◌, [], ℕ, ℤ, List, map, Result, Ok, Err, ap, sym, subst}
 use Rattle.std.proofs.lemmas.Grind.{flat_map-append}
 use Rattle.std.proofs.lemmas.List.{append-nil, append_assoc}
-use Rattle.std.specs.Prelude.{⊤, IfOk, OnOk}
+use Rattle.std.specs.Prelude.{⊤, OnOk}
 use Rattle.std.specs.List.{AllByRecursion, flat_map}
 use Rattle.gw_base.specs.declared.messages.Entity.{Entity}
 use Rattle.gw_base.specs.declared.messages.Feed.{Feed}
 use Rattle.feed_messages.specs.Tables.{MeansFeed, full_dataset, with_entity}
 use Rattle.feed_messages.specs.Written.{header, written}
 use Rattle.journey_model.specs.Records.{Recorded}
-use Rattle.journey_model.specs.Schedules.{IsServable, Schedule}
-use Rattle.journey_model.specs.declared.readings.JourneyRecord.{JourneyRecord}
+use Rattle.journey_model.specs.Schedules.{Schedule}
 use Rattle.journey_model.specs.declared.situation.Situation.{Situation}
 use Rattle.latest_store.specs.Entities.{entity, messages}
 use Rattle.latest_store.specs.Reads.{SaysItself, with_messages}
-use Rattle.gateway_core.specs.Alerts.{alerts}
 use Rattle.gateway_core.specs.Feeds.{IsFeedOf, IsRebuilt, entities_of}
-use Rattle.gateway_core.specs.Winners.{AreServable, Held, HeldSituations, HoldsLatest, HoldsNewest, IsWritten, all_held, all_numbers, recorded_at, situation_at}
+use Rattle.gateway_core.specs.Winners.{AreServable, Held, HeldSituations, HoldsLatest, HoldsNewest, IsWritten, all_held, all_numbers}
 use Rattle.gateway_core.proofs.HeldLemmas.{all_among}
 use Rattle.gateway_core.proofs.WinnerLemmas.{find_held, find_number, held_in_order, numbers_in_order}
-use denote.Ref.{Bor}
 
 all_pushed : {X : Type 0} (P : X → Type 0) (xs : List X) (x : X) → AllByRecursion P xs → P x → AllByRecursion P (xs ++ x ∷ [])
 all_pushed P [] x h p = (p, tt)

@@ -6,7 +6,7 @@ use Rattle.std.proofs.lemmas.List.{append_assoc}
 use Rattle.std.proofs.lemmas.List.Folds.{list_any-append}
 use Rattle.std.proofs.lemmas.Map.Entries.{btree_map_get_place}
 use Rattle.std.specs.Prelude.{find, slice_get}
-use Rattle.std.specs.BTreeMap.{BTreeMap, IsOrdered, get_by, values}
+use Rattle.std.specs.BTreeMap.{BTreeMap, IsOrdered, get_by}
 use Rattle.std.specs.List.{AllByRecursion, list_all, list_any}
 use Rattle.std.specs.List.Sorted.{IsStrictlySortedBy}
 use Rattle.std.specs.Map.{keys_of, values_of, lookup}

@@ -1,13 +1,15 @@
 -- What was taken, item by item and delivery by delivery, and that it can be served.
-use Rattle.std.proofs.Common.{◌≡◌, ◌∙◌, ◌<◌, ◌≤◌, ◌+◌, ◌++◌, ◌∷◌, [], ℕ, List, Result, length, take, get_or, map, ap, sym}
+use Rattle.std.proofs.Common.{◌≡◌, ◌∙◌, ◌<◌, ◌≤◌, ◌+◌, ◌++◌, ◌∷◌, [], ℕ, Bool, true, false, List, Result, length, take, get_or, map, ap, sym}
 use Rattle.std.proofs.lemmas.Grind.{flat_map-append}
 use Rattle.std.proofs.lemmas.List.{append-nil, append_assoc, map-append, take_all, take_more}
 use Rattle.std.proofs.lemmas.List.Elements.{filter_map-append}
+use Rattle.std.specs.Prelude.{if◌then◌else◌, nat_le}
 use Rattle.std.specs.List.{AllByRecursion, flat_map}
 use Rattle.std.specs.Result.{result_ok}
 use Rattle.journey_model.specs.Schedules.{IsServable, Schedule}
 use Rattle.journey_model.specs.Situations.{AreKnown}
 use Rattle.journey_model.specs.declared.fault.Fault.{Fault}
+use Rattle.journey_model.specs.declared.fault.Fault.TheVariants.{EntityTooLong}
 use Rattle.siri_calls.specs.Deliveries as journeys
 use Rattle.siri_calls.specs.declared.delivery.Item as of_journeys
 use Rattle.siri_calls.specs.declared.delivery.Item.TheVariants.{Taken, Aside}
@@ -15,8 +17,11 @@ use Rattle.siri_situations.specs.Deliveries as situations
 use Rattle.siri_situations.specs.declared.delivery.Item as of_situations
 use Rattle.siri_situations.specs.declared.delivery.Item.TheVariants as item
 use Rattle.stop_schedule.specs.Table.{Table}
+use Rattle.gateway_core.specs.Alerts.{alert_len, limited}
+use Rattle.gateway_core.specs.declared.alerts.TheConstants.{ALERT_LIMIT}
 use Rattle.gateway_core.specs.Deliveries.{CanServe, all_situations, all_taken, records_in, situations_in, taken}
 use Rattle.gateway_core.specs.Winners.{AreAllKnown, AreServable, situations_taken, taken_in}
+use Rattle.gateway_core.specs.declared.named.Delivered.{Delivered}
 use Rattle.gateway_core.specs.declared.named.Delivered.TheVariants.{Journeys, Situations}
 use Rattle.gateway_core.specs.declared.named.Named.{Named}
 
@@ -55,10 +60,12 @@ taken_servable schedule (Aside fault ∷ items) h = taken_servable schedule item
 
 pub all_servable : (schedule : Schedule) (deliveries : List Named) → AllByRecursion (λ one. CanServe schedule one.delivered) deliveries → AreServable schedule (all_taken deliveries)
 all_servable schedule [] h = tt
-all_servable schedule (record { name = name; delivered = Journeys delivery } ∷ deliveries) h =
-    all_joined (λ one. IsServable schedule one.trip one.day one.reading) (taken_in delivery.items) (all_taken deliveries)
-    (taken_servable schedule delivery.items h.0) (all_servable schedule deliveries h.1)
-all_servable schedule (record { name = name; delivered = Situations delivery } ∷ deliveries) h = all_servable schedule deliveries h.1
+all_servable schedule (one ∷ deliveries) h =
+    all_joined (λ one. IsServable schedule one.trip one.day one.reading) (records_in one.delivered) (all_taken deliveries) (of_one one.delivered h.0) (all_servable schedule deliveries h.1)
+  where
+    of_one : (delivered : Delivered) → CanServe schedule delivered → AreServable schedule (records_in delivered)
+    of_one (Journeys delivery) servable = taken_servable schedule delivery.items servable
+    of_one (Situations delivery) known = tt
 
 -- situations that refer to what is there
 taken_known : (table : Table) (items : List of_situations.Item) → situations.ReferToKnown table items → AreAllKnown table (situations_taken items)
@@ -68,7 +75,19 @@ taken_known table (item.Aside fault ∷ items) h = taken_known table items h.1
 
 pub all_known : (schedule : Schedule) (deliveries : List Named) → AllByRecursion (λ one. CanServe schedule one.delivered) deliveries → AreAllKnown schedule.table (all_situations deliveries)
 all_known schedule [] h = tt
-all_known schedule (record { name = name; delivered = Journeys delivery } ∷ deliveries) h = all_known schedule deliveries h.1
-all_known schedule (record { name = name; delivered = Situations delivery } ∷ deliveries) h =
-    all_joined (λ one. AreKnown schedule.table one.refs) (situations_taken delivery.items) (all_situations deliveries)
-    (taken_known schedule.table delivery.items h.0) (all_known schedule deliveries h.1)
+all_known schedule (one ∷ deliveries) h =
+    all_joined (λ one. AreKnown schedule.table one.refs) (situations_in one.delivered) (all_situations deliveries) (of_one one.delivered h.0) (all_known schedule deliveries h.1)
+  where
+    of_one : (delivered : Delivered) → CanServe schedule delivered → AreAllKnown schedule.table (situations_in delivered)
+    of_one (Journeys delivery) servable = tt
+    of_one (Situations delivery) known = taken_known schedule.table delivery.items known
+
+-- and those that are within the limit refer to it too
+pub limited_known : (table : Table) (items : List of_situations.Item) → situations.ReferToKnown table items → situations.ReferToKnown table (map (limited table) items)
+limited_known table [] h = tt
+limited_known table (item.Taken one ∷ items) h = (of_one (nat_le (alert_len table one) ALERT_LIMIT), limited_known table items h.1)
+  where
+    of_one : (fits : Bool) → situations.RefersToKnown table (if fits then item.Taken one else item.Aside (EntityTooLong (alert_len table one)))
+    of_one true = h.0
+    of_one false = tt
+limited_known table (item.Aside fault ∷ items) h = (tt, limited_known table items h.1)

@@ -1,6 +1,5 @@
 -- The latest record of each journey and the newest situation of each number are held.
-use Rattle.std.proofs.Common.{◌≡◌, ◌∙◌, ◌++◌, ◌∷◌, [], ℕ, ℤ, Bool, true, false, cond, ◌||◌, ◌&&◌, ◌==◌, List, map, Option, Some, None, option_map, sym, ap, refl, subst, arith}
-use Rattle.std.proofs.lemmas.Bool.{true≢false}
+use Rattle.std.proofs.Common.{◌≡◌, ◌∙◌, ◌++◌, ◌∷◌, [], ℕ, ℤ, Bool, true, false, cond, ◌||◌, ◌&&◌, List, Option, Some, None, option_map, sym, ap, refl, arith}
 use Rattle.std.proofs.lemmas.Cmp.{on_total, then_total, nat_cmp_total, int_cmp_total, eq_by_cmp_equiv}
 use Rattle.std.proofs.lemmas.Int.{ints}
 use Rattle.std.proofs.lemmas.Map.Text.{btree_map_updates_str}
@@ -9,7 +8,6 @@ use Rattle.std.specs.BTreeMap.{IsOrdered, UpdatesBy, get, get_by, is_at}
 use Rattle.std.specs.Cmp.{IsTotalOrder, unsigned_ties, tied_then}
 use Rattle.std.specs.Cmp.Lexicographic.{nat_list_cmp_total, slice_cmp, texts_ties}
 use Rattle.std.specs.FinMap.{int_cmp-IsAntisymmetric, nat_cmp-IsAntisymmetric, slice_cmp-IsAntisymmetric}
-use Rattle.std.specs.List.{AllByRecursion}
 use Rattle.std.specs.Ordering.{int_cmp, int_eq, is_eq, is_lt, nat_cmp, on, ordering_then, then_cmp}
 use Rattle.std.specs.Str.{bytes_eq}
 use Rattle.std.specs.declared.cmp.Ordering.{Ordering}
@@ -112,9 +110,9 @@ kept_new records old new one day found wins h same is says won updates ordered =
     holds_new key_cmp (λ (key : Key). key) recorded_at key_of has_key was_later journeys records old new one h
     (ap (λ (held : Option Recorded). counts_by was_later held (recorded_at one)) (sym (seen_held old (recorded_at one) day found same is)) ∙ sym says ∙ won)
     (λ key.
-        updates key
-        ∙ ap (λ (d : ℤ). cond (is_at (key_cmp (d, (recorded_at one).trip)) key) (Some one) (get key_cmp old key)) same
-        ∙ ap (λ (its : Bool). cond its (Some one) (get key_cmp old key)) (sym (has_own_key key (recorded_at one))))
+    updates key
+    ∙ ap (λ (d : ℤ). cond (is_at (key_cmp (d, (recorded_at one).trip)) key) (Some one) (get key_cmp old key)) same
+    ∙ ap (λ (its : Bool). cond its (Some one) (get key_cmp old key)) (sym (has_own_key key (recorded_at one))))
     ordered
 
 pub kept_same : (records : List Recorded) (old : Held) (one : Bor JourneyRecord) (day : ℤ) (found : Option (Bor (Bor JourneyRecord))) (wins : Bool)
@@ -177,8 +175,8 @@ newest_new situations old new one number found counts h same is says won updates
     holds_new (slice_cmp nat_cmp) number_at situation_at (λ (one : Situation). one.number) has_number is_newer numbers situations old new one h
     (ap (λ (held : Option Situation). counts_by is_newer held one.now) (sym (seen_number old number.now one.now found same is)) ∙ sym says ∙ won)
     (λ key.
-        btree_map_updates_str number.now old new (Some one) updates key
-        ∙ ap (λ (n : List ℕ). cond (bytes_eq n key) (Some one) (get_by (λ k. slice_cmp nat_cmp key k.now) old)) same)
+    btree_map_updates_str number.now old new (Some one) updates key
+    ∙ ap (λ (n : List ℕ). cond (bytes_eq n key) (Some one) (get_by (λ k. slice_cmp nat_cmp key k.now) old)) same)
     ordered
 
 pub newest_same : (situations : List Situation) (old : HeldSituations) (one : Bor Situation) (number : Bor (List ℕ)) (found : Option (Bor (Bor Situation))) (counts : Bool)

@@ -49,8 +49,8 @@ all_situations deliveries = flat_map (λ one. situations_in one.delivered) deliv
 
 -- and the reports on them
 abbrev pub report_in : List ℕ → Delivered → List ℕ
-report_in name (Journeys delivery) = report_text name (map result_err (verdicts_of delivery)) delivery.passed
-report_in name (Situations delivery) = report_text name (map result_err (situation_verdicts_of delivery)) delivery.passed
+report_in name (Journeys delivery) = report_text name (map (λ item. result_err (shown item)) delivery.items) delivery.passed
+report_in name (Situations delivery) = report_text name (map (λ item. result_err (situations.shown item)) delivery.items) delivery.passed
 
 abbrev pub all_reports : List Named → List ℕ
 all_reports deliveries = flat_map (λ one. report_in one.name one.delivered) deliveries

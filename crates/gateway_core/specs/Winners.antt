@@ -1,5 +1,5 @@
 -- What is held of each journey and of each number of a situation, while they arrive. No public contract cites it.
-use Rattle.std.specs.Prelude.{◌≡◌, ℕ, ℤ, Bool, true, false, not, List, ◌++◌, map, Option, Some, None, option_map}
+use Rattle.std.specs.Prelude.{◌≡◌, ℕ, ℤ, Bool, true, false, not, List, map, Option, Some, None, option_map}
 use Rattle.std.specs.BTreeMap.{BTreeMap, IsOrdered, get_by, values}
 use Rattle.std.specs.Cmp.{IsTotalOrder}
 use Rattle.std.specs.Cmp.Lexicographic.{slice_cmp}

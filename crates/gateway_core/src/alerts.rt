@@ -44,6 +44,22 @@ fn limited(alloc: Global, table: &Timetable, item: Item) -> Result<Item, AllocEr
     }
 }
 
+// Items, each of which is set aside where its alert is too long.
+fn limited_items(
+    alloc: Global,
+    table: &Timetable,
+    items: List<Item>,
+) -> Result<List<Item>, AllocError>
+    requires { ReferToKnown (seen table.now) items }
+    ensures { IfOk result (λ made. made ≡ map (spec.limited (seen table.now)) items) }
+{
+    let mut made = List::new(alloc);
+    for item in items.into_vec() {
+        made.push(limited(alloc, table, item)?)?;
+    }
+    Ok(made)
+}
+
 /// The delivery, of which each situation is set aside whose alert has an entity with a body of more than
 /// 65,536 bytes.
 pub fn limited_delivery(
@@ -55,10 +71,7 @@ pub fn limited_delivery(
     ensures limited { IfOk result (λ made. made ≡ spec.limited_delivery (seen table.now) delivery) }
     ensures known { IfOk result (λ made. ReferToKnown (seen table.now) made.items) }
 {
-    let mut items = List::new(alloc);
-    for item in delivery.items.into_vec() {
-        items.push(limited(alloc, table, item)?)?;
-    }
+    let items = limited_items(alloc, table, delivery.items)?;
     Ok(SituationDelivery {
         items,
         passed: delivery.passed,

@@ -61,10 +61,7 @@ fn keep_all<'a>(latest: &mut Latest<'a>, items: &'a [Item]) -> Result<(), AllocE
 }
 
 // Holds the latest of the records that are held and those of a delivery.
-fn keep_delivered<'a>(
-    latest: &mut Latest<'a>,
-    delivered: &'a Delivered,
-) -> Result<(), AllocError>
+fn keep_delivered<'a>(latest: &mut Latest<'a>, delivered: &'a Delivered) -> Result<(), AllocError>
     ensures { (records : List Recorded) → HoldsLatest records latest.old
         → OnOk result (HoldsLatest (records ++ records_in delivered.now) latest.new) }
 {

@@ -59,10 +59,7 @@ fn keep_all<'a>(newest: &mut Newest<'a>, items: &'a [Item]) -> Result<(), AllocE
 }
 
 // Holds the newest of the situations that are held and those of a delivery.
-fn keep_delivered<'a>(
-    newest: &mut Newest<'a>,
-    delivered: &'a Delivered,
-) -> Result<(), AllocError>
+fn keep_delivered<'a>(newest: &mut Newest<'a>, delivered: &'a Delivered) -> Result<(), AllocError>
     ensures { (situations : List spec.Situation) → HoldsNewest situations newest.old
         → OnOk result (HoldsNewest (situations ++ situations_in delivered.now) newest.new) }
 {

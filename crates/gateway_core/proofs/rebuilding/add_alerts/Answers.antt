@@ -1,12 +1,11 @@
 -- Each situation that is held adds its alert.
-use Rattle.std.proofs.Common.{◌++◌, ◌∷◌, [], ap, subst}
+use Rattle.std.proofs.Common.{◌++◌, ◌∷◌, []}
 use Rattle.std.specs.List.{flat_map}
 use Rattle.journey_model.specs.Situations.{AreKnown}
 use Rattle.stop_schedule.specs.Seen.{seen}
 use Rattle.gateway_core.specs.Alerts.{alerts}
-use Rattle.gateway_core.specs.Feeds.{IsFeedOf}
 use Rattle.gateway_core.specs.Winners.{all_numbers, situation_at}
-use Rattle.gateway_core.proofs.FeedLemmas.{alerts_more, left_more, next_is, none_left}
+use Rattle.gateway_core.proofs.FeedLemmas.{alerts_more, left_more, next_is}
 use Rattle.gateway_core.proofs.rebuilding.add_alerts.Goals as goal
 
 pub add_alert-requires : goal.add_alert-requires
@@ -16,8 +15,7 @@ add_alert-requires c =
 
 pub loop-situation-preserved : goal.loop-situation-preserved
 loop-situation-preserved c =
-    let so_far = c.loop-situation.invariant.0 in
-    (
+    let so_far = c.loop-situation.invariant.0 in (
       so_far ++ situation_at c.in-Some.situation.now ∷ [],
       left_more situation_at so_far c.loop-situation.situation-iterator c.next.new.self c.in-Some.situation.now (all_numbers c.args.newest.now) c.in-Some.ensures.steps c.loop-situation.invariant.1,
       λ at entities h.

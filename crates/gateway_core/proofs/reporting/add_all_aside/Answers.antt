@@ -1,5 +1,5 @@
 -- Each item is taken or set aside.
-use Rattle.std.proofs.Common.{◌≡◌, [], arith, ap, length, drop, map, ◌∙◌}
+use Rattle.std.proofs.Common.{◌≡◌, [], arith, ap, length, drop, map}
 use Rattle.std.proofs.lemmas.List.{drop_all, length-map}
 use Rattle.gateway_core.specs.Reports.{aside_from}
 use Rattle.gateway_core.proofs.ReportLemmas.{taken_or_aside}
