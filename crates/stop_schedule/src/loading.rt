@@ -17,7 +17,7 @@ use crate::frequency_rows::FrequencyRows;
 use crate::id_rows::IdRows;
 use crate::ids::Ids;
 use crate::service_rows::{Calendar, CalendarRows, DateRows};
-use crate::stop_time_rows::{Order, StopTimeRows};
+use crate::stop_time_rows::StopTimeRows;
 use crate::stop_times::LoadedStop;
 use crate::table_fault::TableFault;
 use crate::table_file::TableFile;
@@ -280,13 +280,11 @@ pub(crate) fn read_stop_times<F: Files>(
     ensures same { F.told files.new ≡ F.told files.old }
 {
     let by_trip = no_stops(alloc, trips, stops)?;
-    let order = Order::new(alloc, stops.len())?;
     let mut rows = StopTimeRows {
         trips,
         stops,
         by_trip,
         last: 0,
-        order,
     };
     if let Err(fault) = read_needed(alloc, files, dir, buffer, &mut rows) {
         return Err(fault);
@@ -296,7 +294,6 @@ pub(crate) fn read_stop_times<F: Files>(
         stops: _,
         by_trip,
         last: _,
-        order: _,
     } = rows;
     Ok(by_trip)
 }

@@ -4,70 +4,22 @@ ghost use Rattle.stop_schedule.specs.StopTimes as spec;
 
 use crate::column::Column;
 use crate::forms::{seconds, sequence};
-use crate::ids::{Ids, find_from};
+use crate::ids::{Ids, find_from, find_in};
 use crate::numbers::StopNo;
 use crate::sheet::Sheet;
 use crate::stop_times::{LoadedStop, MAX_STOPS, place_of};
 use crate::table_fault::TableFault;
 use crate::table_file::TableFile;
 use crate::taking::TakesRows;
-use std::alloc::{AllocError, Global};
+use std::alloc::Global;
 
-/// The numbers of the stops in the order of the rows: trips of one line mostly have the same stops in the same order.
-#[derive(Drop)]
-pub(crate) struct Order {
-    last: u32,
-    following: Vec<u32>,
-}
-
-impl Order {
-    /// The order of so many stops, before the first row.
-    pub(crate) fn new(alloc: Global, stops: usize) -> Result<Order, AllocError> {
-        let mut following = Vec::new(alloc);
-        following.resize(stops, 0)?;
-        Ok(Order { last: 0, following })
-    }
-
-    // The number of the stop that came behind the stop of the row before when that came last, or of any stop.
-    fn next(&self) -> u32 {
-        self.following
-            .as_slice()
-            .get(self.last as usize)
-            .copied()
-            .unwrap_or(0)
-    }
-
-    // Takes the number of the next row's stop.
-    fn note(&mut self, stop: u32) {
-        if let Some(following) = self.following.get_mut(self.last as usize) {
-            *following = stop;
-        }
-        self.last = stop;
-    }
-}
-
-/// The stops of each trip of `trips.txt`, in rising sequence, the number of the trip of the row before, and the order of
-/// the stops.
+/// The stops of each trip of `trips.txt`, in rising sequence, and the number of the trip that began last.
 #[derive(Drop)]
 pub(crate) struct StopTimeRows<'a> {
     pub(crate) trips: &'a Ids,
     pub(crate) stops: &'a Ids,
     pub(crate) by_trip: Vec<Vec<LoadedStop>>,
     pub(crate) last: u32,
-    pub(crate) order: Order,
-}
-
-// Gives back the room that the stops of the last trip don't take, where the first stop of another comes: rows of
-// one trip mostly stand together.
-fn give_back(by_trip: &mut Vec<Vec<LoadedStop>>, last: u32, trip: u32)
-    ensures { map (λ held. held.items) by_trip.new.items ≡ map (λ held. held.items) by_trip.old.items }
-{
-    if !has_none(by_trip.as_slice(), trip) {
-        return;
-    }
-    if let Some(held) = by_trip.get_mut(last as usize) {
-        held.shrink_to_fit();
-    }
 }
 
 // Whether a trip has no stops so far.
@@ -76,6 +28,41 @@ fn has_none(by_trip: &[Vec<LoadedStop>], trip: u32) -> bool {
         Some(held) => held.is_empty(),
         None => true,
     }
+}
+
+// Gives back the room that the stops of a trip don't take, and answers how many they are.
+fn give_back(by_trip: &mut Vec<Vec<LoadedStop>>, trip: u32) -> usize
+    ensures { map (λ held. held.items) by_trip.new.items ≡ map (λ held. held.items) by_trip.old.items }
+{
+    match by_trip.get_mut(trip as usize) {
+        Some(held) => {
+            held.shrink_to_fit();
+            held.len()
+        }
+        None => 0,
+    }
+}
+
+// Takes room for so many stops of a trip where there is memory for them.
+fn make_room(by_trip: &mut Vec<Vec<LoadedStop>>, trip: u32, count: usize)
+    ensures { map (λ held. held.items) by_trip.new.items ≡ map (λ held. held.items) by_trip.old.items }
+{
+    if let Some(held) = by_trip.get_mut(trip as usize) {
+        let _ = held.reserve_exact(count);
+    }
+}
+
+// Answers which trip began last, of which the next row is one of `trip`. Where that row is its first, the stops of the
+// one that began before are mostly all there, and this one mostly has as many.
+fn begin_trip(by_trip: &mut Vec<Vec<LoadedStop>>, last: u32, trip: u32) -> u32
+    ensures { map (λ held. held.items) by_trip.new.items ≡ map (λ held. held.items) by_trip.old.items }
+{
+    if !has_none(by_trip.as_slice(), trip) {
+        return last;
+    }
+    let count = give_back(by_trip, last);
+    make_room(by_trip, trip, count);
+    trip
 }
 
 // The times of the row at hand: one time stands for both.
@@ -110,18 +97,16 @@ impl<'a> TakesRows for StopTimeRows<'a> {
         let Some(trip) = find_from(self.trips, sheet, 0, self.last) else {
             return Err(TableFault::Unknown(TableFile::StopTimes, number, Column::TripId));
         };
-        give_back(&mut self.by_trip, self.last, trip);
-        self.last = trip;
+        self.last = begin_trip(&mut self.by_trip, self.last, trip);
         let Some(held) = self.by_trip.get_mut(trip as usize) else {
             return Err(TableFault::Unknown(TableFile::StopTimes, number, Column::TripId));
         };
         if held.len() >= MAX_STOPS {
             return Err(TableFault::Limit(TableFile::StopTimes, number));
         }
-        let Some(stop) = find_from(self.stops, sheet, 2, self.order.next()) else {
+        let Some(stop) = find_in(self.stops, sheet, 2) else {
             return Err(TableFault::Unknown(TableFile::StopTimes, number, Column::StopId));
         };
-        self.order.note(stop);
         let Some(sequence) = sequence(sheet.field(1)) else {
             return Err(TableFault::Unknown(TableFile::StopTimes, number, Column::StopSequence));
         };

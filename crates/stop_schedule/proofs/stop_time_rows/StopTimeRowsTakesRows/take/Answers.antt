@@ -30,12 +30,12 @@ returns-in_default-get_mut-clause-takes c = λ start before kept counted.
     let row = c.args.sheet.now.row in
     let trips = c.args.self.now.trips.now in
     let stops = c.args.self.now.stops.now in
-    let items = c.give_back.new.by_trip.items in
-    let holds : HoldsStops trips stops (map items_of items) before = rw c.give_back.ensures kept.2 in
+    let items = c.begin_trip-self.new.by_trip.items in
+    let holds : HoldsStops trips stops (map items_of items) before = rw c.begin_trip-self.ensures kept.2 in
     let text : is_utf8 (nth 0 row) ≡ true = and-left (is_utf8 (nth 0 row)) _ c.requires.texts in
     let trip = c.in-Some.trip in
     let long : length items ≡ length trips = sym (length-map items items_of) ∙ ap length holds.stops_are ∙ length-map trips (stops_in stops before) in
-    let there : trip < vec_len c.give_back.new.by_trip = omega (arith, long, c.in-Some.ensures.within) in
+    let there : trip < vec_len c.begin_trip-self.new.by_trip = omega (arith, long, c.in-Some.ensures.within) in
     absurd (false≢true (c.in_default-get_mut.ensures.variant.1 there))
 
 pub returns-then-len-ge-MAX_STOPS-clause-takes : goal.returns-then-len-ge-MAX_STOPS-clause-takes
@@ -43,8 +43,8 @@ returns-then-len-ge-MAX_STOPS-clause-takes c = λ start before kept counted.
     let row = c.args.sheet.now.row in
     let trips = c.args.self.now.trips.now in
     let stops = c.args.self.now.stops.now in
-    let items = c.give_back.new.by_trip.items in
-    let holds : HoldsStops trips stops (map items_of items) before = rw c.give_back.ensures kept.2 in
+    let items = c.begin_trip-self.new.by_trip.items in
+    let holds : HoldsStops trips stops (map items_of items) before = rw c.begin_trip-self.ensures kept.2 in
     let text : is_utf8 (nth 0 row) ≡ true = and-left (is_utf8 (nth 0 row)) _ c.requires.texts in
     let of_trip : has_id (nth 0 row) trips ≡ true = sym (c.in-Some.ensures.found text) in
     let at = id-of-place trips c.in-Some.trip (nth 0 row) (sym (c.in-Some.ensures.place text)) in
@@ -57,13 +57,13 @@ returns-then-len-ge-MAX_STOPS-clause-takes c = λ start before kept counted.
     let many : 250 ≤ length (stops_in stops before (nth 0 row)) = rw (← held_is) (omega (arith, c.len.ensures, c.if-len-ge-MAX_STOPS.true)) in
     rw counted (too-many trips stops before row many)
 
-pub returns-in_default-find_from-clause-takes : goal.returns-in_default-find_from-clause-takes
-returns-in_default-find_from-clause-takes c = λ start before kept counted.
+pub returns-in_default-find_in-clause-takes : goal.returns-in_default-find_in-clause-takes
+returns-in_default-find_in-clause-takes c = λ start before kept counted.
     let row = c.args.sheet.now.row in
     let trips = c.args.self.now.trips.now in
     let stops = c.args.self.now.stops.now in
-    let items = c.give_back.new.by_trip.items in
-    let holds : HoldsStops trips stops (map items_of items) before = rw c.give_back.ensures kept.2 in
+    let items = c.begin_trip-self.new.by_trip.items in
+    let holds : HoldsStops trips stops (map items_of items) before = rw c.begin_trip-self.ensures kept.2 in
     let text : is_utf8 (nth 0 row) ≡ true = and-left (is_utf8 (nth 0 row)) _ c.requires.texts in
     let of_trip : has_id (nth 0 row) trips ≡ true = sym (c.in-Some.ensures.found text) in
     let at = id-of-place trips c.in-Some.trip (nth 0 row) (sym (c.in-Some.ensures.place text)) in
@@ -75,15 +75,15 @@ returns-in_default-find_from-clause-takes c = λ start before kept counted.
     let held_is = held-at trips stops by_trip before holds c.in-Some.trip (nth 0 row) (items_of c.in-Some-get_mut.held.now) at stands in
     let few : length (stops_in stops before (nth 0 row)) < 250 = rw (← held_is) (omega arith) in
     let stop_text : is_utf8 (nth 2 row) ≡ true = and-left (is_utf8 (nth 2 row)) _ (and-right (is_utf8 (nth 1 row)) _ (and-right (is_utf8 (nth 0 row)) _ c.requires.texts)) in
-    rw counted (unknown-stop trips stops before row few of_trip (sym (c.in_default-find_from.ensures.found stop_text)))
+    rw counted (unknown-stop trips stops before row few of_trip (sym (c.in_default-find_in.ensures.found stop_text)))
 
 pub returns-in_default-place_of-clause-takes : goal.returns-in_default-place_of-clause-takes
 returns-in_default-place_of-clause-takes c = λ start before kept counted.
     let row = c.args.sheet.now.row in
     let trips = c.args.self.now.trips.now in
     let stops = c.args.self.now.stops.now in
-    let items = c.give_back.new.by_trip.items in
-    let holds : HoldsStops trips stops (map items_of items) before = rw c.give_back.ensures kept.2 in
+    let items = c.begin_trip-self.new.by_trip.items in
+    let holds : HoldsStops trips stops (map items_of items) before = rw c.begin_trip-self.ensures kept.2 in
     let text : is_utf8 (nth 0 row) ≡ true = and-left (is_utf8 (nth 0 row)) _ c.requires.texts in
     let of_trip : has_id (nth 0 row) trips ≡ true = sym (c.in-Some.ensures.found text) in
     let at = id-of-place trips c.in-Some.trip (nth 0 row) (sym (c.in-Some.ensures.place text)) in
@@ -95,7 +95,7 @@ returns-in_default-place_of-clause-takes c = λ start before kept counted.
     let held_is = held-at trips stops by_trip before holds c.in-Some.trip (nth 0 row) (items_of c.in-Some-get_mut.held.now) at stands in
     let stop_text : is_utf8 (nth 2 row) ≡ true = and-left (is_utf8 (nth 2 row)) _ (and-right (is_utf8 (nth 1 row)) _ (and-right (is_utf8 (nth 0 row)) _ c.requires.texts)) in
     let few : length (stops_in stops before (nth 0 row)) < 250 = rw (← held_is) (omega arith) in
-    let of_stop : has_id (nth 2 row) stops ≡ true = sym (c.in-Some-find_from.ensures.found stop_text) in
+    let of_stop : has_id (nth 2 row) stops ≡ true = sym (c.in-Some-find_in.ensures.found stop_text) in
     let read : Some c.in-Some-sequence.sequence ≡ sequence (nth 1 row) = rw (← c.field.ensures.value) c.in-Some-sequence.ensures in
     let sequence_is : c.in-Some-sequence.sequence ≡ sequence_of row = ap (λ o. unwrap_or o 0) read in
     let slice_is : c.as_slice.result.now ≡ stops_in stops before (nth 0 row) = c.as_slice.ensures.value ∙ held_is in
@@ -109,8 +109,8 @@ returns-in-Ok-clause-takes c = λ start before kept counted.
     let row = c.args.sheet.now.row in
     let trips = c.args.self.now.trips.now in
     let stops = c.args.self.now.stops.now in
-    let items = c.give_back.new.by_trip.items in
-    let holds : HoldsStops trips stops (map items_of items) before = rw c.give_back.ensures kept.2 in
+    let items = c.begin_trip-self.new.by_trip.items in
+    let holds : HoldsStops trips stops (map items_of items) before = rw c.begin_trip-self.ensures kept.2 in
     let text : is_utf8 (nth 0 row) ≡ true = and-left (is_utf8 (nth 0 row)) _ c.requires.texts in
     let of_trip : has_id (nth 0 row) trips ≡ true = sym (c.in-Some.ensures.found text) in
     let at = id-of-place trips c.in-Some.trip (nth 0 row) (sym (c.in-Some.ensures.place text)) in
@@ -122,7 +122,7 @@ returns-in-Ok-clause-takes c = λ start before kept counted.
     let held_is = held-at trips stops by_trip before holds c.in-Some.trip (nth 0 row) (items_of c.in-Some-get_mut.held.now) at stands in
     let stop_text : is_utf8 (nth 2 row) ≡ true = and-left (is_utf8 (nth 2 row)) _ (and-right (is_utf8 (nth 1 row)) _ (and-right (is_utf8 (nth 0 row)) _ c.requires.texts)) in
     let few : length (stops_in stops before (nth 0 row)) < 250 = rw (← held_is) (omega arith) in
-    let of_stop : has_id (nth 2 row) stops ≡ true = sym (c.in-Some-find_from.ensures.found stop_text) in
+    let of_stop : has_id (nth 2 row) stops ≡ true = sym (c.in-Some-find_in.ensures.found stop_text) in
     let read : Some c.in-Some-sequence.sequence ≡ sequence (nth 1 row) = rw (← c.field.ensures.value) c.in-Some-sequence.ensures in
     let sequence_is : c.in-Some-sequence.sequence ≡ sequence_of row = ap (λ o. unwrap_or o 0) read in
     let slice_is : c.as_slice.result.now ≡ stops_in stops before (nth 0 row) = c.as_slice.ensures.value ∙ held_is in
@@ -131,8 +131,8 @@ returns-in-Ok-clause-takes c = λ start before kept counted.
     let between : IsBetween (stops_in stops before (nth 0 row)) (sequence_of row) c.in-Some-place_of.place = rw (← sequence_is, ← slice_is) (c.in-Some-place_of.ensures.place slice_rising) in
     let none = not-between (stops_in stops before (nth 0 row)) (sequence_of row) c.in-Some-place_of.place between in
     let place = c.in-Some-place_of.place in
-    let stop_is : Some c.in-Some-find_from.stop ≡ position (bytes_eq (nth 2 row)) stops = c.in-Some-find_from.ensures.place stop_text in
-    let loaded_is = loaded-row stops row (length before + 1) c.args.number c.in-Some-sequence.sequence c.in-Some-find_from.stop c.times.result counted read stop_is c.times.ensures in
+    let stop_is : Some c.in-Some-find_in.stop ≡ position (bytes_eq (nth 2 row)) stops = c.in-Some-find_in.ensures.place stop_text in
+    let loaded_is = loaded-row stops row (length before + 1) c.args.number c.in-Some-sequence.sequence c.in-Some-find_in.stop c.times.result counted read stop_is c.times.ensures in
     let value : items_of c.insert.new.self ≡ placed (loaded stops (length before + 1, row)) (stops_in stops before (nth 0 row)) =
     c.in-Ok.ensures.items ∙ ap (λ stop. insert c.in-Some-get_mut.held.now.items place stop) loaded_is
     ∙ ap (λ items. insert items place (loaded stops (length before + 1, row))) held_is
