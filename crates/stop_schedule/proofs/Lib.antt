@@ -1,4 +1,5 @@
 pub mod CarryingLemmas
+pub mod DigitLemmas
 pub mod FaultLemmas
 pub mod FieldLemmas
 pub mod FillLemmas

@@ -1,7 +1,7 @@
 -- What a timetable keeps of all of its trips.
-use Rattle.std.proofs.Common.{◌≡◌, ◌<◌, ℕ, zero, suc, Bool, true, nat_le, nat_lt, ◌&&◌, List, [], ◌∷◌, length, slice_get, drop, take, unwrap_or, Option, Some, None, arith, refl}
+use Rattle.std.proofs.Common.{◌≡◌, ◌<◌, ℕ, zero, suc, true, nat_le, nat_lt, List, [], ◌∷◌, length, slice_get, drop, take, unwrap_or, arith, refl}
 use Rattle.std.specs.List.{list_all}
-use Rattle.std.proofs.lemmas.Bool.{lt-ltb, ltb-true}
+use Rattle.std.proofs.lemmas.Bool.{ltb-true}
 use Rattle.stop_schedule.specs.Held.{are_in_range, is_in_range, route_held, stops_held}
 use Rattle.stop_schedule.specs.Ids.{are_ids, is_id}
 use Rattle.stop_schedule.specs.Stops.{are_stops_of}

@@ -46,6 +46,7 @@ pub(crate) fn date(text: &str) -> Option<Day>
 }
 
 // Whether a byte is a decimal digit.
+#[inline(always)]
 fn is_digit(byte: u8) -> bool
     ensures { result ≡ spec.is_digit byte }
 {
@@ -91,6 +92,7 @@ fn number(text: &[u8]) -> Option<u32>
 
 /// The seconds of a time of day, which may pass midnight.
 #[tactic(auto, unfolding(crate::specs::Forms::seconds))]
+#[inline(always)]
 pub(crate) fn seconds(text: &[u8]) -> Option<u32>
     ensures { result ≡ spec.seconds text.now }
 {
@@ -105,6 +107,7 @@ pub(crate) fn seconds(text: &[u8]) -> Option<u32>
 }
 
 // The seconds of `HH:MM:SS`, by its first byte and the other seven.
+#[inline(always)]
 fn clock(tens: u8, rest: &[u8]) -> Option<u32>
     requires { length rest.now ≡ 7 }
     ensures { result ≡ spec.clock tens rest.now }
@@ -117,6 +120,7 @@ fn clock(tens: u8, rest: &[u8]) -> Option<u32>
 }
 
 // Whether the bytes are `HH:MM:SS` with minutes and seconds below 60.
+#[inline(always)]
 fn is_clock(tens: u8, rest: &[u8]) -> bool
     requires { length rest.now ≡ 7 }
     ensures { result ≡ spec.is_clock tens rest.now }
@@ -130,6 +134,7 @@ fn is_clock(tens: u8, rest: &[u8]) -> bool
 }
 
 // Whether two bytes are the digits of a number below 60.
+#[inline(always)]
 fn is_sixty(tens: u8, ones: u8) -> bool
     ensures { result ≡ spec.is_sixty tens ones }
 {
@@ -137,6 +142,7 @@ fn is_sixty(tens: u8, ones: u8) -> bool
 }
 
 // The number that two digits name.
+#[inline(always)]
 fn two(tens: u8, ones: u8) -> u32
     ensures value { result ≡ spec.two tens ones }
     ensures bound { result ≤ 2277 }

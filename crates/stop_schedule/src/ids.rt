@@ -137,3 +137,24 @@ pub(crate) fn find_in(ids: &Ids, sheet: &Sheet<'_>, column: usize) -> Option<u32
         None => None,
     }
 }
+
+// Whether the number is that of the id in a column of the row at hand.
+fn is_at(ids: &Ids, sheet: &Sheet<'_>, column: usize, number: u32) -> bool
+    ensures { result ≡ true → slice_get ids.now number ≡ Some (nth column sheet.now.row) }
+{
+    (number as usize) < ids.len() && ids.at(number).as_bytes() == sheet.field(column)
+}
+
+/// The same, by a number that is tried first.
+pub(crate) fn find_from(ids: &Ids, sheet: &Sheet<'_>, column: usize, number: u32) -> Option<u32>
+    ensures place { is_utf8 (nth column sheet.now.row) ≡ true → result ≡ position (bytes_eq (nth column sheet.now.row)) ids.now }
+    ensures found { is_utf8 (nth column sheet.now.row) ≡ true → is_some result ≡ has_id (nth column sheet.now.row) ids.now }
+    ensures within { IfSome result (λ place. place < length ids.now) }
+    ensures ids { IsTrue (are_ids ids.now) }
+{
+    let _ = ids.len();
+    if is_at(ids, sheet, column, number) {
+        return Some(number);
+    }
+    find_in(ids, sheet, column)
+}

@@ -284,6 +284,7 @@ pub(crate) fn read_stop_times<F: Files>(
         trips,
         stops,
         by_trip,
+        last: 0,
     };
     if let Err(fault) = read_needed(alloc, files, dir, buffer, &mut rows) {
         return Err(fault);
@@ -292,6 +293,7 @@ pub(crate) fn read_stop_times<F: Files>(
         trips: _,
         stops: _,
         by_trip,
+        last: _,
     } = rows;
     Ok(by_trip)
 }

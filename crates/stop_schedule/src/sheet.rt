@@ -51,6 +51,16 @@ fn find_places(alloc: Global, rows: &Rows<'_>, file: TableFile) -> Result<Vec<us
     Ok(places)
 }
 
+/// A field as a text, if it is one.
+pub(crate) fn text_of(field: &[u8]) -> Option<&str>
+    ensures cases { MatchOption result (is_utf8 field.now ≡ false) (λ text. (text.now ≡ field.now) × (is_utf8 field.now ≡ true)) }
+{
+    match str::from_utf8(field) {
+        Ok(text) => Some(text),
+        Err(_) => None,
+    }
+}
+
 impl<'a> Sheet<'a> {
     /// The data rows of a file by its bytes, of which none is read yet; or the first column that the first
     /// row doesn't name.
@@ -89,9 +99,6 @@ impl<'a> Sheet<'a> {
     pub(crate) fn text(&self, column: usize) -> Option<&str>
         ensures cases { MatchOption result (is_utf8 (nth column self.now.row) ≡ false) (λ text. (text.now ≡ nth column self.now.row) × (is_utf8 (nth column self.now.row) ≡ true)) }
     {
-        match str::from_utf8(self.field(column)) {
-            Ok(text) => Some(text),
-            Err(_) => None,
-        }
+        text_of(self.field(column))
     }
 }

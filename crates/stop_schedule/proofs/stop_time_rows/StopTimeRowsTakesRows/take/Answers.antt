@@ -6,6 +6,7 @@ use Rattle.std.proofs.lemmas.Bool.{false≢true}
 use Rattle.std.proofs.lemmas.List.{length-map, map-set}
 use Rattle.std.proofs.lemmas.Option.{slice_get-get_or, slice_get-map}
 use Rattle.stop_schedule.specs.Forms.{sequence}
+use Rattle.stop_schedule.specs.Holding.{HoldsStops}
 use Rattle.stop_schedule.specs.Ids.{has_id}
 use Rattle.stop_schedule.specs.Rising.{IsBetween, has_sequence, is_rising}
 use Rattle.stop_schedule.specs.Sheet.{nth}
@@ -26,49 +27,51 @@ returns-in_default-clause-takes c = λ start before kept counted.
 
 pub returns-in_default-get_mut-clause-takes : goal.returns-in_default-get_mut-clause-takes
 returns-in_default-get_mut-clause-takes c = λ start before kept counted.
-    let holds = kept.2 in
     let row = c.args.sheet.now.row in
     let trips = c.args.self.now.trips.now in
     let stops = c.args.self.now.stops.now in
+    let items = c.begin_trip-self.new.by_trip.items in
+    let holds : HoldsStops trips stops (map items_of items) before = rw c.begin_trip-self.ensures kept.2 in
     let text : is_utf8 (nth 0 row) ≡ true = and-left (is_utf8 (nth 0 row)) _ c.requires.texts in
     let trip = c.in-Some.trip in
-    let items = c.args.self.now.by_trip.items in
     let long : length items ≡ length trips = sym (length-map items items_of) ∙ ap length holds.stops_are ∙ length-map trips (stops_in stops before) in
-    let there : trip < vec_len c.args.self.now.by_trip = omega (arith, long, c.in-Some.ensures.within) in
+    let there : trip < vec_len c.begin_trip-self.new.by_trip = omega (arith, long, c.in-Some.ensures.within) in
     absurd (false≢true (c.in_default-get_mut.ensures.variant.1 there))
 
 pub returns-then-len-ge-MAX_STOPS-clause-takes : goal.returns-then-len-ge-MAX_STOPS-clause-takes
 returns-then-len-ge-MAX_STOPS-clause-takes c = λ start before kept counted.
-    let holds = kept.2 in
     let row = c.args.sheet.now.row in
     let trips = c.args.self.now.trips.now in
     let stops = c.args.self.now.stops.now in
+    let items = c.begin_trip-self.new.by_trip.items in
+    let holds : HoldsStops trips stops (map items_of items) before = rw c.begin_trip-self.ensures kept.2 in
     let text : is_utf8 (nth 0 row) ≡ true = and-left (is_utf8 (nth 0 row)) _ c.requires.texts in
     let of_trip : has_id (nth 0 row) trips ≡ true = sym (c.in-Some.ensures.found text) in
     let at = id-of-place trips c.in-Some.trip (nth 0 row) (sym (c.in-Some.ensures.place text)) in
-    let by_trip = map items_of c.args.self.now.by_trip.items in
-    let there : c.in-Some.trip < length c.args.self.now.by_trip.items = omega (arith, c.in-Some-get_mut.ensures.variant.0 refl) in
+    let by_trip = map items_of items in
+    let there : c.in-Some.trip < length items = omega (arith, c.in-Some-get_mut.ensures.variant.0 refl) in
     let stands : slice_get by_trip c.in-Some.trip ≡ Some (items_of c.in-Some-get_mut.held.now) =
-    slice_get-map items_of c.args.self.now.by_trip.items c.in-Some.trip
-    ∙ ap (option_map items_of) (slice_get-get_or c.args.self.now.by_trip.items c.in-Some.trip c.in-Some-get_mut.held.now there ∙ ap Some (sym c.in-Some-get_mut.ensures.value)) in
+    slice_get-map items_of items c.in-Some.trip
+    ∙ ap (option_map items_of) (slice_get-get_or items c.in-Some.trip c.in-Some-get_mut.held.now there ∙ ap Some (sym c.in-Some-get_mut.ensures.value)) in
     let held_is = held-at trips stops by_trip before holds c.in-Some.trip (nth 0 row) (items_of c.in-Some-get_mut.held.now) at stands in
     let many : 250 ≤ length (stops_in stops before (nth 0 row)) = rw (← held_is) (omega (arith, c.len.ensures, c.if-len-ge-MAX_STOPS.true)) in
     rw counted (too-many trips stops before row many)
 
 pub returns-in_default-find_in-clause-takes : goal.returns-in_default-find_in-clause-takes
 returns-in_default-find_in-clause-takes c = λ start before kept counted.
-    let holds = kept.2 in
     let row = c.args.sheet.now.row in
     let trips = c.args.self.now.trips.now in
     let stops = c.args.self.now.stops.now in
+    let items = c.begin_trip-self.new.by_trip.items in
+    let holds : HoldsStops trips stops (map items_of items) before = rw c.begin_trip-self.ensures kept.2 in
     let text : is_utf8 (nth 0 row) ≡ true = and-left (is_utf8 (nth 0 row)) _ c.requires.texts in
     let of_trip : has_id (nth 0 row) trips ≡ true = sym (c.in-Some.ensures.found text) in
     let at = id-of-place trips c.in-Some.trip (nth 0 row) (sym (c.in-Some.ensures.place text)) in
-    let by_trip = map items_of c.args.self.now.by_trip.items in
-    let there : c.in-Some.trip < length c.args.self.now.by_trip.items = omega (arith, c.in-Some-get_mut.ensures.variant.0 refl) in
+    let by_trip = map items_of items in
+    let there : c.in-Some.trip < length items = omega (arith, c.in-Some-get_mut.ensures.variant.0 refl) in
     let stands : slice_get by_trip c.in-Some.trip ≡ Some (items_of c.in-Some-get_mut.held.now) =
-    slice_get-map items_of c.args.self.now.by_trip.items c.in-Some.trip
-    ∙ ap (option_map items_of) (slice_get-get_or c.args.self.now.by_trip.items c.in-Some.trip c.in-Some-get_mut.held.now there ∙ ap Some (sym c.in-Some-get_mut.ensures.value)) in
+    slice_get-map items_of items c.in-Some.trip
+    ∙ ap (option_map items_of) (slice_get-get_or items c.in-Some.trip c.in-Some-get_mut.held.now there ∙ ap Some (sym c.in-Some-get_mut.ensures.value)) in
     let held_is = held-at trips stops by_trip before holds c.in-Some.trip (nth 0 row) (items_of c.in-Some-get_mut.held.now) at stands in
     let few : length (stops_in stops before (nth 0 row)) < 250 = rw (← held_is) (omega arith) in
     let stop_text : is_utf8 (nth 2 row) ≡ true = and-left (is_utf8 (nth 2 row)) _ (and-right (is_utf8 (nth 1 row)) _ (and-right (is_utf8 (nth 0 row)) _ c.requires.texts)) in
@@ -76,18 +79,19 @@ returns-in_default-find_in-clause-takes c = λ start before kept counted.
 
 pub returns-in_default-place_of-clause-takes : goal.returns-in_default-place_of-clause-takes
 returns-in_default-place_of-clause-takes c = λ start before kept counted.
-    let holds = kept.2 in
     let row = c.args.sheet.now.row in
     let trips = c.args.self.now.trips.now in
     let stops = c.args.self.now.stops.now in
+    let items = c.begin_trip-self.new.by_trip.items in
+    let holds : HoldsStops trips stops (map items_of items) before = rw c.begin_trip-self.ensures kept.2 in
     let text : is_utf8 (nth 0 row) ≡ true = and-left (is_utf8 (nth 0 row)) _ c.requires.texts in
     let of_trip : has_id (nth 0 row) trips ≡ true = sym (c.in-Some.ensures.found text) in
     let at = id-of-place trips c.in-Some.trip (nth 0 row) (sym (c.in-Some.ensures.place text)) in
-    let by_trip = map items_of c.args.self.now.by_trip.items in
-    let there : c.in-Some.trip < length c.args.self.now.by_trip.items = omega (arith, c.in-Some-get_mut.ensures.variant.0 refl) in
+    let by_trip = map items_of items in
+    let there : c.in-Some.trip < length items = omega (arith, c.in-Some-get_mut.ensures.variant.0 refl) in
     let stands : slice_get by_trip c.in-Some.trip ≡ Some (items_of c.in-Some-get_mut.held.now) =
-    slice_get-map items_of c.args.self.now.by_trip.items c.in-Some.trip
-    ∙ ap (option_map items_of) (slice_get-get_or c.args.self.now.by_trip.items c.in-Some.trip c.in-Some-get_mut.held.now there ∙ ap Some (sym c.in-Some-get_mut.ensures.value)) in
+    slice_get-map items_of items c.in-Some.trip
+    ∙ ap (option_map items_of) (slice_get-get_or items c.in-Some.trip c.in-Some-get_mut.held.now there ∙ ap Some (sym c.in-Some-get_mut.ensures.value)) in
     let held_is = held-at trips stops by_trip before holds c.in-Some.trip (nth 0 row) (items_of c.in-Some-get_mut.held.now) at stands in
     let stop_text : is_utf8 (nth 2 row) ≡ true = and-left (is_utf8 (nth 2 row)) _ (and-right (is_utf8 (nth 1 row)) _ (and-right (is_utf8 (nth 0 row)) _ c.requires.texts)) in
     let few : length (stops_in stops before (nth 0 row)) < 250 = rw (← held_is) (omega arith) in
@@ -102,18 +106,19 @@ returns-in_default-place_of-clause-takes c = λ start before kept counted.
 
 pub returns-in-Ok-clause-takes : goal.returns-in-Ok-clause-takes
 returns-in-Ok-clause-takes c = λ start before kept counted.
-    let holds = kept.2 in
     let row = c.args.sheet.now.row in
     let trips = c.args.self.now.trips.now in
     let stops = c.args.self.now.stops.now in
+    let items = c.begin_trip-self.new.by_trip.items in
+    let holds : HoldsStops trips stops (map items_of items) before = rw c.begin_trip-self.ensures kept.2 in
     let text : is_utf8 (nth 0 row) ≡ true = and-left (is_utf8 (nth 0 row)) _ c.requires.texts in
     let of_trip : has_id (nth 0 row) trips ≡ true = sym (c.in-Some.ensures.found text) in
     let at = id-of-place trips c.in-Some.trip (nth 0 row) (sym (c.in-Some.ensures.place text)) in
-    let by_trip = map items_of c.args.self.now.by_trip.items in
-    let there : c.in-Some.trip < length c.args.self.now.by_trip.items = omega (arith, c.in-Some-get_mut.ensures.variant.0 refl) in
+    let by_trip = map items_of items in
+    let there : c.in-Some.trip < length items = omega (arith, c.in-Some-get_mut.ensures.variant.0 refl) in
     let stands : slice_get by_trip c.in-Some.trip ≡ Some (items_of c.in-Some-get_mut.held.now) =
-    slice_get-map items_of c.args.self.now.by_trip.items c.in-Some.trip
-    ∙ ap (option_map items_of) (slice_get-get_or c.args.self.now.by_trip.items c.in-Some.trip c.in-Some-get_mut.held.now there ∙ ap Some (sym c.in-Some-get_mut.ensures.value)) in
+    slice_get-map items_of items c.in-Some.trip
+    ∙ ap (option_map items_of) (slice_get-get_or items c.in-Some.trip c.in-Some-get_mut.held.now there ∙ ap Some (sym c.in-Some-get_mut.ensures.value)) in
     let held_is = held-at trips stops by_trip before holds c.in-Some.trip (nth 0 row) (items_of c.in-Some-get_mut.held.now) at stands in
     let stop_text : is_utf8 (nth 2 row) ≡ true = and-left (is_utf8 (nth 2 row)) _ (and-right (is_utf8 (nth 1 row)) _ (and-right (is_utf8 (nth 0 row)) _ c.requires.texts)) in
     let few : length (stops_in stops before (nth 0 row)) < 250 = rw (← held_is) (omega arith) in
@@ -136,7 +141,7 @@ returns-in-Ok-clause-takes c = λ start before kept counted.
       (
         kept.0,
         kept.1,
-        rw (map-set items_of c.args.self.now.by_trip.items c.in-Some.trip c.insert.new.self)
+        rw (map-set items_of items c.in-Some.trip c.insert.new.self)
             (stops-step trips stops by_trip before holds row c.in-Some.trip (items_of c.insert.new.self) (and-right _ _ c.in-Some.ensures.ids) at rising none of_trip value),
       ),
     )
