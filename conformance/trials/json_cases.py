@@ -1,0 +1,151 @@
+"""Texts of JSON for cases: members in any order, some of them twice, and values of wrong forms in any place."""
+
+import json
+
+
+class Members(list):
+    """An object as pairs of a name and a value, so that a name may stand twice."""
+
+
+class Raw(str):
+    """A value as it is to be written."""
+
+
+def json_bytes(value):
+    return "".join(pieces(value)).encode("utf-8", "surrogatepass")
+
+
+def pieces(value):
+    if isinstance(value, Raw):
+        yield value
+    elif isinstance(value, (Members, dict)):
+        yield "{"
+        for i, (name, inner) in enumerate(value if isinstance(value, Members) else value.items()):
+            yield "," * (i > 0) + json.dumps(name, ensure_ascii=False) + ":"
+            yield from pieces(inner)
+        yield "}"
+    elif isinstance(value, list):
+        yield "["
+        for i, inner in enumerate(value):
+            yield "," * (i > 0)
+            yield from pieces(inner)
+        yield "]"
+    else:
+        yield json.dumps(value, ensure_ascii=False)
+
+
+def read_pairs(data):
+    """The value with its members as pairs, or None where Python has no reading."""
+    try:
+        return json.loads(data, object_pairs_hook=Members)
+    except (ValueError, RecursionError):
+        return None
+
+
+ODD_VALUES = [
+    None, "", [], {}, True, False, 0, 1, 5, -1, Raw("-0"), Raw("1.0"), Raw("1e2"), Raw("0.5E-3"), [None], [""], [{}], [[]], [["x"]],
+    [{"value": None}], {"value": None}, {"value": ""}, {"value": []}, {"value": 5}, {"value": True}, {"value": {}}, {"value": ["A"]},
+    {"value": "A"}, ["A", "B"], [{"value": "A"}, 5], [5], [True], "true", "false", "TRUE", "1", "0", "A", "T0", "cancelled", "x",
+    {"other": 1}, [1, 2], "2024-05-01", "20240501", "2024-05-01T06:00:00Z", "18446744073709551615", "18446744073709551616",
+    Raw("18446744073709551615"), Raw("18446744073709551616"), "00000000000000000003", "000000000000000000003", " 1", "+1", "\u0661",
+    Raw("123456789012345678901234567890"), Raw("-9223372036854775808"), Raw("-9223372036854775809"), Raw('"\\u0041"'),
+    Raw('"\\ud83d\\ude00"'), "\u0000", "\ud7ff", "a\"b\\c\n\u001f\u007f",
+]
+
+# Values after which the whole text is no JSON.
+NO_JSON = [
+    Raw("1e999"), Raw("-1e400"), Raw('"\\ud800"'), Raw('"\\udc00"'), Raw('"\\ud800\\u0041"'), Raw("01"), Raw("+1"), Raw(".5"), Raw("1."),
+    Raw("1e"), Raw("NaN"), Raw("Infinity"), Raw("nul"), Raw("'a'"), Raw('"\\x"'), Raw('"\\u12g4"'), Raw('"\t"'), Raw("[1,]"), Raw("{,}"),
+    Raw('{"a":1,}'), Raw("//"), Raw("tru"), Raw("-"), Raw("1" * 400), Raw("[" * 128 + "]" * 128), Raw('{"a" 1}'), Raw("{1:2}"), Raw('"\x00"'),
+    Raw("TRUE"), Raw("0x10"), Raw("1_0"), Raw('"\\u12"'), Raw("[1 2]"), Raw('"\\ud83d\\ud83d"'), Raw("\ufeff1"), Raw("1\u00a0"),
+]
+DEEP = [Raw("[" * n + "]" * n) for n in (100, 118, 119, 120, 121, 122, 123, 124, 125, 126, 127)]
+
+
+def odd_value(dice, known=()):
+    """A value of a wrong form, or of another right one."""
+    if known and dice.one_in(3):
+        return wrapped(dice, dice.choice(list(known)))
+    if dice.one_in(60):
+        return dice.choice(DEEP)
+    return dice.choice(ODD_VALUES)
+
+
+def wrapped(dice, value):
+    """A Text in one of its forms."""
+    if not isinstance(value, str) or isinstance(value, Raw):
+        return value
+    kind = dice.randrange(12)
+    if kind == 0:
+        return {"value": value}
+    if kind == 1:
+        return [value]
+    if kind == 2:
+        return [{"lang": "fr", "value": value}, 7]
+    if kind == 3:
+        return [value, "other", None]
+    return value
+
+
+def loosened(dice, value, oddness):
+    """The same tree with its Texts in other forms, its members in another order, and others between them."""
+    if isinstance(value, (dict, Members)):
+        pairs = list(value.items()) if isinstance(value, dict) else list(value)
+        pairs = [(name, loosened(dice, inner, oddness)) for name, inner in pairs]
+        if dice.random() < oddness:
+            dice.shuffle(pairs)
+        if dice.random() < oddness:
+            extra = dice.choice(["LineRef", "Monitored", "VehicleLocation", "value", "siri", "StopPointref"])
+            pairs.insert(dice.randint(0, len(pairs)), (extra, odd_value(dice)))
+        if pairs and dice.random() < oddness / 3:
+            name = dice.choice(pairs)[0]
+            pairs.insert(dice.randint(0, len(pairs)), (name, odd_value(dice)))
+        return Members(pairs)
+    if isinstance(value, list):
+        return [loosened(dice, inner, oddness) for inner in value]
+    return wrapped(dice, value)
+
+
+def places(value, path=()):
+    """The paths of all values in the tree, as (holder, key) pairs; the holders are Members or lists."""
+    if isinstance(value, Members):
+        for i, (_, inner) in enumerate(value):
+            yield value, i
+            yield from places(inner)
+    elif isinstance(value, list):
+        for i, inner in enumerate(value):
+            yield value, i
+            yield from places(inner)
+
+
+def spoil(dice, tree, known, count):
+    """Values of wrong forms, and missing ones, in so many places of the tree."""
+    for _ in range(count):
+        found = list(places(tree))
+        if not found:
+            return
+        holder, i = dice.choice(found)
+        if isinstance(holder, Members) and dice.one_in(4):
+            del holder[i]
+            continue
+        odd = odd_value(dice, known)
+        if isinstance(odd, (dict, list)) and not isinstance(odd, Members):
+            odd = json_copy(odd)
+        if dice.one_in(8):
+            odd = [holder[i][1] if isinstance(holder, Members) else holder[i]]
+        holder[i] = (holder[i][0], odd) if isinstance(holder, Members) else odd
+
+
+def json_copy(value):
+    if isinstance(value, dict):
+        return Members((name, json_copy(inner)) for name, inner in value.items())
+    return [json_copy(inner) for inner in value] if isinstance(value, list) else value
+
+
+def with_blanks(dice, data):
+    """Blanks round the text's brackets and commas; what stands in strings may change with it."""
+    for mark in b"{}[],":
+        if dice.one_in(3):
+            blank = dice.choice((b" ", b"\n", b"\t", b"\r", b" \n "))
+            data = data.replace(bytes([mark]), blank + bytes([mark]) + dice.choice((b"", blank)))
+    return data
