@@ -19,7 +19,7 @@ ODD_WORDS = [
 def random_case(seed, command, number, with_situations=True):
     dice = Dice(f"{seed} {command} {number}")
     world = random_world(dice)
-    subject = dice.weighted(inner=20, folder=6, words=2, files=0.6)
+    subject = dice.weighted(inner=22, folder=5, words=1.5, files=0.5)
     if subject == "folder":
         faulty_folder(dice, world)
     if command == "to-gtfsrt":

@@ -3,6 +3,8 @@
 import struct
 from datetime import date, timedelta
 
+from .odd import broken_bytes
+
 # Rules with days on which something happens.
 RULES = [
     ("CET-1CEST,M3.5.0,M10.5.0/3", ["2024-03-31", "2024-10-27", "2024-05-01"]),
@@ -62,7 +64,7 @@ def random_rule(dice):
 
 def random_zone(dice):
     """Words of a zone, its files, and days worth a look."""
-    kind = dice.weighted(known=14, random=3, file=4, odd=1)
+    kind = dice.weighted(known=14, random=4, file=4, odd=0.8)
     if kind == "odd":
         return ["--zone-rule", dice.choice(ODD_RULES)], {}, ["2024-05-01"]
     if kind == "random":
@@ -98,30 +100,45 @@ def block(rows, types, chars, size, std=b"", ut=b"", leaps=()):
     return out + std + ut
 
 
+def random_rows(dice, start, types):
+    """Rows far enough from each other, mostly."""
+    rows, second = [], start
+    for _ in range(dice.choice((0, 1, 2, 3, 6))):
+        rows.append((second, dice.randrange(types)))
+        second += dice.choice((180_000, 200_000, 86400 * 30, 86400 * 2 + 43200, 15_000_000))
+        if dice.one_in(20):
+            second -= dice.choice((100_000, 179_000, 180_000, 15_000_000))
+    return rows
+
+
 def random_file(dice):
-    """A file of a table round days of 2024, mostly with a rule behind it."""
+    """A file of a table round days of 2024, mostly with a rule behind it that agrees with the last row."""
     offsets = dice.choice(([3600, 7200], [0, 3600], [-18000, -14400], [37800, 39600], [3600, 0], [0, 0], [90000, -90000]))
+    has_dst = dice.one_in(3)
+    if has_dst:
+        offsets = [3600, 7200]
     types = [(offsets[0], 0, 0), (offsets[1], 1, 4)]
     chars = b"AAA\0BBB\0"
     if dice.one_in(3):
-        types.append((offsets[0] + dice.choice((1800, -1800, 86400)), dice.randrange(3), dice.choice((0, 1, 4, 7))))
+        types.append((offsets[0] + dice.choice((1800, -1800, 86400)), dice.choice((0, 0, 1, 2)), dice.choice((0, 1, 4, 7, 8))))
     start = 1711846800 - 86400 * dice.choice((0, 0, 200, 20000))
-    rows, second = [], start
-    for _ in range(dice.choice((0, 1, 2, 3, 6))):
-        rows.append((second, dice.randrange(len(types))))
-        second += dice.choice((86400, 7200, 3600, 86400 * 30, 43200, 15_000_000))
+    rows = random_rows(dice, start, len(types))
     rule = f"AAA{west(offsets[0])}"
-    if dice.one_in(2):
-        rule += f"BBB{west(offsets[1])},M3.5.0,M10.5.0/3"
-        if rows:
-            rows[-1] = (dice.choice((rows[-1][0], 1711846800, 1729990800)), rows[-1][1])
-    elif rows and not dice.one_in(6):
+    if has_dst:
+        rule += "BBB,M3.5.0,M10.5.0/3"
+        last = dice.choice(((1711846800, 1), (1729990800, 0), (1729990799, 1), (1743296400, 1)))
+        rows = [row for row in rows if row[0] < last[0] - 86400] + [last]
+    elif rows and not dice.one_in(10):
         rows[-1] = (rows[-1][0], 0)
-    if dice.one_in(4):
+    if dice.one_in(3) or abs(offsets[0]) > 86400:
         rule = ""
     version = dice.choice((b"2", b"3", b"4", b"\0"))
-    flags = dice.choice((b"", b"", bytes(len(types)), b"\1" * len(types), b"\2" * len(types)))
-    ut = dice.choice((b"", b"", bytes(len(types)), b"\1" * len(types)))
+    flags, ut = b"", b""
+    if dice.one_in(3):
+        flags = bytes(dice.choice((0, 1, 1)) for _ in types)
+        ut = bytes(flag if dice.one_in(2) else 0 for flag in flags)
+        if dice.one_in(5):
+            flags, ut = dice.choice(((b"\2" * len(types), b""), (b"", bytes(len(types))), (b"", b"\1" * len(types)), (bytes(len(types)), b"\1" * len(types))))
     leaps = [(78796800, 1)] if dice.one_in(6) else []
     counts = (len(ut), len(flags), len(leaps), len(rows), len(types), len(chars))
     if version == b"\0":
@@ -131,10 +148,8 @@ def random_file(dice):
         data += header(version, counts) + block(rows, types, chars, 8, flags, ut, leaps)
         data += b"\n" + rule.encode() + b"\n"
     if dice.one_in(12):
-        data += dice.choice((b"", b"x", b"\n"))
-    if dice.one_in(10):
-        from .odd import broken_bytes
-
+        data += dice.choice((b"x", b"\n"))
+    if dice.one_in(16):
         data = broken_bytes(dice, data)
     days = ["2024-03-31", "2024-03-30", "2024-10-27", "2024-05-01"]
     for second, _ in rows[:4]:
@@ -145,7 +160,5 @@ def random_file(dice):
 def west(seconds):
     sign = "-" if seconds > 0 else ""
     seconds = abs(seconds)
-    if seconds >= 25 * 3600:
-        seconds = 24 * 3600
     text = f"{sign}{seconds // 3600}"
     return text if seconds % 3600 == 0 else f"{text}:{seconds // 60 % 60:02}:{seconds % 60:02}"

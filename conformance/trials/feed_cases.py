@@ -154,7 +154,7 @@ class Feeds:
         dice = self.dice
         name = trip.id if not self.odd(0.06) else dice.choice(("NOPE", "", trip.id))
         fields = [self.again(self.text(1, name), self.text(1, "other"))] if not self.odd(0.02) else []
-        if not dice.one_in(5):
+        if not dice.one_in(6):
             text = str(day).replace("-", "")
             if self.odd(0.06):
                 text = dice.choice(("", "2024-05-01", "20230229", "0", "99991231", "00010101", "202405011"))
@@ -228,7 +228,7 @@ class Feeds:
     def feed(self):
         dice = self.dice
         fields = [self.header()]
-        fields += [self.bytes(2, self.entity()) for _ in range(dice.choice((0, 1, 1, 2, 3, 5)))]
+        fields += [self.bytes(2, self.entity()) for _ in range(dice.choice((0, 1, 1, 2, 3, 5, 8)))]
         if self.odd(0.02):
             fields.insert(dice.randint(0, len(fields)), self.long_entity())
         return b"".join(self.message(fields))
@@ -242,9 +242,9 @@ class Feeds:
 
 def random_feed(dice, world):
     """The bytes of one feed."""
-    maker = Feeds(dice, world, dice.choice((0.0, 0.3, 1.0, 1.0, 2.0)))
+    maker = Feeds(dice, world, dice.choice((0.0, 0.1, 0.3, 0.3, 1.0, 2.0)))
     data = maker.feed()
-    kind = dice.weighted(sound=12, bytes=4, cut=1, tail=1, other=0.3)
+    kind = dice.weighted(sound=15, bytes=3, cut=0.7, tail=0.7, other=0.2)
     if kind == "bytes":
         return broken_bytes(dice, data)
     if kind == "cut":

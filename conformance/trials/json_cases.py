@@ -66,7 +66,7 @@ def odd_value(dice, known=()):
     """A value of a wrong form, or of another right one."""
     if known and dice.one_in(3):
         return wrapped(dice, dice.choice(list(known)))
-    if dice.one_in(60):
+    if dice.one_in(150):
         return dice.choice(DEEP)
     return dice.choice(ODD_VALUES)
 
@@ -106,25 +106,30 @@ def loosened(dice, value, oddness):
     return wrapped(dice, value)
 
 
-def places(value, path=()):
-    """The paths of all values in the tree, as (holder, key) pairs; the holders are Members or lists."""
-    if isinstance(value, Members):
-        for i, (_, inner) in enumerate(value):
-            yield value, i
-            yield from places(inner)
-    elif isinstance(value, list):
+def places(value, depth=0):
+    """All values in the tree, each as its depth, its holder (Members or a list) and its place there."""
+    if isinstance(value, (Members, list)):
         for i, inner in enumerate(value):
-            yield value, i
-            yield from places(inner)
+            yield depth, value, i
+            yield from places(inner[1] if isinstance(value, Members) else inner, depth + 1)
+
+
+def random_place(dice, tree):
+    """A holder and a place in it, mostly far inside; None where there is none."""
+    found = list(places(tree))
+    if not found:
+        return None
+    few = dice.choices(found, k=dice.choice((1, 2, 4)))
+    return max(few, key=lambda place: place[0])[1:]
 
 
 def spoil(dice, tree, known, count):
     """Values of wrong forms, and missing ones, in so many places of the tree."""
     for _ in range(count):
-        found = list(places(tree))
-        if not found:
+        place = random_place(dice, tree)
+        if place is None:
             return
-        holder, i = dice.choice(found)
+        holder, i = place
         if isinstance(holder, Members) and dice.one_in(4):
             del holder[i]
             continue

@@ -1,8 +1,8 @@
 """Deliveries for cases: journeys of a world's trips with their calls, and situations, sound and odd."""
 
-from datetime import timedelta
+from datetime import date, timedelta
 
-from .json_cases import NO_JSON, Members, json_bytes, json_copy, loosened, odd_value, spoil, with_blanks, wrapped
+from .json_cases import NO_JSON, Members, json_bytes, json_copy, loosened, odd_value, random_place, spoil, with_blanks
 from .odd import broken_bytes
 
 AT = ["2024-05-01T06:00:00Z", "1970-01-01T00:00:00Z", "9998-12-31T23:59:59Z", "2024-03-31T01:30:00Z"]
@@ -32,8 +32,6 @@ ODD_MOMENTS = [
 
 def moment_word(seconds):
     day, rest = divmod(seconds, 86_400)
-    from datetime import date
-
     text = str(date(1970, 1, 1) + timedelta(days=day))
     return f"{text}T{rest // 3600:02}:{rest // 60 % 60:02}:{rest % 60:02}"
 
@@ -61,8 +59,6 @@ def seconds_of(text):
 
 
 def day_seconds(day):
-    from datetime import date
-
     return (day - date(1970, 1, 1)).days * 86_400
 
 
@@ -169,7 +165,7 @@ class Journeys:
     def delivery(self):
         """A delivery with its frame, and with moments of recording in any of their places."""
         dice = self.dice
-        journeys = [self.journey() for _ in range(dice.choice((0, 1, 1, 2, 3, 5)))]
+        journeys = [self.journey() for _ in range(dice.choice((0, 1, 1, 2, 3, 5, 8)))]
         frames = []
         while journeys or not frames:
             count = dice.randint(0, len(journeys)) if not dice.one_in(2) else len(journeys)
@@ -201,7 +197,7 @@ def framed(dice, name, deliveries):
     root = {"ServiceDelivery": service}
     if dice.one_in(2):
         root = {"Siri": root}
-    if dice.one_in(12):
+    if dice.one_in(40):
         root["Siri" if "Siri" not in root else "ServiceDelivery"] = dice.choice((None, "", [], {}, "x", 5, [{}]))
     return root
 
@@ -284,12 +280,12 @@ class Situations(Journeys):
 def random_body(dice, maker, oddness):
     """The bytes of one delivery: mostly sound, else with odd values in some places, or no JSON at all."""
     tree = json_copy(maker.delivery())
-    kind = dice.weighted(sound=6, spoiled=7, no_json=0.7, bytes=1.5, other=0.2)
+    kind = dice.weighted(sound=8, spoiled=7, no_json=0.5, bytes=0.8, other=0.15)
     tree = loosened(dice, tree, oddness)
     if kind == "spoiled":
-        spoil(dice, tree, maker.known(), dice.choice((1, 1, 2, 3, 5)))
+        spoil(dice, tree, maker.known(), dice.choice((1, 1, 1, 2, 3)))
     if kind == "no_json":
-        places_for_no_json(dice, tree)
+        put_no_json(dice, tree)
     if kind == "other":
         tree = dice.choice((None, [], {}, "x", 1, [tree], Members([("Siri", tree)]), {"Siri": None}, odd_value(dice)))
     data = json_bytes(tree)
@@ -297,16 +293,15 @@ def random_body(dice, maker, oddness):
         data = with_blanks(dice, data)
     if kind == "bytes":
         data = broken_bytes(dice, data)
-    if dice.one_in(60):
+    if dice.one_in(80):
         data = dice.choice((b"\xef\xbb\xbf" + data, data + b"\n \t\r", data + b"\0", data + b"x", data + b"{}", b"", data[:-1], b" " + data))
     return data
 
 
-def places_for_no_json(dice, tree):
-    from .json_cases import places
-
-    found = list(places(tree))
-    if found:
-        holder, i = dice.choice(found)
+def put_no_json(dice, tree):
+    """One value of the tree is none of JSON."""
+    place = random_place(dice, tree)
+    if place:
+        holder, i = place
         odd = dice.choice(NO_JSON)
         holder[i] = (holder[i][0], odd) if isinstance(holder, Members) else odd

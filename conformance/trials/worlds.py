@@ -86,7 +86,7 @@ def random_world(dice):
     trips = []
     for i in range(dice.choice((1, 1, 2, 3, 4))):
         name = dice.choice(("T", "T", "t", "0", "\u00fc")) + str(i)
-        service = dice.choice([*services, "S0"])
+        service = dice.choice([*services, "S0", "S0"])
         stops = [] if dice.one_in(12) else random_stops(dice, pool, dice.one_in(2))
         trips.append(TripRow(name, dice.choice(routes), service, stops))
     frequencies = [trip.id for trip in trips if dice.one_in(10)]
