@@ -16,6 +16,13 @@ ODD_WORDS = [
 ]
 
 
+EDGES = {
+    b"--from": [b"9997-12-31", b"9997-12-30", b"9997-11-30", b"9998-01-01", b"1971-01-01", b"1970-12-31", b"2024-02-29", b"2023-02-29"],
+    b"--days": [b"1", b"2", b"31", b"32", b"33", b"0", b"00", b"0000000032", b"00000000032"],
+    b"--at": [b"1970-01-01T00:00:00Z", b"9998-12-31T23:59:59Z", b"9999-01-01T00:00:00Z", b"2024-02-30T00:00:00Z", b"2024-05-01T06:00:00Z"],
+}
+
+
 def random_case(seed, command, number, with_situations=True):
     dice = Dice(f"{seed} {command} {number}")
     world = random_world(dice)
@@ -54,8 +61,13 @@ def odd_words(dice, words, with_situations):
     odd = [word for word in ODD_WORDS if with_situations or word != b"--sx"]
     for _ in range(dice.choice((1, 1, 2))):
         at = dice.randint(0, len(words))
-        kind = dice.randrange(6)
-        if kind == 0:
+        kind = dice.randrange(8)
+        if kind > 5:
+            for flag, values in EDGES.items():
+                if flag in words[:-1]:
+                    place = words.index(flag) + 1
+                    words = words[:place] + [dice.choice(values)] + words[place + 1 :]
+        elif kind == 0:
             words = words[:at]
         elif kind == 1:
             words = words[:at] + [dice.choice(odd)] + words[at:]

@@ -64,7 +64,7 @@ def random_rule(dice):
 
 def random_zone(dice):
     """Words of a zone, its files, and days worth a look."""
-    kind = dice.weighted(known=14, random=4, file=4, odd=0.8)
+    kind = dice.weighted(known=13, random=4, file=4, odd=1)
     if kind == "odd":
         return ["--zone-rule", dice.choice(ODD_RULES)], {}, ["2024-05-01"]
     if kind == "random":
@@ -121,7 +121,7 @@ def random_file(dice):
     chars = b"AAA\0BBB\0"
     if dice.one_in(3):
         types.append((offsets[0] + dice.choice((1800, -1800, 86400)), dice.choice((0, 0, 1, 2)), dice.choice((0, 1, 4, 7, 8))))
-    start = 1711846800 - 86400 * dice.choice((0, 0, 200, 20000))
+    start = 1711846800 - 86400 * dice.choice((0, 0, 200, 20000)) + dice.choice((0, 0, 3600, 39600, 82800, -3600 - offsets[0]))
     rows = random_rows(dice, start, len(types))
     rule = f"AAA{west(offsets[0])}"
     if has_dst:
@@ -132,6 +132,10 @@ def random_file(dice):
         rows[-1] = (rows[-1][0], 0)
     if dice.one_in(3) or abs(offsets[0]) > 86400:
         rule = ""
+    if dice.one_in(10):
+        rule = dice.choice(("AAA5", "BBB0", f"AAA{west(offsets[0])}BBB,J1/0,J365/25", "AAA", "\u00e9"))
+    if dice.one_in(10):
+        types[0] = (types[0][0], dice.choice((1, 2, 255)), 0)
     version = dice.choice((b"2", b"3", b"4", b"\0"))
     flags, ut = b"", b""
     if dice.one_in(3):
@@ -140,13 +144,16 @@ def random_file(dice):
         if dice.one_in(5):
             flags, ut = dice.choice(((b"\2" * len(types), b""), (b"", bytes(len(types))), (b"", b"\1" * len(types)), (bytes(len(types)), b"\1" * len(types))))
     leaps = [(78796800, 1)] if dice.one_in(6) else []
-    counts = (len(ut), len(flags), len(leaps), len(rows), len(types), len(chars))
+    counts = [len(ut), len(flags), len(leaps), len(rows), len(types), len(chars)]
+    if dice.one_in(20):
+        counts[dice.randrange(6)] += dice.choice((1, -1, 256, -len(types), 2**31))
+        counts = [max(0, count) for count in counts]
     if version == b"\0":
         data = header(version, counts) + block(rows, types, chars, 4, flags, ut, leaps)
     else:
         data = header(version, (0, 0, 0, 0, 1, 1)) + block([], [(0, 0, 0)], b"\0", 4)
         data += header(version, counts) + block(rows, types, chars, 8, flags, ut, leaps)
-        data += b"\n" + rule.encode() + b"\n"
+        data += dice.choice((b"\n",) * 12 + (b"x", b"", b"\n\n")) + rule.encode() + b"\n"
     if dice.one_in(12):
         data += dice.choice((b"x", b"\n"))
     if dice.one_in(16):
@@ -162,3 +169,18 @@ def west(seconds):
     seconds = abs(seconds)
     text = f"{sign}{seconds // 3600}"
     return text if seconds % 3600 == 0 else f"{text}:{seconds // 60 % 60:02}:{seconds % 60:02}"
+
+
+def local_moment(dice, days):
+    """A time of the zone's own clock, where clocks change."""
+    day = dice.choice(days)
+    hour = dice.choice((0, 1, 1, 2, 2, 2, 3, 3, 10, 11, 12, 13, 22, 23))
+    rest = dice.choice(("00:00", "00:00", "00:00", "30:00", "59:59", "59:59.999999999", "15:00", "29:59.5", "44:50"))
+    return f"{day}T{hour:02}:{rest}"
+
+
+def instant_near(dice, days):
+    """An instant, in seconds, in half hours from a day's midnight."""
+    day = (date.fromisoformat(dice.choice(days)) - date(1970, 1, 1)).days
+    seconds = day * 86400 + dice.randrange(-30, 80) * 1800 + dice.choice((0, 0, 0, -1, 1))
+    return max(0, seconds)

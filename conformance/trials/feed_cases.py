@@ -2,6 +2,7 @@
 
 from datetime import timedelta
 
+from .clocks import instant_near
 from .odd import broken_bytes
 from .siri_cases import day_seconds, seconds_of
 
@@ -154,7 +155,7 @@ class Feeds:
         dice = self.dice
         name = trip.id if not self.odd(0.06) else dice.choice(("NOPE", "", trip.id))
         fields = [self.again(self.text(1, name), self.text(1, "other"))] if not self.odd(0.02) else []
-        if not dice.one_in(6):
+        if not dice.one_in(4):
             text = str(day).replace("-", "")
             if self.odd(0.06):
                 text = dice.choice(("", "2024-05-01", "20230229", "0", "99991231", "00010101", "202405011"))
@@ -195,7 +196,7 @@ class Feeds:
         text = self.embedded(1, [self.text(1, "x"), self.text(2, "fr")])
         fields = [
             self.bytes(1, self.number(1, 5) + self.number(2, 6)),
-            self.bytes(5, self.text(2, "R1") + self.bytes(4, self.text(1, "T0"))),
+            self.bytes(5, self.text(1, "x") + self.text(2, "R1") + self.bytes(4, self.text(1, "T0")) + self.text(5, "A")),
             self.enum(6, 3),
             self.enum(7, 2),
             self.embedded(10, [text]),
@@ -220,8 +221,8 @@ class Feeds:
         if dice.one_in(2):
             fields.append(self.enum(2, 0))
         if not dice.one_in(5):
-            stamp = day_seconds(dice.choice(self.world.window[:2])) + dice.choice((0, 3600, 43200, 80000, -7200, -40000))
-            stamp = dice.choice((stamp, stamp, stamp, 1714543200, 0, 253_370_764_799, 253_370_764_800, 2**64 - 1))
+            near = instant_near(dice, self.world.clock_days)
+            stamp = dice.choice((near,) * 6 + (1714543200, 0, 253_370_764_799, 253_370_764_800, 2**64 - 1))
             fields.append(self.number(3, stamp))
         return self.embedded(1, fields)
 
@@ -250,7 +251,8 @@ def random_feed(dice, world):
     if kind == "cut":
         return data[: dice.randint(0, len(data))]
     if kind == "tail":
-        tails = (b"\x80" * 9, b"\x80" * 10, b"\xff" * 11, b"\x0a", b"\x0b", b"\x0c", b"\x0e", b"\x00", b"\x12\x80", b"\x83\x01" * 65)
+        wide = (2**32 + 8, 2**32 + 0x78, 2**35 + 10, 2**64 - 8, 2**29 * 8 - 8, 2**32 - 8)
+        tails = (varint(dice, dice.choice(wide)) + b"\0", b"\x80" * 9, b"\x80" * 10, b"\xff" * 11, b"\x0a", b"\x0b", b"\x0c", b"\x0e", b"\x00", b"\x12\x80", b"\x83\x01" * 65)
         return data + dice.choice(tails)
     if kind == "other":
         return dice.choice((b"", b"\n", b"{}", b"\x0a\x00", b"\x0a\x05\x0a\x032.0", b"\x0a\x07\x0a\x032.0\x10\x01"))

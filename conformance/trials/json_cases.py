@@ -62,6 +62,32 @@ NO_JSON = [
 DEEP = [Raw("[" * n + "]" * n) for n in (100, 118, 119, 120, 121, 122, 123, 124, 125, 126, 127)]
 
 
+FLAGS = ["true", "false", "TRUE", "True", "1", "0", "2", "", " true", 1, 0, [True], {"value": True}, {"value": "1"}, ["0"], {}, "yes"]
+WHOLES = [
+    0, 1, 2, 3, "0", "1", "2", "01", "3", -1, Raw("-0"), Raw("1.0"), Raw("1e0"), "+1", "-1", "1.0", " 1", "", [], {}, [1], ["1"], [{"value": "2"}],
+    {"value": 1}, "18446744073709551615", "18446744073709551616", Raw("18446744073709551615"), Raw("18446744073709551616"),
+    "00000000000000000003", "000000000000000000003", "99999999999999999999", True,
+]
+MOMENTS = ["", [], {}, 5, "2024-05-01", "2024-05-01T06:00:00", "2024-05-01T06:00:00.5Z", "2024-05-01T25:00:00Z", ["2024-05-01T06:00:00Z"], "x"]
+HOLDERS = [None, "", [], {}, [{}], [None], [{}, None], "x", 0, False, [[]], {"value": {}}, [{}, {}]]
+BY_NAME = {
+    "Cancellation": FLAGS, "ExtraJourney": FLAGS, "ExtraCall": FLAGS, "Order": WHOLES, "Version": WHOLES, "RecordedAtTime": MOMENTS,
+    "ResponseTimestamp": MOMENTS, "StartTime": MOMENTS, "EndTime": MOMENTS,
+    "ArrivalStatus": ["cancelled", "CanceLLed", "cancelled ", "", [], {}, 5, True, ["cancelled"], {"value": None}, "x"],
+    "DataFrameRef": ["2024-05-01", "20240501", "2024-0501", "202405-01", "00000101", "0001-01-01", "9999-12-31", "2023-02-29", "", [], 20240501],
+}
+BY_NAME["DepartureStatus"] = BY_NAME["ArrivalStatus"]
+
+
+def odd_value_of(dice, name, value, known):
+    """An odd value for a member of that name: mostly one of its kind."""
+    if name in BY_NAME and not dice.one_in(4):
+        return dice.choice(BY_NAME[name])
+    if isinstance(value, (Members, list)) and dice.one_in(2):
+        return dice.choice(HOLDERS)
+    return odd_value(dice, known)
+
+
 def odd_value(dice, known=()):
     """A value of a wrong form, or of another right one."""
     if known and dice.one_in(3):
@@ -133,15 +159,16 @@ def spoil(dice, tree, known, count):
         if isinstance(holder, Members) and dice.one_in(4):
             del holder[i]
             continue
-        odd = odd_value(dice, known)
-        if isinstance(odd, (dict, list)) and not isinstance(odd, Members):
-            odd = json_copy(odd)
+        name, value = holder[i] if isinstance(holder, Members) else (None, holder[i])
+        odd = json_copy(odd_value_of(dice, name, value, known))
         if dice.one_in(8):
-            odd = [holder[i][1] if isinstance(holder, Members) else holder[i]]
-        holder[i] = (holder[i][0], odd) if isinstance(holder, Members) else odd
+            odd = [value]
+        holder[i] = (name, odd) if isinstance(holder, Members) else odd
 
 
 def json_copy(value):
+    if isinstance(value, Members):
+        return Members((name, json_copy(inner)) for name, inner in value)
     if isinstance(value, dict):
         return Members((name, json_copy(inner)) for name, inner in value.items())
     return [json_copy(inner) for inner in value] if isinstance(value, list) else value

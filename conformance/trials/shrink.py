@@ -6,71 +6,73 @@ from .case import Case
 from .json_cases import Members, json_bytes, read_pairs
 
 
-def shrink(case, differs, seconds=20):
-    """Drops pairs of words, files' lines, members and bytes as long as `differs` holds of what is left."""
-    until = time.monotonic() + seconds
-    changed = True
-    while changed and time.monotonic() < until:
-        changed = False
-        for smaller in smaller_cases(case):
-            if time.monotonic() > until:
-                break
-            if differs(smaller):
-                case, changed = smaller, True
-                break
-    return case
+def shrink(case, differs, seconds=60):
+    """Drops pairs of words, files, lines, members and bytes as long as `differs` holds of what is left."""
+    return Shrinker(case, differs, time.monotonic() + seconds).whole()
 
 
-def smaller_cases(case):
-    for i in range(len(case.words) - 1, -1, -1):
+class Shrinker:
+    def __init__(self, case, differs, until):
+        self.case, self.differs, self.until = case, differs, until
+
+    def whole(self):
+        """Pass after pass, until one changes nothing."""
+        while True:
+            before = (self.case.words, dict(self.case.files))
+            self.each_word()
+            for name in sorted(self.case.files, key=lambda name: -len(self.case.files[name])):
+                self.one_file(name)
+            if (self.case.words, self.case.files) == before or time.monotonic() > self.until:
+                return self.case
+
+    def keep_if(self, smaller):
+        """Takes the smaller case where it still differs."""
+        if time.monotonic() > self.until or not self.differs(smaller):
+            return False
+        self.case = smaller
+        return True
+
+    def each_word(self):
         for count in (2, 1):
-            yield Case(case.words[:i] + case.words[i + count :], case.files)
-    for name in sorted(case.files, key=lambda name: -len(case.files[name])):
-        rest = {other: data for other, data in case.files.items() if other != name}
-        yield Case(case.words, rest)
-        for data in smaller_data(name, case.files[name]):
-            yield Case(case.words, {**rest, name: data})
+            self.drop_from(list(self.case.words), count, lambda words: Case(words, self.case.files))
 
+    def one_file(self, name):
+        def with_data(data):
+            return Case(self.case.words, {**self.case.files, name: data})
 
-def smaller_data(name, data):
-    if name.endswith(".json"):
-        tree = read_pairs(data)
-        if tree is not None:
-            for smaller in smaller_trees(tree):
-                yield json_bytes(smaller)
+        data = self.case.files[name]
+        rest = {other: inner for other, inner in self.case.files.items() if other != name}
+        if self.keep_if(Case(self.case.words, rest)):
             return
-    if name.endswith(".txt"):
-        lines = data.splitlines(keepends=True)
-        for size in sizes(len(lines)):
-            for i in range(0, len(lines), size):
-                yield b"".join(lines[:i] + lines[i + size :])
-    for size in sizes(len(data)):
-        if len(data) // size > 400:
-            break
-        for i in range(0, len(data), size):
-            yield data[:i] + data[i + size :]
+        tree = read_pairs(data) if name.endswith(".json") else None
+        if tree is not None:
+            self.each_member(tree, lambda: with_data(json_bytes(tree)))
+            return
+        if name.endswith(".txt"):
+            lines = data.splitlines(keepends=True)
+            self.drop_from(lines, 1, lambda lines: with_data(b"".join(lines)))
+            return
+        size = max(1, len(data) // 2)
+        pieces = [data[i : i + 1] for i in range(len(data))]
+        while size and len(pieces) // size < 600:
+            pieces = self.drop_from(pieces, size, lambda pieces: with_data(b"".join(pieces)))
+            size //= 2
 
+    def drop_from(self, items, count, case_of):
+        """Drops so many items at a place, from the end to the front; what is left of them."""
+        for i in range(len(items) - count, -1, -count):
+            smaller = items[:i] + items[i + count :]
+            if self.keep_if(case_of(smaller)):
+                items = smaller
+        return items
 
-def sizes(length):
-    size = length // 2
-    while size:
-        yield size
-        size //= 2
-
-
-def smaller_trees(tree):
-    """Trees without a member or an item, or with an inner value in a holder's place."""
-    if isinstance(tree, Members):
-        for i in range(len(tree)):
-            yield Members(tree[:i] + tree[i + 1 :])
-        for i, (name, value) in enumerate(tree):
-            for smaller in smaller_trees(value):
-                yield Members(tree[:i] + [(name, smaller)] + tree[i + 1 :])
-    elif isinstance(tree, list):
-        for i in range(len(tree)):
-            yield tree[:i] + tree[i + 1 :]
-        if len(tree) == 1:
-            yield tree[0]
-        for i, value in enumerate(tree):
-            for smaller in smaller_trees(value):
-                yield tree[:i] + [smaller] + tree[i + 1 :]
+    def each_member(self, holder, case_now):
+        """Drops members and items from an object or array, and then from those in it."""
+        if not isinstance(holder, list):
+            return
+        for i in range(len(holder) - 1, -1, -1):
+            item = holder.pop(i)
+            if self.keep_if(case_now()):
+                continue
+            holder.insert(i, item)
+            self.each_member(item[1] if isinstance(holder, Members) else item, case_now)

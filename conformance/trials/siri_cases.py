@@ -2,6 +2,7 @@
 
 from datetime import date, timedelta
 
+from .clocks import local_moment
 from .json_cases import NO_JSON, Members, json_bytes, json_copy, loosened, odd_value, random_place, spoil, with_blanks
 from .odd import broken_bytes
 
@@ -9,6 +10,8 @@ AT = ["2024-05-01T06:00:00Z", "1970-01-01T00:00:00Z", "9998-12-31T23:59:59Z", "2
 RECORDED = [
     "2024-05-01T06:00:00Z",
     "2024-05-01T06:00:00.0Z",
+    "2024-05-01T06:00:00.1Z",
+    "2024-05-01T06:00:00.09Z",
     "2024-05-01T06:00:00.000000001Z",
     "2024-05-01T06:00:01Z",
     "2024-05-01T05:59:59.999999999Z",
@@ -92,7 +95,7 @@ class Journeys:
         day = self.day()
         item = {}
         if not dice.one_in(4):
-            item["RecordedAtTime"] = dice.choice(RECORDED)
+            item["RecordedAtTime"] = self.recorded()
         name = "NOPE" if self.odd(0.1) else trip.id
         item["FramedVehicleJourneyRef"] = {"DataFrameRef": self.day_word(day), "DatedVehicleJourneyRef": name}
         if dice.one_in(8):
@@ -172,7 +175,7 @@ class Journeys:
             part, journeys = journeys[:count], journeys[count:]
             frame = {"EstimatedVehicleJourney": part[0] if len(part) == 1 and dice.one_in(3) else part}
             if not dice.one_in(3):
-                frame["RecordedAtTime"] = dice.choice(RECORDED)
+                frame["RecordedAtTime"] = self.recorded()
             frames.append(frame)
             if dice.one_in(3) and not journeys:
                 break
@@ -185,6 +188,11 @@ class Journeys:
                 delivery["ResponseTimestamp"] = dice.choice(RECORDED)
             deliveries.append(delivery)
         return framed(dice, "EstimatedTimetableDelivery", deliveries)
+
+    def recorded(self):
+        if self.dice.one_in(3):
+            return local_moment(self.dice, self.world.clock_days)
+        return self.dice.choice(RECORDED)
 
     def known(self):
         return [*self.ids, *self.world.stops, *RECORDED, *ODD_MOMENTS, str(self.world.first)]
@@ -219,7 +227,8 @@ class Situations(Journeys):
                 period = {}
                 for end in ("StartTime", "EndTime"):
                     if not dice.one_in(3):
-                        period[end] = random_moment(dice, 1714543200 + dice.choice((0, 86400, -86400)))
+                        near = random_moment(dice, 1714543200 + dice.choice((0, 86400, -86400)))
+                        period[end] = local_moment(dice, self.world.clock_days) if dice.one_in(3) else near
                 periods.append(period)
             item["ValidityPeriod"] = periods[0] if len(periods) == 1 and dice.one_in(2) else periods
         for name in ("Summary", "Description"):

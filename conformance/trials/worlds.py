@@ -31,6 +31,7 @@ class World:
     folder: str = "g"
     days_text: str = None
     window: list = field(default_factory=list)
+    clock_days: list = field(default_factory=list)  # days on which the zone's clock may change
 
     def words(self, command, at=None):
         words = [command, "--gtfs", self.folder, *self.zone, "--from", str(self.first)]
@@ -93,7 +94,8 @@ def random_world(dice):
     files |= folder_files(dice, trips, pool, routes, services, frequencies)
     carried = [trip for trip in trips if trip.id not in frequencies]
     window = [first + timedelta(days=n) for n in range(count)]
-    world = World(zone, first, count, files, trips, carried, routes, pool, window=window)
+    clock_days = [*days, str(first)]
+    world = World(zone, first, count, files, trips, carried, routes, pool, window=window, clock_days=clock_days)
     if dice.one_in(20):
         world.days_text = dice.choice(("0" * 8, "0")) + str(count)
     return world
