@@ -11,8 +11,12 @@ class Raw(str):
     """A value as it is to be written."""
 
 
-def json_bytes(value):
-    return "".join(pieces(value)).encode("utf-8", "surrogatepass")
+def json_bytes(value, dice=None):
+    """The text; with dice, blanks stand between its pieces here and there."""
+    parts = list(pieces(value))
+    if dice:
+        parts = [part + dice.choice(("", "", " ", "\n", "\t", "\r", " \n ")) for part in parts]
+    return "".join(parts).encode("utf-8", "surrogatepass")
 
 
 def pieces(value):
@@ -21,7 +25,9 @@ def pieces(value):
     elif isinstance(value, (Members, dict)):
         yield "{"
         for i, (name, inner) in enumerate(value if isinstance(value, Members) else value.items()):
-            yield "," * (i > 0) + json.dumps(name, ensure_ascii=False) + ":"
+            yield "," * (i > 0)
+            yield json.dumps(name, ensure_ascii=False)
+            yield ":"
             yield from pieces(inner)
         yield "}"
     elif isinstance(value, list):
@@ -172,12 +178,3 @@ def json_copy(value):
     if isinstance(value, dict):
         return Members((name, json_copy(inner)) for name, inner in value.items())
     return [json_copy(inner) for inner in value] if isinstance(value, list) else value
-
-
-def with_blanks(dice, data):
-    """Blanks round the text's brackets and commas; what stands in strings may change with it."""
-    for mark in b"{}[],":
-        if dice.one_in(3):
-            blank = dice.choice((b" ", b"\n", b"\t", b"\r", b" \n "))
-            data = data.replace(bytes([mark]), blank + bytes([mark]) + dice.choice((b"", blank)))
-    return data

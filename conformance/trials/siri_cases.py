@@ -3,7 +3,7 @@
 from datetime import date, timedelta
 
 from .clocks import local_moment
-from .json_cases import NO_JSON, Members, json_bytes, json_copy, loosened, odd_value, random_place, spoil, with_blanks
+from .json_cases import NO_JSON, Members, json_bytes, json_copy, loosened, odd_value, random_place, spoil
 from .odd import broken_bytes
 
 AT = ["2024-05-01T06:00:00Z", "1970-01-01T00:00:00Z", "9998-12-31T23:59:59Z", "2024-03-31T01:30:00Z"]
@@ -234,8 +234,8 @@ class Situations(Journeys):
         for name in ("Summary", "Description"):
             if dice.one_in(2):
                 item[name] = dice.choice(("Late", "\u00e9t\u00e9 \"x\"\n", "", "x" * 130, "x" * 127))
-                if self.odd(0.02):
-                    item[name] = "y" * dice.choice((65_400, 65_480, 65_500, 65_520, 65_530, 65_536, 70_000))
+                if self.odd(0.04):
+                    item[name] = "y" * dice.choice((65_536 - dice.randrange(40, 130), 65_536, 70_000))
         for reason in ("EquipmentReason", "EnvironmentReason", "PersonnelReason", "MiscellaneousReason"):
             if dice.one_in(4):
                 item[reason] = dice.choice(("signalFailure", "x", None, "", [], {}, 0, False, [None]))
@@ -297,9 +297,7 @@ def random_body(dice, maker, oddness):
         put_no_json(dice, tree)
     if kind == "other":
         tree = dice.choice((None, [], {}, "x", 1, [tree], Members([("Siri", tree)]), {"Siri": None}, odd_value(dice)))
-    data = json_bytes(tree)
-    if dice.one_in(6):
-        data = with_blanks(dice, data)
+    data = json_bytes(tree, dice if dice.one_in(6) else None)
     if kind == "bytes":
         data = broken_bytes(dice, data)
     if dice.one_in(80):

@@ -68,6 +68,8 @@ def random_stops(dice, pool, untimed):
             texts[dice.randrange(2)] = ""
         if untimed and 0 < k < len(names) - 1 and dice.one_in(2):
             texts = ["", ""]
+        if k in (0, len(names) - 1) and dice.one_in(80):
+            texts = ["", ""]
         rows.append((sequence, name, *texts))
         sequence += dice.choice((1, 1, 1, 2, 10)) if sequence < 4294967000 else 1
         seconds += dice.choice((60, 120, 125, 600, 3601, -50, 0))
@@ -223,6 +225,22 @@ def faulty_folder(dice, world):
     return world
 
 
+TIMES = [
+    "", "8:00:00", "08:00:00", "123:00:00", "100:00:00", "99:59:59", "08:60:00", "08:00:60", "8:1:00", "08:00", "8:00:0", ":00:00", "-1:00:00",
+    "08:00:00.0", "008:00:00", "0:00:00", "24:00:00", "08-00-00", "8 :00:00",
+]
+DATES = ["20240229", "20230229", "00000101", "00010101", "99991231", "2024-05-01", "20241301", "2024051", "202405011", "20240500", ""]
+IDS = ["", "x" * 200, "x" * 201, "\u00e9" * 100, "\u00e9" * 100 + "x", "nowhere", "A", "T0", "R1", "S0", '""', "a b", "\ta\u00a0"]
+FLAGS = ["", "0", "1", "2", "00", "01", "true", "-1"]
+BY_COLUMN = {
+    "stop_sequence": ["", "0", "7", "007", "0000000007", "00000000007", "4294967295", "4294967296", "9999999999", "-1", "+1", "1.0", " 1"],
+    "arrival_time": TIMES, "departure_time": TIMES, "date": DATES, "start_date": DATES, "end_date": DATES,
+    "exception_type": ["", "0", "1", "2", "3", "01"], "agency_timezone": ["", "Europe/Paris", "Europe/Rome", "europe/paris"],
+    "trip_id": IDS, "stop_id": IDS, "route_id": IDS, "service_id": IDS,
+}
+BY_COLUMN |= {day: FLAGS for day in WEEKDAYS}
+
+
 def change_lines(dice, world, name, change):
     lines = world.files[name].split(b"\n")
     world.files[name] = b"\n".join(change(dice, lines))
@@ -232,10 +250,13 @@ def odd_field(dice, lines):
     if len(lines) > 1:
         i = dice.randrange(1, len(lines))
         fields = lines[i].split(b",")
-        odd = dice.choice(ODD_FIELDS).encode()
+        place = dice.randrange(len(fields))
+        columns = [name.strip(b' \t"').decode(errors="replace") for name in lines[0].removeprefix(b"\xef\xbb\xbf").split(b",")]
+        values = BY_COLUMN.get(columns[place]) if place < len(columns) else None
+        odd = dice.choice(values if values and not dice.one_in(4) else ODD_FIELDS).encode()
         if dice.one_in(8):
             odd = dice.choice((b"\xff", b"a\xc3", b"\xed\xa0\x80", b"\xf4\x90\x80\x80", b"\xc0\x80"))
-        fields[dice.randrange(len(fields))] = odd
+        fields[place] = odd
         lines[i] = b",".join(fields[: dice.choice((len(fields), len(fields), len(fields) - 1))])
     return lines
 
