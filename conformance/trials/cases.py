@@ -86,7 +86,7 @@ def odd_files(dice, files):
     if not further:
         return
     name = dice.choice(further)
-    kind = dice.randrange(4)
+    kind = dice.randrange(5)
     data = files.pop(name)
     if kind == 1:
         files[name + "/x"] = data
@@ -94,3 +94,5 @@ def odd_files(dice, files):
         files[name] = files[dice.choice(sorted(files))]
     elif kind == 3:
         files[name] = b""
+    elif kind == 4 and data:
+        files[name + "x"] = data

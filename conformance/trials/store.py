@@ -3,10 +3,7 @@
 import os
 import shutil
 
-from .case import Case
 from reading.outcome import Outcome
-
-OWN = ("words", "status", "stdout", "stderr")
 
 
 def store(case, folder):
@@ -53,9 +50,3 @@ def files_below(folder, prefix=""):
         else:
             files[prefix + name] = read_bytes(path)
     return files
-
-
-def load(folder, shared):
-    """A stored case; `shared` are files that cases read beside their own."""
-    own = {name: data for name, data in files_below(folder).items() if name not in OWN}
-    return Case(read_words(folder), own | shared)

@@ -99,6 +99,8 @@ def random_world(dice):
     clock_days = [*days, str(first)]
     world = World(zone, first, count, files, trips, carried, routes, pool, window=window, clock_days=clock_days)
     if dice.one_in(20):
+        world.folder = dice.choice(("g/", "./g", "g//", "./g/."))
+    if dice.one_in(20):
         world.days_text = dice.choice(("0" * 8, "0")) + str(count)
     return world
 
