@@ -215,7 +215,7 @@ class Situations(Journeys):
 
     def situation(self):
         dice = self.dice
-        item = {"SituationNumber": dice.choice(("S1", "S2", "S10", "\u00e9", "~", "S1", "a" * 30))}
+        item = {"SituationNumber": dice.choice(("S1", "S2", "S10", "\u00e9", "~", "S1", "a" * 130))}
         if not dice.one_in(4):
             version = dice.choice((0, 1, 1, 2, 10, 2**64 - 1))
             item["Version"] = version if dice.one_in(2) else str(version)

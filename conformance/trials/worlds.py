@@ -7,6 +7,7 @@ from .clocks import random_zone
 from .odd import broken_bytes
 
 STOPS = ["A", "B", "C", "D", "E", "F", "G-1", "\u00d6st", "s p", 'q"q', "c,c", "1", "null"]
+STOPS += ["\u0001\u001f\u007f\u0080", "a\\b/\b\f\n\r\tz", "\u2028\U0001f68b", "y" * 200, "\u00e9" * 64]
 WEEKDAYS = ["monday", "tuesday", "wednesday", "thursday", "friday", "saturday", "sunday"]
 
 
@@ -47,7 +48,7 @@ def clock(seconds):
 
 def random_stops(dice, pool, untimed):
     """A trip's stops: lines, loops, a stop twice in a row; times that rise, mostly; some of them untimed."""
-    count = dice.choice((1, 2, 3, 3, 4, 5, 8))
+    count = dice.choice((1, 2, 2, 3, 3, 3, 4, 4, 5, 8, 30))
     kind = dice.randrange(4)
     if kind == 0:
         names = [pool[i % len(pool)] for i in range(count)]
@@ -56,7 +57,7 @@ def random_stops(dice, pool, untimed):
         names = [dice.choice(few) for _ in range(count)]
     else:
         names = [dice.choice(pool) for _ in range(count)]
-    sequence, seconds = dice.choice((0, 1, 1, 5, 4294967280)), dice.choice((0, 5, 8, 12, 23, 27, 90)) * 3600
+    sequence, seconds = dice.choice((0, 1, 1, 5, 4294967250)), dice.choice((0, 5, 8, 12, 23, 27, 90)) * 3600
     rows = []
     for k, name in enumerate(names):
         arrival = seconds + dice.choice((0, 0, 0, 37))
@@ -68,7 +69,7 @@ def random_stops(dice, pool, untimed):
             texts[dice.randrange(2)] = ""
         if untimed and 0 < k < len(names) - 1 and dice.one_in(2):
             texts = ["", ""]
-        if k in (0, len(names) - 1) and dice.one_in(80):
+        if k in (0, len(names) - 1) and dice.one_in(200):
             texts = ["", ""]
         rows.append((sequence, name, *texts))
         sequence += dice.choice((1, 1, 1, 2, 10)) if sequence < 4294967000 else 1
@@ -84,11 +85,11 @@ def random_world(dice):
     first -= timedelta(days=dice.choice((0, 0, 0, 1, 1, 2)))
     first = max(date(1971, 1, 1), min(first, date(9997, 12, 31) - timedelta(days=count - 1)))
     pool = dice.sample(STOPS, dice.randint(1, 5))
-    routes = ["R1", "R2", "\u00e9"][: dice.randint(1, 3)]
+    routes = ["R1", "R2", "\u00e9", 'r"\\\u0003'][: dice.randint(1, 4)]
     services = random_services(dice, first)
     trips = []
     for i in range(dice.choice((1, 1, 2, 3, 4))):
-        name = dice.choice(("T", "T", "t", "0", "\u00fc")) + str(i)
+        name = dice.choice(("T", "T", "T", "t", "0", "\u00fc", "\u0002\"\\", "z" * 130)) + str(i)
         service = dice.choice([*services, "S0", "S0"])
         stops = [] if dice.one_in(12) else random_stops(dice, pool, dice.one_in(2))
         trips.append(TripRow(name, dice.choice(routes), service, stops))
@@ -185,7 +186,7 @@ def csv_text(dice, columns, rows):
 
 
 def cell(dice, text, plain):
-    if '"' in text or "," in text or (not plain and dice.one_in(3)):
+    if any(mark in text for mark in '",\n\r') or (not plain and dice.one_in(3)):
         text = '"' + text.replace('"', '""') + '"'
     elif not plain and dice.one_in(4):
         text = dice.choice((" ", "\t", "  ")) + text + dice.choice((" ", "\t", ""))
