@@ -78,7 +78,7 @@ def items_on_the_way(holder, name):
 
 
 def journey_items(body):
-    """Each item with the objects that it stands in, from the inside: a frame, a delivery, the service delivery."""
+    """Each item with what it stands in, from the inside: a frame, a delivery, the service delivery."""
     service, deliveries = way_down(body, "EstimatedTimetableDelivery")
     frames = [
         (frame, delivery)

@@ -1,7 +1,7 @@
 """Feeds of GTFS Realtime 2.0: what the bytes mean, or the fault of least place.
 
-A message is a dict from its fields' names to values; a missing field has its default, or None. An embedded message
-that isn't repeated is the concatenation of all its bodies.
+A message is a dict from its fields' names to values; a missing field has its default, or None. An embedded
+message that isn't repeated is the concatenation of all its bodies.
 """
 
 from dataclasses import dataclass

@@ -125,7 +125,7 @@ def match_update(stops, number, update, before):
 
 
 def delays_of(update, stop):
-    """The delays of its events, arrival first. A time counts before a delay; an event with neither is missing."""
+    """The delays of its events, arrival first. A time counts before a delay; one with neither is missing."""
     delays = []
     for event, planned in ((update["arrival"], stop.arrival), (update["departure"], stop.departure)):
         if event is None:

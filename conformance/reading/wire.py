@@ -1,8 +1,8 @@
 """The wire grammar of protobuf: bytes as a list of fields, or the place and kind of their break.
 
-A field is a tag (number * 8 + type, a varint) and what its type asks for: 0 a varint, 1 eight bytes, 2 a length
-and so many bytes, 5 four bytes; 3 begins a group, which the end of the same number (type 4) closes. A varint has
-at most ten bytes; bits past the 64th are dropped.
+A field is a tag (number * 8 + type, a varint) and what its type asks for: 0 a varint, 1 eight bytes, 2 a
+length and so many bytes, 5 four bytes; 3 begins a group, which the end of the same number (type 4) closes. A
+varint has at most ten bytes; bits past the 64th are dropped.
 """
 
 from dataclasses import dataclass
@@ -50,7 +50,7 @@ def read_tag(data, at, end):
 
 
 def read_payload(data, at, end, kind):
-    """What follows the payload of a field that is no group; of bytes also where they begin, of a varint its value."""
+    """What follows the payload of a field that is no group; and its value, or where its bytes begin."""
     if kind == VARINT:
         value, after = read_varint(data, at, end)
         return after, value

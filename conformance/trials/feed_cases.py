@@ -118,9 +118,12 @@ class Feeds:
         if kind in (3, 4, 5):
             fields.append(self.number(2, planned + delay))
         if self.odd(0.02):
-            fields.append(self.number(2, dice.choice((0, -1, 2**63 - 1, -(2**63), planned + 604_801, planned - 604_801, planned + 604_800))))
+            fields.append(self.number(2,
+                dice.choice((0, -1, 2**63 - 1, -(2**63), planned + 604_801, planned - 604_801,
+                    planned + 604_800))))
         if self.odd(0.02):
-            fields.append(self.number(1, dice.choice((604_800, 604_801, -604_800, -604_801, 2**31 - 1, -(2**31), 2**31, 2**40))))
+            fields.append(self.number(1,
+                dice.choice((604_800, 604_801, -604_800, -604_801, 2**31 - 1, -(2**31), 2**31, 2**40))))
         if kind == 7 and not self.odd():
             fields.append(self.number(1, delay))
         return self.embedded(number, fields)
@@ -188,7 +191,8 @@ class Feeds:
             dice.shuffle(updates)
         fields += [self.bytes(2, update) for update in updates]
         if dice.one_in(2):
-            fields.append(self.number(4, dice.choice((0, 1714543200, 253_370_764_799, 253_370_764_800, 2**64 - 1))))
+            fields.append(self.number(4,
+                dice.choice((0, 1714543200, 253_370_764_799, 253_370_764_800, 2**64 - 1))))
         return fields
 
     def alert(self):
@@ -196,7 +200,8 @@ class Feeds:
         text = self.embedded(1, [self.text(1, "x"), self.text(2, "fr")])
         fields = [
             self.bytes(1, self.number(1, 5) + self.number(2, 6)),
-            self.bytes(5, self.text(1, "x") + self.text(2, "R1") + self.bytes(4, self.text(1, "T0")) + self.text(5, "A")),
+            self.bytes(5, self.text(1, "x") + self.text(2, "R1") + self.bytes(4, self.text(1,
+            "T0")) + self.text(5, "A")),
             self.enum(6, 3),
             self.enum(7, 2),
             self.embedded(10, [text]),
@@ -252,8 +257,10 @@ def random_feed(dice, world):
         return data[: dice.randint(0, len(data))]
     if kind == "tail":
         wide = (2**32 + 8, 2**32 + 0x78, 2**35 + 10, 2**64 - 8, 2**29 * 8 - 8, 2**32 - 8)
-        tails = (varint(dice, dice.choice(wide)) + b"\0", b"\x80" * 9, b"\x80" * 10, b"\xff" * 11, b"\x0a", b"\x0b", b"\x0c", b"\x0e", b"\x00", b"\x12\x80", b"\x83\x01" * 65)
+        tails = (varint(dice, dice.choice(wide)) + b"\0", b"\x80" * 9, b"\x80" * 10, b"\xff" * 11, b"\x0a",
+            b"\x0b", b"\x0c", b"\x0e", b"\x00", b"\x12\x80", b"\x83\x01" * 65)
         return data + dice.choice(tails)
     if kind == "other":
-        return dice.choice((b"", b"\n", b"{}", b"\x0a\x00", b"\x0a\x05\x0a\x032.0", b"\x0a\x07\x0a\x032.0\x10\x01"))
+        return dice.choice((b"", b"\n", b"{}", b"\x0a\x00", b"\x0a\x05\x0a\x032.0",
+            b"\x0a\x07\x0a\x032.0\x10\x01"))
     return data

@@ -49,38 +49,55 @@ def read_pairs(data):
 
 
 ODD_VALUES = [
-    None, "", [], {}, True, False, 0, 1, 5, -1, Raw("-0"), Raw("1.0"), Raw("1e2"), Raw("0.5E-3"), [None], [""], [{}], [[]], [["x"]],
-    [{"value": None}], {"value": None}, {"value": ""}, {"value": []}, {"value": 5}, {"value": True}, {"value": {}}, {"value": ["A"]},
-    {"value": "A"}, ["A", "B"], [{"value": "A"}, 5], [5], [True], "true", "false", "TRUE", "1", "0", "A", "T0", "cancelled", "x",
-    {"other": 1}, [1, 2], "2024-05-01", "20240501", "2024-05-01T06:00:00Z", "18446744073709551615", "18446744073709551616",
-    Raw("18446744073709551615"), Raw("18446744073709551616"), "00000000000000000003", "000000000000000000003", " 1", "+1", "\u0661",
-    Raw("123456789012345678901234567890"), Raw("-9223372036854775808"), Raw("-9223372036854775809"), Raw('"\\u0041"'),
+    None, "", [], {}, True, False, 0, 1, 5, -1, Raw("-0"), Raw("1.0"), Raw("1e2"), Raw("0.5E-3"), [None], [""],
+    [{}], [[]], [["x"]],
+    [{"value": None}], {"value": None}, {"value": ""}, {"value": []}, {"value": 5}, {"value": True},
+    {"value": {}}, {"value": ["A"]},
+    {"value": "A"}, ["A", "B"], [{"value": "A"}, 5], [5], [True], "true", "false", "TRUE", "1", "0", "A", "T0",
+    "cancelled", "x",
+    {"other": 1}, [1, 2], "2024-05-01", "20240501", "2024-05-01T06:00:00Z", "18446744073709551615",
+    "18446744073709551616",
+    Raw("18446744073709551615"), Raw("18446744073709551616"), "00000000000000000003", "000000000000000000003",
+    " 1", "+1", "\u0661",
+    Raw("123456789012345678901234567890"), Raw("-9223372036854775808"), Raw("-9223372036854775809"),
+    Raw('"\\u0041"'),
     Raw('"\\ud83d\\ude00"'), "\u0000", "\ud7ff", "a\"b\\c\n\u001f\u007f",
 ]
 
 # Values after which the whole text is no JSON.
 NO_JSON = [
-    Raw("1e999"), Raw("-1e400"), Raw('"\\ud800"'), Raw('"\\udc00"'), Raw('"\\ud800\\u0041"'), Raw("01"), Raw("+1"), Raw(".5"), Raw("1."),
-    Raw("1e"), Raw("NaN"), Raw("Infinity"), Raw("nul"), Raw("'a'"), Raw('"\\x"'), Raw('"\\u12g4"'), Raw('"\t"'), Raw("[1,]"), Raw("{,}"),
-    Raw('{"a":1,}'), Raw("//"), Raw("tru"), Raw("-"), Raw("1" * 400), Raw("[" * 128 + "]" * 128), Raw('{"a" 1}'), Raw("{1:2}"), Raw('"\x00"'),
-    Raw("TRUE"), Raw("0x10"), Raw("1_0"), Raw('"\\u12"'), Raw("[1 2]"), Raw('"\\ud83d\\ud83d"'), Raw("\ufeff1"), Raw("1\u00a0"),
+    Raw("1e999"), Raw("-1e400"), Raw('"\\ud800"'), Raw('"\\udc00"'), Raw('"\\ud800\\u0041"'), Raw("01"),
+    Raw("+1"), Raw(".5"), Raw("1."),
+    Raw("1e"), Raw("NaN"), Raw("Infinity"), Raw("nul"), Raw("'a'"), Raw('"\\x"'), Raw('"\\u12g4"'), Raw('"\t"'),
+    Raw("[1,]"), Raw("{,}"),
+    Raw('{"a":1,}'), Raw("//"), Raw("tru"), Raw("-"), Raw("1" * 400), Raw("[" * 128 + "]" * 128),
+    Raw('{"a" 1}'), Raw("{1:2}"), Raw('"\x00"'),
+    Raw("TRUE"), Raw("0x10"), Raw("1_0"), Raw('"\\u12"'), Raw("[1 2]"), Raw('"\\ud83d\\ud83d"'), Raw("\ufeff1"),
+    Raw("1\u00a0"),
 ]
 DEEP = [Raw("[" * n + "]" * n) for n in (100, 118, 119, 120, 121, 122, 123, 124, 125, 126, 127)]
 
 
-FLAGS = ["true", "false", "TRUE", "True", "1", "0", "2", "", " true", 1, 0, [True], {"value": True}, {"value": "1"}, ["0"], {}, "yes"]
+FLAGS = ["true", "false", "TRUE", "True", "1", "0", "2", "", " true", 1, 0, [True], {"value": True},
+    {"value": "1"}, ["0"], {}, "yes"]
 WHOLES = [
-    0, 1, 2, 3, "0", "1", "2", "01", "3", -1, Raw("-0"), Raw("1.0"), Raw("1e0"), "+1", "-1", "1.0", " 1", "", [], {}, [1], ["1"], [{"value": "2"}],
-    {"value": 1}, "18446744073709551615", "18446744073709551616", Raw("18446744073709551615"), Raw("18446744073709551616"),
+    0, 1, 2, 3, "0", "1", "2", "01", "3", -1, Raw("-0"), Raw("1.0"), Raw("1e0"), "+1", "-1", "1.0", " 1", "",
+    [], {}, [1], ["1"], [{"value": "2"}],
+    {"value": 1}, "18446744073709551615", "18446744073709551616", Raw("18446744073709551615"),
+    Raw("18446744073709551616"),
     "00000000000000000003", "000000000000000000003", "99999999999999999999", True,
 ]
-MOMENTS = ["", [], {}, 5, "2024-05-01", "2024-05-01T06:00:00", "2024-05-01T06:00:00.5Z", "2024-05-01T25:00:00Z", ["2024-05-01T06:00:00Z"], "x"]
+MOMENTS = ["", [], {}, 5, "2024-05-01", "2024-05-01T06:00:00", "2024-05-01T06:00:00.5Z", "2024-05-01T25:00:00Z",
+    ["2024-05-01T06:00:00Z"], "x"]
 HOLDERS = [None, "", [], {}, [{}], [None], [{}, None], "x", 0, False, [[]], {"value": {}}, [{}, {}]]
 BY_NAME = {
-    "Cancellation": FLAGS, "ExtraJourney": FLAGS, "ExtraCall": FLAGS, "Order": WHOLES, "Version": WHOLES, "RecordedAtTime": MOMENTS,
+    "Cancellation": FLAGS, "ExtraJourney": FLAGS, "ExtraCall": FLAGS, "Order": WHOLES, "Version": WHOLES,
+    "RecordedAtTime": MOMENTS,
     "ResponseTimestamp": MOMENTS, "StartTime": MOMENTS, "EndTime": MOMENTS,
-    "ArrivalStatus": ["cancelled", "CanceLLed", "cancelled ", "", [], {}, 5, True, ["cancelled"], {"value": None}, "x"],
-    "DataFrameRef": ["2024-05-01", "20240501", "2024-0501", "202405-01", "00000101", "0001-01-01", "9999-12-31", "2023-02-29", "", [], 20240501],
+    "ArrivalStatus": ["cancelled", "CanceLLed", "cancelled ", "", [], {}, 5, True, ["cancelled"],
+    {"value": None}, "x"],
+    "DataFrameRef": ["2024-05-01", "20240501", "2024-0501", "202405-01", "00000101", "0001-01-01", "9999-12-31",
+    "2023-02-29", "", [], 20240501],
 }
 BY_NAME["DepartureStatus"] = BY_NAME["ArrivalStatus"]
 

@@ -22,14 +22,22 @@ RECORDED = [
     "9998-12-31T23:59:59.999999999Z",
 ]
 ODD_MOMENTS = [
-    "2024-05-01T06:00:00z", "2024-05-01t06:00:00Z", "2024-05-01 06:00:00Z", "2024-05-01T06:00Z", "2024-05-01T24:00:00Z",
-    "2024-05-01T06:60:00Z", "2024-05-01T23:59:60Z", "2024-05-01T06:00:00.Z", "2024-05-01T06:00:00.1234567890Z", "2024-02-30T06:00:00Z",
-    "2023-02-29T06:00:00", "2024-05-01T06:00:00+14:00", "2024-05-01T06:00:00-14:00", "2024-05-01T06:00:00+14:01", "2024-05-01T06:00:00+13:60",
-    "2024-05-01T06:00:00-00:00", "2024-05-01T06:00:00+0200", "2024-05-01T06:00:00+02", "1969-12-31T23:59:59-01:00", "1970-01-01T00:59:59+01:00",
-    "1970-01-01T00:00:00.5+00:01", "9998-12-31T23:59:59-00:01", "9998-12-31T23:59:59.9Z", "9999-01-01T00:00:00+01:00", "0000-01-01T00:00:00Z",
-    "2024-05-01T06:00:00ZZ", " 2024-05-01T06:00:00Z", "2024-5-1T06:00:00Z", "2024-05-01T06:00:00.5", "2024-03-31T02:59:59.999999999",
-    "2024-10-27T02:30:00", "1970-01-01T00:00:00", "9998-12-31T23:59:59", "2024-12-31T23:59:59.999999998", "2024-05-01T06:00:00,5Z",
-    "20240501T060000Z", "2024-05-01T06:00:00+\u0661\u0664:00", "2024-05-01T06:00:00+-1:00", "+2024-05-01T06:00:00Z", "2024-05-01",
+    "2024-05-01T06:00:00z", "2024-05-01t06:00:00Z", "2024-05-01 06:00:00Z", "2024-05-01T06:00Z",
+    "2024-05-01T24:00:00Z",
+    "2024-05-01T06:60:00Z", "2024-05-01T23:59:60Z", "2024-05-01T06:00:00.Z", "2024-05-01T06:00:00.1234567890Z",
+    "2024-02-30T06:00:00Z",
+    "2023-02-29T06:00:00", "2024-05-01T06:00:00+14:00", "2024-05-01T06:00:00-14:00",
+    "2024-05-01T06:00:00+14:01", "2024-05-01T06:00:00+13:60",
+    "2024-05-01T06:00:00-00:00", "2024-05-01T06:00:00+0200", "2024-05-01T06:00:00+02",
+    "1969-12-31T23:59:59-01:00", "1970-01-01T00:59:59+01:00",
+    "1970-01-01T00:00:00.5+00:01", "9998-12-31T23:59:59-00:01", "9998-12-31T23:59:59.9Z",
+    "9999-01-01T00:00:00+01:00", "0000-01-01T00:00:00Z",
+    "2024-05-01T06:00:00ZZ", " 2024-05-01T06:00:00Z", "2024-5-1T06:00:00Z", "2024-05-01T06:00:00.5",
+    "2024-03-31T02:59:59.999999999",
+    "2024-10-27T02:30:00", "1970-01-01T00:00:00", "9998-12-31T23:59:59", "2024-12-31T23:59:59.999999998",
+    "2024-05-01T06:00:00,5Z",
+    "20240501T060000Z", "2024-05-01T06:00:00+\u0661\u0664:00", "2024-05-01T06:00:00+-1:00",
+    "+2024-05-01T06:00:00Z", "2024-05-01",
 ]
 
 
@@ -84,7 +92,8 @@ class Journeys:
 
     def day_word(self, day):
         if self.odd(0.1):
-            return self.dice.choice(["2024-5-1", "20230229", "2023-02-29", "0000-01-01", "2024-0501", "99991231", "0001-01-01", "today"])
+            return self.dice.choice(["2024-5-1", "20230229", "2023-02-29", "0000-01-01", "2024-0501",
+                "99991231", "0001-01-01", "today"])
         text = str(day)
         return text.replace("-", "") if self.dice.one_in(4) else text
 
@@ -144,7 +153,8 @@ class Journeys:
             call["Cancellation"] = dice.choice((True, True, False, "1", "0"))
         for status in ("ArrivalStatus", "DepartureStatus"):
             if dice.one_in(8):
-                call[status] = dice.choice(("cancelled", "Cancelled", "CANCELLED", "onTime", "delayed", "canceled", "\u017fancelled"))
+                call[status] = dice.choice(("cancelled", "Cancelled", "CANCELLED", "onTime", "delayed",
+                    "canceled", "\u017fancelled"))
         if dice.one_in(8):
             return call
         start = day_seconds(day)
@@ -206,7 +216,8 @@ def framed(dice, name, deliveries):
     if dice.one_in(2):
         root = {"Siri": root}
     if dice.one_in(40):
-        root["Siri" if "Siri" not in root else "ServiceDelivery"] = dice.choice((None, "", [], {}, "x", 5, [{}]))
+        root["Siri" if "Siri" not in root else "ServiceDelivery"] = dice.choice((None, "", [], {}, "x", 5,
+            [{}]))
     return root
 
 
@@ -220,7 +231,8 @@ class Situations(Journeys):
             version = dice.choice((0, 1, 1, 2, 10, 2**64 - 1))
             item["Version"] = version if dice.one_in(2) else str(version)
         if dice.one_in(3):
-            item["Progress"] = dice.choice(("closed", "draft", "Closed", "DRAFT", "open", "published", "clo\u017fed"))
+            item["Progress"] = dice.choice(("closed", "draft", "Closed", "DRAFT", "open", "published",
+                "clo\u017fed"))
         if dice.one_in(2):
             periods = []
             for _ in range(dice.choice((0, 1, 1, 2))):
@@ -242,7 +254,8 @@ class Situations(Journeys):
         if not dice.one_in(12):
             item["Affects"] = self.affects()
         if dice.one_in(2):
-            words = ("cancelled", "noService", "delayed", "diverted", "additionalService", "altered", "disrupted", "Delayed", "x")
+            words = ("cancelled", "noService", "delayed", "diverted", "additionalService", "altered",
+                "disrupted", "Delayed", "x")
             found = [{"Condition": dice.choice(words)} for _ in range(dice.choice((0, 1, 1, 2)))]
             if found and dice.one_in(6):
                 found[0] = {}
@@ -257,16 +270,19 @@ class Situations(Journeys):
             return [make() for _ in range(dice.choice((0, 1, 1, 2, 3)))]
 
         def line():
-            return {} if dice.one_in(6) else {"LineRef": dice.choice([*world.routes, "NOPE"] if self.odd() else world.routes)}
+            return {} if dice.one_in(6) else {"LineRef": dice.choice([*world.routes,
+                "NOPE"] if self.odd() else world.routes)}
 
         def stop():
-            return {} if dice.one_in(6) else {"StopPointRef": dice.choice([*world.stops, "NOPE"] if self.odd() else world.stops)}
+            return {} if dice.one_in(6) else {"StopPointRef": dice.choice([*world.stops,
+                "NOPE"] if self.odd() else world.stops)}
 
         def journey():
             if dice.one_in(6):
                 return {}
             name = dice.choice(self.ids)
-            return {"FramedVehicleJourneyRef": {"DataFrameRef": self.day_word(self.day()), "DatedVehicleJourneyRef": name}}
+            return {"FramedVehicleJourneyRef": {"DataFrameRef": self.day_word(self.day()),
+                "DatedVehicleJourneyRef": name}}
 
         if dice.one_in(2):
             affects["Networks"] = {"AffectedNetwork": several(lambda: {"AffectedLine": several(line)})}
@@ -296,12 +312,14 @@ def random_body(dice, maker, oddness):
     if kind == "no_json":
         put_no_json(dice, tree)
     if kind == "other":
-        tree = dice.choice((None, [], {}, "x", 1, [tree], Members([("Siri", tree)]), {"Siri": None}, odd_value(dice)))
+        tree = dice.choice((None, [], {}, "x", 1, [tree], Members([("Siri", tree)]), {"Siri": None},
+            odd_value(dice)))
     data = json_bytes(tree, dice if dice.one_in(6) else None)
     if kind == "bytes":
         data = broken_bytes(dice, data)
     if dice.one_in(80):
-        data = dice.choice((b"\xef\xbb\xbf" + data, data + b"\n \t\r", data + b"\0", data + b"x", data + b"{}", b"", data[:-1], b" " + data))
+        data = dice.choice((b"\xef\xbb\xbf" + data, data + b"\n \t\r", data + b"\0", data + b"x", data + b"{}",
+            b"", data[:-1], b" " + data))
     return data
 
 

@@ -1,4 +1,4 @@
-"""Cases as folders of files: `words` (one a line), `status`, `stdout`, `stderr`, and the files that are read."""
+"""Cases as folders: `words` (one a line), `status`, `stdout`, `stderr`, and the files that are read."""
 
 import os
 import shutil

@@ -158,7 +158,7 @@ def folder_files(dice, trips, stops, routes, services, frequencies):
 
 
 def csv_text(dice, columns, rows):
-    """Columns in any order, with others among them; fields in quotes or with blanks; CR, LF, blank lines, a mark."""
+    """Columns in any order, with others among them; quotes, blanks, CR, LF, blank lines, a mark."""
     plain = not dice.one_in(4)
     order = list(range(len(columns)))
     names = list(columns)
@@ -196,9 +196,12 @@ def cell(dice, text, plain):
 # Faults of folders.
 
 ODD_FIELDS = [
-    "", " ", "0", "1", "2", "-1", "007", "4294967295", "4294967296", "00000000001", "0000000001", "8:1:00", "08:00:60", "8:00:00",
-    "123:00:00", "99:59:59", "08:60:00", "08:00", "20240229", "20230229", "00000101", "00010101", "99991231", "2024-05-01", "20241301",
-    "A", "T0", "R1", "S0", "S1", "nowhere", "x" * 200, "x" * 201, "\u00e9" * 100, "\u00e9" * 100 + "x", '"', '""', "a\tb", "+1", "1.0", "\u0661",
+    "", " ", "0", "1", "2", "-1", "007", "4294967295", "4294967296", "00000000001", "0000000001", "8:1:00",
+    "08:00:60", "8:00:00",
+    "123:00:00", "99:59:59", "08:60:00", "08:00", "20240229", "20230229", "00000101", "00010101", "99991231",
+    "2024-05-01", "20241301",
+    "A", "T0", "R1", "S0", "S1", "nowhere", "x" * 200, "x" * 201, "\u00e9" * 100, "\u00e9" * 100 + "x", '"',
+    '""', "a\tb", "+1", "1.0", "\u0661",
 ]
 
 
@@ -219,7 +222,8 @@ def faulty_folder(dice, world):
         elif kind == "bytes":
             world.files[name] = broken_bytes(dice, world.files[name])
         elif kind == "text":
-            world.files[name] = dice.choice((b"", b"\n\n", b"\xef\xbb\xbf", b"\xff\n", b'"', b"\r", b"a,b\n1,2\n"))
+            world.files[name] = dice.choice((b"", b"\n\n", b"\xef\xbb\xbf", b"\xff\n", b'"', b"\r",
+                b"a,b\n1,2\n"))
         elif kind == "folder":
             del world.files[name]
             world.files[name + "/x"] = b""
@@ -229,16 +233,21 @@ def faulty_folder(dice, world):
 
 
 TIMES = [
-    "", "8:00:00", "08:00:00", "123:00:00", "100:00:00", "99:59:59", "08:60:00", "08:00:60", "8:1:00", "08:00", "8:00:0", ":00:00", "-1:00:00",
+    "", "8:00:00", "08:00:00", "123:00:00", "100:00:00", "99:59:59", "08:60:00", "08:00:60", "8:1:00", "08:00",
+    "8:00:0", ":00:00", "-1:00:00",
     "08:00:00.0", "008:00:00", "0:00:00", "24:00:00", "08-00-00", "8 :00:00",
 ]
-DATES = ["20240229", "20230229", "00000101", "00010101", "99991231", "2024-05-01", "20241301", "2024051", "202405011", "20240500", ""]
-IDS = ["", "x" * 200, "x" * 201, "\u00e9" * 100, "\u00e9" * 100 + "x", "nowhere", "A", "T0", "R1", "S0", '""', "a b", "\ta\u00a0"]
+DATES = ["20240229", "20230229", "00000101", "00010101", "99991231", "2024-05-01", "20241301", "2024051",
+    "202405011", "20240500", ""]
+IDS = ["", "x" * 200, "x" * 201, "\u00e9" * 100, "\u00e9" * 100 + "x", "nowhere", "A", "T0", "R1", "S0", '""',
+    "a b", "\ta\u00a0"]
 FLAGS = ["", "0", "1", "2", "00", "01", "true", "-1"]
 BY_COLUMN = {
-    "stop_sequence": ["", "0", "7", "007", "0000000007", "00000000007", "4294967295", "4294967296", "9999999999", "-1", "+1", "1.0", " 1"],
+    "stop_sequence": ["", "0", "7", "007", "0000000007", "00000000007", "4294967295", "4294967296",
+    "9999999999", "-1", "+1", "1.0", " 1"],
     "arrival_time": TIMES, "departure_time": TIMES, "date": DATES, "start_date": DATES, "end_date": DATES,
-    "exception_type": ["", "0", "1", "2", "3", "01"], "agency_timezone": ["", "Europe/Paris", "Europe/Rome", "europe/paris"],
+    "exception_type": ["", "0", "1", "2", "3", "01"],
+    "agency_timezone": ["", "Europe/Paris", "Europe/Rome", "europe/paris"],
     "trip_id": IDS, "stop_id": IDS, "route_id": IDS, "service_id": IDS,
 }
 BY_COLUMN |= {day: FLAGS for day in WEEKDAYS}
@@ -254,7 +263,8 @@ def odd_field(dice, lines):
         i = dice.randrange(1, len(lines))
         fields = lines[i].split(b",")
         place = dice.randrange(len(fields))
-        columns = [name.strip(b' \t"').decode(errors="replace") for name in lines[0].removeprefix(b"\xef\xbb\xbf").split(b",")]
+        header = lines[0].removeprefix(b"\xef\xbb\xbf").decode(errors="replace")
+        columns = [name.strip(' \t"') for name in header.split(",")]
         values = BY_COLUMN.get(columns[place]) if place < len(columns) else None
         odd = dice.choice(values if values and not dice.one_in(4) else ODD_FIELDS).encode()
         if dice.one_in(8):
@@ -282,7 +292,8 @@ def odd_rows(dice, lines):
 def odd_header(dice, lines):
     names = lines[0].split(b",")
     i = dice.randrange(len(names))
-    odd = (b"", b"x", names[i].upper(), names[i] + b"\xff", b" " + names[i] + b"\t", b'"' + names[i] + b'"', names[0])
+    odd = (b"", b"x", names[i].upper(), names[i] + b"\xff", b" " + names[i] + b"\t", b'"' + names[i] + b'"',
+        names[0])
     names[i] = dice.choice(odd)
     if dice.one_in(3):
         names.append(names[i])
