@@ -3,8 +3,6 @@
 import re
 from datetime import date
 
-from . import zones
-
 LAST_MOMENT = 253_370_764_799  # the end of the year 9998
 NANOS = 1_000_000_000
 

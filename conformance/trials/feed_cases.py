@@ -53,7 +53,7 @@ class Feeds:
         number = dice.choice((1, 2, 3, 4, 5, 6, 7, 9, 15, 16, 100, 101, 2047, 536870911))
         kind = dice.randrange(6)
         if kind == 0:
-            return self.number(dice.choice((9, 100, 536870911)), dice.choice((0, 1, 2**64 - 1)))
+            return self.number(dice.choice((number, 9, 100, 536870911)), dice.choice((0, 1, 2**64 - 1)))
         if kind == 1:
             return varint(dice, number * 8 + 1) + bytes(8)
         if kind == 2:
@@ -62,7 +62,7 @@ class Feeds:
             inner = b"".join(self.unknown(depth + 1) for _ in range(dice.choice((0, 1, 2))))
             return varint(dice, number * 8 + 3) + inner + varint(dice, number * 8 + 4)
         if kind == 4:
-            return self.bytes(dice.choice((9, 100, 101)), dice.choice((b"", b"\xff\x00", b"abc")))
+            return self.bytes(dice.choice((number, 9, 100, 101)), dice.choice((b"", b"\x08\x01", b"\xff\x00", b"abc")))
         return b"" if depth else self.wrong_type(number)
 
     def wrong_type(self, number):
