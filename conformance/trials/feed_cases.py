@@ -234,7 +234,7 @@ class Feeds:
     def feed(self):
         dice = self.dice
         fields = [self.header()]
-        fields += [self.bytes(2, self.entity()) for _ in range(dice.choice((0, 1, 1, 2, 3, 5, 8)))]
+        fields += [self.bytes(2, self.entity()) for _ in range(dice.choice((0, 1, 2, 3, 5, 8, 12)))]
         if self.odd(0.02):
             fields.insert(dice.randint(0, len(fields)), self.long_entity())
         return b"".join(self.message(fields))

@@ -178,7 +178,7 @@ class Journeys:
     def delivery(self):
         """A delivery with its frame, and with moments of recording in any of their places."""
         dice = self.dice
-        journeys = [self.journey() for _ in range(dice.choice((0, 1, 1, 2, 3, 5, 8)))]
+        journeys = [self.journey() for _ in range(dice.choice((0, 1, 2, 3, 5, 8, 12)))]
         frames = []
         while journeys or not frames:
             count = dice.randint(0, len(journeys)) if not dice.one_in(2) else len(journeys)
