@@ -186,7 +186,9 @@ def local_moment(dice, days):
     """A time of the zone's own clock, where clocks change. What the last nanosecond of a year is where daylight
     saving time ends past it isn't settled, so no fraction has nine nines."""
     day = dice.choice(days)
-    hour = dice.choice((0, 1, 1, 2, 2, 2, 3, 3, 10, 11, 12, 13, 22, 23))
+    if dice.one_in(3):
+        day = str(min(date(9998, 12, 31), date.fromisoformat(day) + timedelta(days=dice.choice((-1, 1)))))
+    hour = dice.choice((0, 1, 1, 2, 2, 2, 3, 3, 4, 9, 10, 11, 12, 13, 14, 20, 22, 23))
     rest = dice.choice(("00:00", "00:00", "00:00", "30:00", "59:59", "59:59.999999998", "15:00", "29:59.5",
         "44:50"))
     return f"{day}T{hour:02}:{rest}"

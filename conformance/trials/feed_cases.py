@@ -234,10 +234,22 @@ class Feeds:
     def feed(self):
         dice = self.dice
         fields = [self.header()]
+        if dice.one_in(6):
+            fields += self.clock_entities()
         fields += [self.bytes(2, self.entity()) for _ in range(dice.choice((0, 1, 2, 3, 5, 8, 12)))]
         if self.odd(0.02):
             fields.insert(dice.randint(0, len(fields)), self.long_entity())
         return b"".join(self.message(fields))
+
+    def clock_entities(self):
+        """Trip updates without a stop, of many days: all times that are written are the planned ones."""
+        world = self.world
+        dated = [(trip, day) for trip in world.carried for day in world.window]
+        entities = []
+        for trip, day in self.dice.sample(dated, min(16, len(dated))):
+            trip_update = self.bytes(1, self.text(1, trip.id) + self.text(3, str(day).replace("-", "")))
+            entities.append(self.bytes(2, self.text(1, "e") + self.bytes(3, trip_update)))
+        return entities
 
     def long_entity(self):
         """An entity whose stated length is at the limit or over it, mostly without its bytes."""

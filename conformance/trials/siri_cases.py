@@ -175,9 +175,23 @@ class Journeys:
                 call[f"Aimed{event}Time"] = dice.choice(("x", random_moment(dice, time)))
         return call
 
+    def clock_journeys(self):
+        """Cancelled journeys of many days, each recorded at a time of the zone's own clock."""
+        world = self.world
+        dated = [(trip, day) for trip in world.carried for day in world.window]
+        items = []
+        for trip, day in self.dice.sample(dated, min(24, len(dated))):
+            named = {"DataFrameRef": str(day), "DatedVehicleJourneyRef": trip.id}
+            recorded = local_moment(self.dice, world.clock_days)
+            items.append({"RecordedAtTime": recorded, "FramedVehicleJourneyRef": named, "Cancellation": True})
+        return items
+
     def delivery(self):
         """A delivery with its frame, and with moments of recording in any of their places."""
         dice = self.dice
+        if dice.one_in(6):
+            frame = {"EstimatedVehicleJourney": self.clock_journeys()}
+            return framed(dice, "EstimatedTimetableDelivery", [{"EstimatedJourneyVersionFrame": [frame]}])
         journeys = [self.journey() for _ in range(dice.choice((0, 1, 2, 3, 5, 8, 12)))]
         frames = []
         while journeys or not frames:
