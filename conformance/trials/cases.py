@@ -1,6 +1,7 @@
 """A random case of a command, by a seed and a number."""
 
 from .case import Case
+from .edges import edge_case
 from .feed_cases import random_feed
 from .odd import Dice
 from .siri_cases import AT, Journeys, Situations, random_body
@@ -31,6 +32,8 @@ EDGES = {
 
 def random_case(seed, command, number, with_situations=True):
     dice = Dice(f"{seed} {command} {number}")
+    if dice.one_in(15):
+        return edge_case(dice, command)
     world = random_world(dice)
     subject = dice.weighted(inner=22, folder=5, words=1.5, files=0.5)
     if subject == "folder":
