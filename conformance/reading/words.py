@@ -1,0 +1,107 @@
+"""Which lists of words are commands, and where a list that is none goes wrong."""
+
+import re
+from dataclasses import dataclass, field
+from datetime import date, timedelta
+
+from .moments import read_utc
+
+FIRST_DAY = date(1971, 1, 1)
+LAST_DAY = date(9997, 12, 31)
+MOST_DAYS = 32
+
+
+class BadWord(Exception):
+    """The list is no command's. `at` words of it are right from the front."""
+
+    def __init__(self, at):
+        super().__init__(at)
+        self.at = at
+
+
+@dataclass
+class Work:
+    """A command with its words."""
+
+    command: str = ""
+    gtfs: str = ""
+    zone_rule: str = None
+    zone_file: str = None
+    first: date = None
+    days: int = 0
+    at: int = None
+    feed: str = None
+    further: list = field(default_factory=list)  # pairs of "--et" or "--sx" and a file
+
+
+def day_word(text):
+    """A first day, as 2024-05-01."""
+    if not re.fullmatch(r"[0-9]{4}-[0-9]{2}-[0-9]{2}", text):
+        return None
+    try:
+        day = date.fromisoformat(text)
+    except ValueError:
+        return None
+    return day if FIRST_DAY <= day <= LAST_DAY else None
+
+
+def days_word(text, first):
+    """A number of days from the first one, all of which may be in a window."""
+    if not re.fullmatch(r"[0-9]{1,10}", text) or not 1 <= int(text) <= MOST_DAYS:
+        return None
+    return int(text) if (LAST_DAY - first).days >= int(text) - 1 else None
+
+
+def read_words(raw):
+    """The work that a list of words (bytes each) asks for; a word that isn't UTF-8 is as an empty one."""
+    words = [text_word(word) for word in raw]
+    place = 0
+
+    def take(accepts):
+        nonlocal place
+        value = accepts(words[place]) if place < len(words) else None
+        if value is None:
+            raise BadWord(place)
+        place += 1
+        return value
+
+    def flag(*names):
+        return take(lambda word: word if word in names else None)
+
+    def text():
+        return take(lambda word: word or None)
+
+    work = Work(command=flag("to-gtfsrt", "to-siri", "show"))
+    flag("--gtfs")
+    work.gtfs = text()
+    if flag("--zone-rule", "--zone-file") == "--zone-rule":
+        work.zone_rule = text()
+    else:
+        work.zone_file = text()
+    flag("--from")
+    work.first = take(day_word)
+    flag("--days")
+    work.days = take(lambda word: days_word(word, work.first))
+    if work.command != "show":
+        flag("--at")
+        work.at = take(read_utc)
+    if work.command != "to-gtfsrt":
+        flag("--feed")
+        work.feed = text()
+    while work.command == "to-gtfsrt" and place < len(words):
+        kind = flag("--et", "--sx")
+        work.further.append((kind, text()))
+    if place < len(words):
+        raise BadWord(place)
+    return work
+
+
+def text_word(word):
+    try:
+        return word.decode("utf-8")
+    except UnicodeDecodeError:
+        return ""
+
+
+def window_of(work):
+    return [work.first + timedelta(days=n) for n in range(work.days)]
