@@ -1,14 +1,7 @@
 -- What a moment text names is a moment.
-use Rattle.std.proofs.Common.{◌≡◌, ◌∙◌, ◌<◌, ◌≤◌, ◌+◌, ◌||◌, ◌&&◌, ◌==◌, ◌++◌, ◌∷◌, [], map, take, drop, length, get_or, not, Result, Ok, Err, IfOk, sym, option_and_then, ℕ, ℤ, List, Bool, true, false, Option, Some, None, refl, ap, if◌then◌else◌, arith, IsSome, IfSome, ◌↔◌}
-use Rattle.std.proofs.lemmas.Bool.{eqb-true, false≢true}
-use Rattle.std.specs.Cmp.{signed_Decides}
-use Rattle.std.specs.Ordering.{int_eq}
+use Rattle.std.proofs.Common.{◌≡◌, ℕ, ℤ, List, Bool, true, false, Option, Some, None, refl, if◌then◌else◌, arith}
 use Rattle.std.proofs.lemmas.Int.{ints}
-use Rattle.std.proofs.lemmas.List.{append-nil, append_assoc, map-append, drop_all, drop_more, take_more}
-use Rattle.std.proofs.lemmas.List.Folds.{list_any-append}
 use Rattle.std.proofs.lemmas.Option.{none-some}
-use Rattle.std.specs.List.{list_any, AllByRecursion}
-use denote.Ref.{Bor}
 use Rattle.gw_base.specs.Moments.{IsMoment}
 use Rattle.service_day.specs.Days.{date_number}
 use Rattle.service_day.specs.Digits.{has_form, two_at, four_at}

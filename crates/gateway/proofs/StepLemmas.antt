@@ -1,5 +1,5 @@
 -- Steps whose answers may be free errors.
-use Rattle.std.proofs.Common.{Bool, Option, Some, None, Result, Ok, Err, IfSome, inl}
+use Rattle.std.proofs.Common.{Bool, Option, Some, None, Result, Err, IfSome, inl}
 use Rattle.gw_base.specs.Answers.{UnlessFree}
 use Rattle.gw_base.specs.Steps.{Then}
 use Rattle.gw_base.proofs.AnswerLemmas.{unless_free}

@@ -1,5 +1,5 @@
 -- The texts of the folder's faults.
-use Rattle.std.specs.Prelude.{ℕ, List, [], ◌++◌, codes, decimal}
+use Rattle.std.specs.Prelude.{ℕ, List, ◌++◌, codes, decimal}
 use Rattle.stop_schedule.specs.Columns.{column_name}
 use Rattle.stop_schedule.specs.Timetable.{path_of, file_name}
 use Rattle.stop_schedule.specs.declared.column.Column.{Column}

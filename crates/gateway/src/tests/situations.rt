@@ -13,11 +13,9 @@ const S1_LATE: &[u8] =
 const S1_LATER: &[u8] =
     b"\x12!\x0a\x08alert:S1*\x15*\x04\x12\x02R10\x018\x08R\x09\x0a\x07\x0a\x05Later";
 
-const S2_BARE: &[u8] =
-    b"\x12\x16\x0a\x08alert:S2*\x0a*\x04\x12\x02R10\x018\x08";
+const S2_BARE: &[u8] = b"\x12\x16\x0a\x08alert:S2*\x0a*\x04\x12\x02R10\x018\x08";
 
-const S10_BARE: &[u8] =
-    b"\x12\x17\x0a\x09alert:S10*\x0a*\x04\x12\x02R10\x018\x08";
+const S10_BARE: &[u8] = b"\x12\x17\x0a\x09alert:S10*\x0a*\x04\x12\x02R10\x018\x08";
 
 // The situation of the first alert, a closed one of a second version, and situations of equal and of lesser versions.
 const LATE: &str = "$[{$N:'S1',$W:1,'ValidityPeriod':[{'StartTime':'$@00:00:00Z'}],$L,\
@@ -36,7 +34,8 @@ const FALLING: &str = "$[{$N:'S1',$W:1,$L,'Summary':'Later'},{$N:'S1',$L,'Summar
 // Situations of three numbers, of which one isn't served, and such as are set aside.
 const NUMBERS: &str = "$[{$N:'S2',$L},{$N:'S3',$L,'Progress':'Closed'},{$N:'S10',$L}$]";
 
-const ASIDE: &str = "$[{$N:'S1','Affects':{}},{$N:'S1','Affects':{'Networks':{'AffectedNetwork':{'AffectedLine':{'LineRef':'R9'}}}}},\
+const ASIDE: &str =
+    "$[{$N:'S1','Affects':{}},{$N:'S1','Affects':{'Networks':{'AffectedNetwork':{'AffectedLine':{'LineRef':'R9'}}}}},\
     {$N:'S2','Affects':{'Networks':{'AffectedNetwork':{'AffectedLine':[{'LineRef':'R9'},{'LineRef':'R1'}]}}}},{$N:7}$]";
 
 const CANCELLED: &str = "$<{$R,$1,$C}$>";
@@ -55,7 +54,8 @@ const F_H_F: &str =
 
 const TWO: &str = "f taken 2 passed 0 aside 0\n";
 
-const ASIDE_REPORT: &str = "f aside 0 NoAffects\nf aside 1 UnknownRef LineRef\nf aside 3 BadField SituationNumber\n\
+const ASIDE_REPORT: &str =
+    "f aside 0 NoAffects\nf aside 1 UnknownRef LineRef\nf aside 3 BadField SituationNumber\n\
     f taken 1 passed 1 aside 3\n";
 
 // The words, the deliveries `f` and `h`, the entities of the feed, and the report.
@@ -82,13 +82,7 @@ static TAKEN: [(&str, &str, &str, &[&[u8]], &str); 14] = [
     ),
     (" --sx f", ASIDE, LATE, &[S2_BARE], ASIDE_REPORT),
     // They stand behind the journeys, in whatever order the files come.
-    (
-        " --sx f --et h",
-        LATE,
-        CANCELLED,
-        &[T1_FIRST, S1_LATE],
-        F_H,
-    ),
+    (" --sx f --et h", LATE, CANCELLED, &[T1_FIRST, S1_LATE], F_H),
     (" --et h --sx f", LATE, DELAYED, &[T1_LATE, S1_LATE], H_F),
 ];
 

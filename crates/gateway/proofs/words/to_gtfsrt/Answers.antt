@@ -1,4 +1,4 @@
-use Rattle.std.proofs.Common.{refl, sym, ◌∙◌}
+use Rattle.std.proofs.Common.{sym, ◌∙◌}
 use Rattle.std.proofs.lemmas.List.{take_rest}
 use Rattle.gateway.proofs.WordLemmas.{read_at}
 use Rattle.gateway.proofs.words.to_gtfsrt.Goals as goal
