@@ -1,6 +1,7 @@
 pub mod DayLemmas
 pub mod EntityLemmas
 pub mod FeedLemmas
+pub mod KnownLemmas
 pub mod PlaceLemmas
 pub mod ServableLemmas
 pub mod SpreadLemmas

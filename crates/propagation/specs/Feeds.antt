@@ -1,12 +1,10 @@
 -- How a feed is read over a timetable.
-use Rattle.std.specs.Prelude.{◌≡◌, ◌<◌, ℤ, true, All, Some, length}
+use Rattle.std.specs.Prelude.{◌≡◌, All, length}
 use Rattle.std.specs.List.Sorted.{IsPermutation, IsSorted}
 use Rattle.std.specs.declared.cmp.Ordering.{Ordering}
 use Rattle.std.specs.Ordering.{int_cmp, nat_cmp, ordering_then}
 use Rattle.gw_base.specs.declared.messages.Feed.{Feed}
-use Rattle.service_day.specs.Windows.{start_in}
 use Rattle.journey_model.specs.FeedReadings.{aside_from, given_all, last_of_each, passed_count, readings}
-use Rattle.journey_model.specs.Readings.{fits_trip}
 use Rattle.journey_model.specs.Schedules as schedules
 use Rattle.journey_model.specs.Schedules.{Schedule}
 use Rattle.journey_model.specs.declared.readings.DatedReading.{DatedReading}

@@ -8,6 +8,7 @@ mod events;
 mod feeds;
 mod placing;
 mod propagating;
+mod room;
 #[cfg(test)]
 mod tests;
 mod update_fault;

@@ -1,18 +1,20 @@
 //! The places of updates in their trip, and what each says there. The functions meet `specs/Saying.antt` and the
 //! places of `journey_model`'s `specs/Updates.antt`.
-ghost use Rattle.std.specs.Prelude.{◌≡◌, ◌<◌, ℕ, true, Ok, length, List as Values};
+ghost use Rattle.std.specs.Prelude.{◌≡◌, ◌<◌, ℕ, true, Ok, Some, IsTrue, IfSome, length, position, List as Values};
 ghost use Rattle.std.specs.Option.{option_copied};
+ghost use Rattle.std.specs.Str.{bytes_eq};
 ghost use Rattle.journey_model.specs.Dated.{run_of};
 ghost use Rattle.journey_model.specs.Updates as spec;
 ghost use Rattle.propagation.specs.Answers.{Propagates};
 ghost use Rattle.propagation.specs.Saying.{ArePlanned, is_read, placed_all, placed_by, said_at, said_by_events};
 
 use crate::events::{event_time, planned_at, said_times};
+use crate::room::with_room;
 use crate::update_fault::UpdateFault;
 use gw_base::{List, StopUpdate, Text};
 use journey_model::{DatedTrip, Fault, MatchFault, NamedStop, match_update};
 use std::alloc::Global;
-use stop_schedule::Timetable;
+use stop_schedule::{StopNo, Timetable, TripNo};
 
 // The relations of an update that are read.
 const SCHEDULED: i32 = 0;
@@ -58,13 +60,50 @@ pub(crate) fn filled_text(text: &Option<Text>) -> Option<&str>
     }
 }
 
-// The stop that an update names.
-fn named_stop(table: &Timetable, update: &StopUpdate) -> NamedStop
+// The stop of a trip behind the place before, if it has one.
+#[tactic(auto, using(crate::proofs::KnownLemmas::known_at))]
+fn stop_behind(table: &Timetable, trip: TripNo, after: Option<u32>) -> Option<StopNo>
+    ensures { IfSome result (λ stop. stop.0 < length table.now.stops) }
+{
+    if trip.0 >= table.trips() {
+        return None;
+    }
+    let place = match after {
+        Some(place) => place as usize + 1,
+        None => 0,
+    };
+    match table.stops_of(trip).get(place) {
+        Some(row) => Some(row.stop),
+        None => None,
+    }
+}
+
+// Whether a stop has that id.
+fn has_id(table: &Timetable, stop: StopNo, id: &str) -> bool
+    requires { stop.0 < length table.now.stops }
+    ensures { IsTrue result → position (bytes_eq id.now) table.now.stops ≡ Some stop.0 }
+{
+    table.stop_id(stop) == id
+}
+
+// The stop that an update names. It is mostly the likely one, whose id is compared before all are searched.
+fn named_stop(table: &Timetable, likely: Option<StopNo>, update: &StopUpdate) -> NamedStop
+    requires { IfSome likely (λ stop. stop.0 < length table.now.stops) }
     ensures { result ≡ spec.named_stop table.now.stops update.now }
 {
     let Some(id) = filled_text(&update.stop_id) else {
         return NamedStop::Missing;
     };
+    match likely {
+        Some(stop) if has_id(table, stop, id) => NamedStop::Known(stop),
+        _ => found_stop(table, id),
+    }
+}
+
+// The stop of that id.
+fn found_stop(table: &Timetable, id: &str) -> NamedStop
+    ensures { result ≡ spec.known_stop (position (bytes_eq id.now) table.now.stops) }
+{
     match table.find_stop(id) {
         Some(stop) => NamedStop::Known(stop),
         None => NamedStop::Unknown,
@@ -145,7 +184,8 @@ fn place(
     if !is_read(update) {
         return Err(Fault::OtherRelation(update.relation));
     }
-    match match_update(dated, after, update.sequence, named_stop(table, update)) {
+    let named = named_stop(table, stop_behind(table, dated.trip, after), update);
+    match match_update(dated, after, update.sequence, named) {
         Ok(at) => placed_at(number, dated, at, update),
         Err(fault) => Err(match_fault(number, fault)),
     }
@@ -161,7 +201,7 @@ pub(crate) fn placed_all(
     ensures { let run = run_of table.now.stops dated.now in
         Propagates (placed_all run updates.now (spec.places run updates.now)) result }
 {
-    let mut all = List::new(alloc);
+    let mut all = with_room(alloc, updates.len().min(dated.stops.len()))?;
     let mut after = None;
     for (number, update) in updates.iter().enumerate() {
         let next = match place(table, dated, number as u64, after, update) {

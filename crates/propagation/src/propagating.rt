@@ -10,6 +10,7 @@ ghost use Rattle.propagation.specs.Spreading.{are_rising_from, delay_behind, fir
 
 use crate::events::planned_times;
 use crate::placing::{Placed, Says};
+use crate::room::with_room;
 use gw_base::List;
 use journey_model::{DatedTrip, StopReading};
 use std::alloc::{AllocError, Global};
@@ -81,7 +82,7 @@ pub(crate) fn readings(
         are_rising_from 0 updates ≡ true → placed.now ≡ map (placed_at run) updates
         → IfOk result (λ all. all ≡ map (prop run updates) places) }
 {
-    let mut all = List::new(alloc);
+    let mut all = with_room(alloc, dated.stops.len())?;
     let mut rest = placed;
     let mut delay = None;
     for (place, row) in dated.stops.iter().enumerate() {

@@ -6,6 +6,7 @@ pub mod FrameLemmas
 pub mod OrderLemmas
 pub mod PlaceLemmas
 pub mod PlacedLemmas
+mod PlainLemmas
 pub mod Prefixes
 pub mod SaidAgain
 pub mod SaidAgainCalls

@@ -1,5 +1,5 @@
 -- What is recorded of a journey can be served.
-use Rattle.std.proofs.Common.{◌≡◌, ◌∙◌, ◌<◌, ◌+◌, ◌==◌, ℕ, ℤ, pos, ◌+ℤ◌, ◌-ℤ◌, suc, Bool, true, false, cond, List, [], ◌∷◌, length, map, find, position, slice_get, Option, Some, None, is_some, option_map, Result, Ok, Err, refl, ap, arith, subst, add-zero}
+use Rattle.std.proofs.Common.{◌≡◌, ◌∙◌, ◌<◌, ◌+◌, ◌==◌, ℕ, ℤ, pos, ◌+ℤ◌, ◌-ℤ◌, suc, Bool, true, false, cond, List, [], ◌∷◌, length, map, find, position, slice_get, Option, Some, None, Result, Ok, Err, refl, ap, arith, subst, add-zero}
 use Rattle.std.specs.List.{range_with_len}
 use Rattle.std.specs.Option.{ok_or, option_or, option_map_or}
 use Rattle.std.specs.Cmp.Derive.{both_true}
@@ -12,8 +12,7 @@ use Rattle.journey_model.specs.Propagation.{timed}
 use Rattle.journey_model.specs.Readings.{are_near, fits_trip, is_near}
 use Rattle.journey_model.specs.Records.{recorded}
 use Rattle.journey_model.specs.Runs.{Run, planned_at}
-use Rattle.journey_model.specs.Schedules.{Schedule, in_window, run_from, run_on}
-use Rattle.service_day.specs.Windows.{start_in}
+use Rattle.journey_model.specs.Schedules.{Schedule, run_on}
 use Rattle.journey_model.specs.Times.{both_times, delay_fault, event_fault, is_delay}
 use Rattle.journey_model.specs.declared.fault.Fault.{Fault}
 use Rattle.journey_model.specs.declared.fault.Fault.TheVariants.{DelayRange, NotRunning, OutOfWindow, UnknownJourney}

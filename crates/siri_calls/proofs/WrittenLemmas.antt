@@ -1,5 +1,5 @@
 -- The text of a delivery is that of its pieces.
-use Rattle.std.proofs.Common.{◌≡◌, ◌∙◌, ℕ, ℤ, ◌+◌, Bool, true, false, List, [], ◌∷◌, ◌++◌, map, codes, unwrap_or, Option, Some, None, refl, ap, sym, append_assoc, slice_get, drop, length, ◌<◌}
+use Rattle.std.proofs.Common.{◌≡◌, ◌∙◌, ℕ, ℤ, ◌+◌, Bool, true, false, List, [], ◌∷◌, ◌++◌, map, codes, unwrap_or, Option, Some, None, refl, ap, sym, append_assoc, slice_get, drop}
 use Rattle.std.proofs.lemmas.List.{drop_more}
 use Rattle.std.proofs.lemmas.Option.{get_or_from_slice_get, slice_get_within}
 use Rattle.json.specs.Print.{escape_byte, quoted}
@@ -7,7 +7,6 @@ use Rattle.service_day.specs.DayTexts.{dashed_text}
 use Rattle.service_day.specs.Utc.{moment_text}
 use Rattle.serde_json.specs.Data.{Items, array, boolean, string}
 use Rattle.serde_json.specs.Written.{comma_if, compact_text, items_text}
-use Rattle.stop_schedule.specs.Planned.{planned}
 use Rattle.stop_schedule.specs.declared.stop_times.StopRow.{StopRow}
 use Rattle.journey_model.specs.Runs.{Run}
 use Rattle.journey_model.specs.Schedules.{Schedule, run_on}

@@ -1,5 +1,5 @@
 //! Strings, moments and numbers of JSON, written behind what leads to them.
-ghost use Rattle.std.specs.Prelude.{◌≡◌, ◌++◌, ◌<◌, OnOk};
+ghost use Rattle.std.specs.Prelude.{◌≡◌, ◌++◌, ◌∷◌, [], ◌<◌, IsTrue, OnOk};
 ghost use Rattle.std.specs.Char.{digit_char};
 ghost use Rattle.json.specs.Print.{escape, escape_byte, escape_letter, quoted};
 ghost use Rattle.service_day.specs.Utc.{IsMoment};
@@ -59,10 +59,31 @@ fn put_byte(out: &mut Bytes, byte: u8) -> Result<(), AllocError>
     out.push(byte)
 }
 
+// Whether a byte stands in a string as it is.
+fn is_plain(byte: u8) -> bool
+    ensures { IsTrue result → escape_byte byte ≡ byte ∷ [] }
+{
+    byte >= 0x20 && byte != b'"' && byte != b'\\'
+}
+
+// Whether a text stands in a string as it is. It looks at all bytes, which is done for many at once.
+fn are_plain(text: &[u8]) -> bool
+    ensures { IsTrue result → escape text.now ≡ text.now }
+{
+    let mut plain = true;
+    for byte in text {
+        plain = plain & is_plain(*byte);
+    }
+    plain
+}
+
 // Adds the inside of a string.
 fn put_escaped(out: &mut Bytes, text: &[u8]) -> Result<(), AllocError>
     ensures { OnOk result (out.new ≡ out.old ++ escape text.now) }
 {
+    if are_plain(text) {
+        return out.extend(text);
+    }
     for byte in text {
         put_byte(out, *byte)?;
     }

@@ -5,7 +5,7 @@ use Rattle.propagation.proofs.PlaceLemmas.{placed_none, placed_more, placed_all-
 use Rattle.propagation.proofs.placing.placed_all.Goals as goal
 
 pub loop-number-init : goal.loop-number-init
-loop-number-init c = rw c.new-all.ensures.empty (placed_none (run_of c.args.table.now.stops c.args.dated.now) c.args.updates.now)
+loop-number-init c = rw c.in_ok-all.ensures (placed_none (run_of c.args.table.now.stops c.args.dated.now) c.args.updates.now)
 
 pub loop-number-preserved : goal.loop-number-preserved
 loop-number-preserved c =

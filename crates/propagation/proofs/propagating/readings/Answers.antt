@@ -7,7 +7,7 @@ use Rattle.propagation.proofs.propagating.readings.Goals as goal
 use Rattle.propagation.proofs.propagating.readings.Goals.{then-is_some, else-is_some}
 
 pub loop-place-init : goal.loop-place-init
-loop-place-init c = λ ids updates rising same. spread_none (run_of ids c.args.dated.now) updates c.args.placed.now c.new-all.result c.new-all.ensures.empty rising same
+loop-place-init c = λ ids updates rising same. spread_none (run_of ids c.args.dated.now) updates c.args.placed.now _ c.in_ok-all.ensures rising same
 
 pub loop-place-preserved : goal.loop-place-preserved
 loop-place-preserved c = λ ids updates rising same.

@@ -1,5 +1,5 @@
 -- the calls so far, and behind them the text of the others
-use Rattle.std.proofs.Common.{◌≡◌, ◌+◌, ◌++◌, false, drop, length, nat_lt}
+use Rattle.std.proofs.Common.{◌≡◌, ◌+◌, ◌++◌, false, drop, nat_lt}
 use Rattle.siri_calls.specs.DeliveryTree.{stop_readings}
 use Rattle.siri_calls.specs.DeliveryTexts.{calls_text}
 use Rattle.siri_calls.specs.TripRuns.{run_over}

@@ -1,5 +1,5 @@
 -- A reading at a place of the trip.
-use Rattle.std.proofs.Common.{◌≡◌, ◌<◌, true, length, slice_get, Some, arith, ap, subst}
+use Rattle.std.proofs.Common.{◌≡◌, ◌<◌, true, length, arith, ap, subst}
 use Rattle.std.proofs.lemmas.Option.{slice_get-get_or}
 use Rattle.journey_model.specs.Readings.{fits_trip}
 use Rattle.journey_model.specs.declared.readings.JourneyReading.{JourneyReading}
