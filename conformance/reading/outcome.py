@@ -18,8 +18,6 @@ from .zones import ZoneRefused, read_rule, read_zone_file
 MOST_BODY_BYTES = 16_777_216
 MOST_ZONE_BYTES = 1_048_576
 MOST_CALLS = 400_000
-MOST_JOURNEYS = 50_000
-MOST_SITUATIONS = 5_000
 DIFFERENTIAL = 1
 
 
@@ -87,7 +85,8 @@ def read_zone(work, files):
 
 def to_gtfsrt(work, files, context):
     """Of several records of a journey the one recorded last counts, of equal ones the later arrival; of
-    several situations of a number the greatest version, in the same way."""
+    several situations of a number the greatest version, in the same way. As docs/DECISIONS.md has it, none is
+    set aside as Full: until the server stands any number of them is kept."""
     journeys, situations = {}, {}
     reports = ""
     for kind, path in work.further:
@@ -119,9 +118,6 @@ def take_journeys(verdicts, journeys):
             items.append((verdict, 0))
             continue
         key = verdict.day, verdict.trip
-        if key not in journeys and len(journeys) == MOST_JOURNEYS:
-            items.append(("Full", verdict.extra_calls))
-            continue
         if key not in journeys or verdict.at >= journeys[key].at:
             journeys[key] = verdict
         items.append((None, verdict.extra_calls))
@@ -138,9 +134,6 @@ def take_situations(verdicts, situations):
         length = len(alerts.alert_body(verdict))
         if length > alerts.MOST_BYTES:
             items.append((f"EntityTooLong {length}", verdict.unknown_references))
-            continue
-        if verdict.number not in situations and len(situations) == MOST_SITUATIONS:
-            items.append(("Full", verdict.unknown_references))
             continue
         kept = situations.get(verdict.number)
         if kept is None or verdict.version >= kept.version:
