@@ -1,0 +1,4 @@
+pub mod DataLemmas
+pub mod MemberLemmas
+pub mod RangeLemmas
+pub mod NumberLemmas

@@ -1,0 +1,13 @@
+//! JSON as a tree whose texts stand where they were read (RFC 8259). Its data is what `serde_json` reads from the text, by
+//! that crate's definition `read`.
+#![tactic(auto)]
+
+mod looking;
+mod numbers;
+mod reading;
+#[cfg(test)]
+mod tests;
+
+pub use looking::find;
+pub use numbers::whole_number;
+pub use reading::{TreeFault, read_tree};
