@@ -2,3 +2,4 @@ pub mod DataLemmas
 pub mod MemberLemmas
 pub mod RangeLemmas
 pub mod NumberLemmas
+pub mod ArrayLemmas

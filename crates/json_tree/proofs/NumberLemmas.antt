@@ -1,5 +1,5 @@
 -- The texts of numbers, with and without a minus.
-use Rattle.std.proofs.Common.{◌≡◌, ◌∙◌, ◌==◌, ◌&&◌, ◌<◌, ◌^◌, ℕ, List, Bool, true, false, drop, get_or, nat_lt, nat_le, length, Option, Some, None, option_and_then, refl, sym, ap, if◌then◌else◌, arith, rules}
+use Rattle.std.proofs.Common.{◌≡◌, ◌∙◌, ◌==◌, ◌&&◌, ◌<◌, ◌^◌, ℕ, List, Bool, true, false, drop, get_or, nat_lt, nat_le, length, Option, Some, None, option_and_then, pos, unwrap_or, refl, sym, ap, if◌then◌else◌, arith, rules}
 use Rattle.std.specs.Float.{binary64, float_is_finite}
 use Rattle.fast_float.specs.Text.{Parts, scan, digits_of, nearest, with_sign, minus}
 use Rattle.serde_json.specs.Data.{Num, unsigned, negative, float}
@@ -24,3 +24,7 @@ never_unsigned p = by (is_integer p && nat_lt 0 (digits_of p) && nat_le (digits_
     by : (b : Bool) → option_and_then as_u64 (if b then Some (negative (with_sign true (digits_of p))) else float_of true p) ≡ None
     by true = refl
     by false = no_float (float_is_finite (nearest binary64 true p)) (nearest binary64 true p)
+
+pub as_whole : (found : Option Num) → option_and_then as_u64 found ≡ as_u64 (unwrap_or found (negative (pos 0)))
+as_whole None = refl
+as_whole (Some n) = refl

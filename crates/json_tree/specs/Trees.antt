@@ -1,19 +1,19 @@
 -- What a JSON tree over borrowed text is as data: a number has its value, and of members of one name the last counts.
-use Rattle.std.specs.Prelude.{List, ℕ, unwrap_or}
+use Rattle.std.specs.Prelude.{List, ℕ, pos, unwrap_or}
 use Rattle.std.specs.declared.alloc.Global.{Global}
 use Rattle.json.specs.Json as json
 use Rattle.json.specs.Value.{value_view}
 use Rattle.json.specs.declared.value.Value.{Value}
-use Rattle.serde_json.specs.Data.{Num, unsigned, Data, null, boolean, number, string, array, object, Items, no_items, item, Members, no_members, put}
+use Rattle.serde_json.specs.Data.{Num, negative, Data, null, boolean, number, string, array, object, Items, no_items, item, Members, no_members, put}
 use Rattle.serde_json.specs.Read.{number_of}
 
 -- a tree over borrowed text
 abbrev pub Tree : Type 0
 Tree = Value Global
 
--- the number that a text writes; of a tree that was read each is in range
+-- the number that a text writes; of a tree that was read each is in range, and what stands for others is never met
 abbrev pub num : List ℕ → Num
-num text = unwrap_or (number_of text) (unsigned 0)
+num text = unwrap_or (number_of text) (negative (pos 0))
 
 abbrev mutual
   pub data_of : json.Json → Data

@@ -1,6 +1,7 @@
 //! The texts of numbers.
 ghost use Rattle.std.specs.Prelude.{◌≡◌, ◌==◌, false, true, is_some, option_and_then, slice_index, length, ◌<◌, IsTrue};
 ghost use Rattle.serde_json.specs.Find.{as_u64};
+ghost use Rattle.json_tree.specs.Trees.{num};
 ghost use Rattle.serde_json.specs.Read.{number_of, number_from, float_of};
 
 use fast_float::Numeral;
@@ -63,7 +64,7 @@ fn unsigned(numeral: &Numeral<'_>) -> Option<u64>
 
 /// The number that a text writes, if it is one in decimal digits alone, below 2^64.
 pub fn whole_number(text: &str) -> Option<u64>
-    ensures value { result ≡ option_and_then as_u64 (number_of text.now) }
+    ensures value { result ≡ as_u64 (num text.now) }
 {
     let bytes = text.as_bytes();
     if has_minus(bytes) {

@@ -20,7 +20,6 @@ pub enum TreeFault {
     Memory,
 }
 
-
 // How deep arrays and objects may nest.
 const MOST_DEPTH: usize = 127;
 
@@ -51,7 +50,11 @@ fn are_in_range(tree: &Value<'_>) -> bool
 }
 
 // The tree of a text whose numbers may be out of range.
-fn any_tree<'a>(alloc: Global, text: &'a str, scratch: &'a mut Scratch) -> Result<Value<'a>, TreeFault>
+fn any_tree<'a>(
+    alloc: Global,
+    text: &'a str,
+    scratch: &'a mut Scratch,
+) -> Result<Value<'a>, TreeFault>
     ensures tree { IfOk result (λ tree. read text.now ≡ of_json (value_view tree)) }
     ensures fault { IfErr result (Says (read text.now ≡ None)) }
 {
@@ -71,7 +74,11 @@ fn any_tree<'a>(alloc: Global, text: &'a str, scratch: &'a mut Scratch) -> Resul
 }
 
 // The tree of a text.
-fn tree_of_text<'a>(alloc: Global, text: &'a str, scratch: &'a mut Scratch) -> Result<Value<'a>, TreeFault>
+fn tree_of_text<'a>(
+    alloc: Global,
+    text: &'a str,
+    scratch: &'a mut Scratch,
+) -> Result<Value<'a>, TreeFault>
     ensures tree { IfOk result (λ tree. read text.now ≡ Some (view tree)) }
     ensures fault { IfErr result (Says (read text.now ≡ None)) }
 {
@@ -85,7 +92,11 @@ fn tree_of_text<'a>(alloc: Global, text: &'a str, scratch: &'a mut Scratch) -> R
 
 /// The tree of bytes that are JSON in UTF-8 (RFC 8259), as `serde_json` reads it. `scratch` has room for texts with escapes.
 /// Want of memory may come in the place of any answer.
-pub fn read_tree<'a>(alloc: Global, bytes: &'a [u8], scratch: &'a mut Scratch) -> Result<Value<'a>, TreeFault>
+pub fn read_tree<'a>(
+    alloc: Global,
+    bytes: &'a [u8],
+    scratch: &'a mut Scratch,
+) -> Result<Value<'a>, TreeFault>
     ensures text { IfOk result (λ _. IsUtf8 bytes.now) }
     ensures tree { IfOk result (λ tree. read bytes.now ≡ Some (view tree)) }
     ensures fault { IfErr result (Says (IsUtf8 bytes.now → read bytes.now ≡ None)) }

@@ -1,5 +1,5 @@
 -- The verdicts of items, one after the other.
-use Rattle.std.proofs.Common.{◌≡◌, ◌∙◌, ℕ, ◌+◌, ◌<◌, ◌≤◌, refl, sym, ap, subst, Bool, true, false, List, [], ◌∷◌, ◌++◌, length, get_or, map, take, Some, None, Result, Ok, Err}
+use Rattle.std.proofs.Common.{◌≡◌, ◌∙◌, ℕ, ◌+◌, ◌<◌, ◌≤◌, refl, sym, ap, subst, Bool, true, false, List, [], ◌∷◌, ◌++◌, length, get_or, map, take, Option, Some, None, Result, Ok, Err}
 use Rattle.std.proofs.lemmas.Grind.{flat_map-append}
 use Rattle.std.proofs.lemmas.List.{append_assoc, append-nil, map-append, take_all, take_more}
 use Rattle.std.proofs.lemmas.Str.{is_utf8-from_IsUtf8, IsUtf8-from_is_utf8}
@@ -11,9 +11,12 @@ use Rattle.journey_model.specs.Schedules.{Schedule}
 use Rattle.journey_model.specs.declared.fault.Fault.{Fault}
 use Rattle.serde_json.specs.Data.{Data}
 use Rattle.serde_json.specs.Read.{read}
-use Rattle.serde_json.specs.View.{view}
-use Rattle.serde_json.specs.declared.value.Value.{Value}
-use Rattle.siri_calls.specs.Deliveries.{HasVerdicts, ReadsBody, ReadsTree}
+use Rattle.json_tree.specs.Trees.{Tree, view}
+use Rattle.json_tree.specs.Faults.{Says}
+use Rattle.json_tree.specs.declared.reading.TreeFault.{TreeFault}
+use Rattle.json_tree.specs.declared.reading.TreeFault.TheVariants as tree
+use Rattle.siri_calls.specs.Deliveries.{HasVerdicts, Reads, ReadsBody, ReadsTree}
+use Rattle.siri_calls.specs.Refusals.{refusal}
 use Rattle.siri_calls.specs.Frame.{Place, frames_in, item_place, items_below, repeated_under}
 use Rattle.siri_calls.specs.Shown.{IsFrameFault}
 use Rattle.siri_calls.specs.Verdicts.{tree_of, verdict, verdicts}
@@ -41,12 +44,12 @@ items_step verdict_of delivery earlier all i one found within at is has =
     ∙ ap (λ rest. earlier ++ rest) (ap (λ last. map verdict_of (take i all) ++ last ∷ []) is ∙ sym (map-take_more verdict_of all i one within at)) in
     subst (HasVerdicts delivery) same has
 
-mapped : (schedule : Schedule) (frame : Place) (trees : List Value)
+mapped : (schedule : Schedule) (frame : Place) (trees : List Tree)
     → map (λ tree. verdict schedule (item_place frame (view tree))) trees ≡ map (verdict schedule) (map (item_place frame) (map view trees))
 mapped schedule frame [] = refl
 mapped schedule frame (tree ∷ trees) = ap (λ rest. verdict schedule (item_place frame (view tree)) ∷ rest) (mapped schedule frame trees)
 
-pub items_end : (schedule : Schedule) (frame : Place) (trees : List Value) (delivery : Delivery) (earlier : List Verdict) (i : ℕ) → length trees ≤ i
+pub items_end : (schedule : Schedule) (frame : Place) (trees : List Tree) (delivery : Delivery) (earlier : List Verdict) (i : ℕ) → length trees ≤ i
     → map view trees ≡ repeated_under Member.EstimatedVehicleJourney frame.tree
     → HasVerdicts delivery (earlier ++ map (λ tree. verdict schedule (item_place frame (view tree))) (take i trees))
     → HasVerdicts delivery (earlier ++ map (verdict schedule) (items_below frame))
@@ -83,13 +86,26 @@ without_memory : (answer : Result (List Verdict) Member) → ReadsTree answer (E
 without_memory (Ok all) = refl
 without_memory (Err member) = tt
 
--- the way down is broken, and all items were read
-pub frame_fault : (schedule : Schedule) (body : List ℕ) (root : Data) (fault : declared.DeliveryFault) → tree_of body ≡ Some root → IsFrameFault (frames_in root) fault
-    → ReadsBody schedule body (Err fault)
-frame_fault schedule body root DeliveryFault.NotJson e h = absurd h
-frame_fault schedule body root (DeliveryFault.NotDelivery member) e h = rw (e, h) refl
-frame_fault schedule body root DeliveryFault.Memory e h = rw e (without_memory (verdicts schedule root))
+memory_for_any : (schedule : Schedule) (found : Option Data) → Reads schedule found (Err DeliveryFault.Memory)
+memory_for_any schedule None = tt
+memory_for_any schedule (Some root) = without_memory (verdicts schedule root)
 
-pub all_read : (schedule : Schedule) (body : List ℕ) (root : Data) (frames : List Place) (delivery : Delivery) → tree_of body ≡ Some root
-    → frames_in root ≡ Ok frames → HasVerdicts delivery (map (verdict schedule) (flat_map items_below frames)) → ReadsBody schedule body (Ok delivery)
-all_read schedule body root frames delivery e found has = rw (e, found) has
+pub body_refused : (schedule : Schedule) (body : List ℕ) (fault : TreeFault) → Says (IsUtf8 body → read body ≡ None) fault → ReadsBody schedule body (Err (refusal fault))
+body_refused schedule body tree.NotJson none = body_not_read schedule body none
+body_refused schedule body tree.Memory said = memory_for_any schedule (tree_of body)
+
+-- the way down is broken, and all items were read
+pub frame_fault : (schedule : Schedule) (root : Data) (fault : declared.DeliveryFault) → IsFrameFault (frames_in root) fault
+    → ReadsTree (verdicts schedule root) (Err fault)
+frame_fault schedule root DeliveryFault.NotJson h = absurd h
+frame_fault schedule root (DeliveryFault.NotDelivery member) h = rw h refl
+frame_fault schedule root DeliveryFault.Memory h = without_memory (verdicts schedule root)
+
+pub all_read : (schedule : Schedule) (root : Data) (frames : List Place) (delivery : Delivery)
+    → frames_in root ≡ Ok frames → HasVerdicts delivery (map (verdict schedule) (flat_map items_below frames)) → ReadsTree (verdicts schedule root) (Ok delivery)
+all_read schedule root frames delivery found has = rw found has
+
+-- the answer over a body that was read is that over its tree
+pub body_delivery : (schedule : Schedule) (body : List ℕ) (root : Data) (answer : Result Delivery declared.DeliveryFault) → tree_of body ≡ Some root
+    → ReadsTree (verdicts schedule root) answer → ReadsBody schedule body answer
+body_delivery schedule body root answer e reads = rw e reads

@@ -5,8 +5,7 @@ use Rattle.std.proofs.lemmas.List.{append_assoc}
 use Rattle.std.proofs.lemmas.List.Folds.{list_all-append}
 use Rattle.journey_model.specs.Chains.{◌>>=◌}
 use Rattle.gw_base.specs.declared.member.Member.{Member}
-use Rattle.serde_json.specs.View.{view}
-use Rattle.serde_json.specs.declared.value.Value.{Value}
+use Rattle.json_tree.specs.Trees.{Tree, view}
 use Rattle.siri_calls.specs.Forms.{is_object}
 use Rattle.siri_calls.specs.Frame.{Place, has_object, all_objects, frames_below, frame_place, frames_of, repeated_under}
 use Rattle.siri_calls.specs.Shown.{ok_map, IsFrameFault}
@@ -15,15 +14,15 @@ use Rattle.siri_calls.specs.declared.delivery.DeliveryFault.TheVariants as deliv
 use Rattle.siri_calls.proofs.TreeLemmas.{list_all-map}
 
 -- the trees of frames are objects, and then so are the frames
-framed : (place : Place) (trees : List Value) → list_all has_object (map (frame_place place) (map view trees)) ≡ list_all (λ tree. is_object (view tree)) trees
+framed : (place : Place) (trees : List Tree) → list_all has_object (map (frame_place place) (map view trees)) ≡ list_all (λ tree. is_object (view tree)) trees
 framed place trees = sym (list_all-map has_object (frame_place place) (map view trees)) ∙ sym (list_all-map is_object view trees)
 
-pub frames_there : (place : Place) (trees : List Value) (old new : List Place) → map view trees ≡ repeated_under Member.EstimatedJourneyVersionFrame place.tree
+pub frames_there : (place : Place) (trees : List Tree) (old new : List Place) → map view trees ≡ repeated_under Member.EstimatedJourneyVersionFrame place.tree
     → list_all (λ tree. is_object (view tree)) trees ≡ true → new ≡ old ++ map (frame_place place) (map view trees)
     → ok_map (λ frames. old ++ frames) (all_objects (frames_below place)) ≡ Ok new
 frames_there place trees old new same objects found = rw (← same, framed place trees, objects) (ap Ok (sym found))
 
-pub frames_wrong : (place : Place) (trees : List Value) → map view trees ≡ repeated_under Member.EstimatedJourneyVersionFrame place.tree
+pub frames_wrong : (place : Place) (trees : List Tree) → map view trees ≡ repeated_under Member.EstimatedJourneyVersionFrame place.tree
     → list_all (λ tree. is_object (view tree)) trees ≡ false → all_objects (frames_below place) ≡ Err Member.EstimatedJourneyVersionFrame
 frames_wrong place trees same none = rw (← same, framed place trees, none) refl
 

@@ -2,8 +2,8 @@
 use Rattle.std.proofs.Common.{◌≡◌, refl, ap, List, [], ◌∷◌, Bool, ◌&&◌, map, if◌then◌else◌}
 use Rattle.std.specs.List.{list_all}
 use Rattle.serde_json.specs.Data.{Data}
-use Rattle.serde_json.specs.View.{items_of, view}
-use Rattle.serde_json.specs.declared.value.Value.{Value}
+use Rattle.serde_json.specs.View.{items_of}
+use Rattle.json_tree.specs.Trees.{Tree, view}
 use Rattle.siri_calls.specs.Forms.{listed, is_object, objects, repeated}
 use Rattle.siri_calls.specs.declared.forms.Form.TheVariants.{Wrong, Found}
 
@@ -18,6 +18,6 @@ list_all-map test shown [] = refl
 list_all-map test shown (one ∷ others) = ap (λ rest. test (shown one) && rest) (list_all-map test shown others)
 
 -- the form of a repeated element by its items
-pub objects_by : (tree : Data) (trees : List Value) (test : Bool) → map view trees ≡ repeated tree
+pub objects_by : (tree : Data) (trees : List Tree) (test : Bool) → map view trees ≡ repeated tree
     → test ≡ list_all (λ one. is_object (view one)) trees → (if test then Found (map view trees) else Wrong) ≡ objects tree
 objects_by tree trees test same tested = rw (← same, tested, list_all-map is_object view trees) refl

@@ -9,6 +9,7 @@ pub mod Journeys
 pub mod Judged
 pub mod Judgements
 pub mod MatchedCalls
+pub mod Refusals
 pub mod SaidAgain
 pub mod Sayable
 pub mod Seen

@@ -2,8 +2,7 @@
 use Rattle.std.specs.Prelude.{ℕ, ℤ, List, [], ◌∷◌, map, Option, option_map, Result, Ok, Err, ⊤, ◌≡◌}
 use Rattle.journey_model.specs.declared.fault.Fault.{Fault}
 use Rattle.serde_json.specs.Data.{Data}
-use Rattle.serde_json.specs.View.{view}
-use Rattle.serde_json.specs.declared.value.Value.{Value}
+use Rattle.json_tree.specs.Trees.{Tree, view}
 use Rattle.service_day.specs.declared.moments.Instant.{Instant}
 use Rattle.siri_calls.specs.declared.forms.Form.{Form}
 use Rattle.siri_calls.specs.declared.forms.Form.TheVariants.{Missing, Wrong, Found}
@@ -33,14 +32,14 @@ text_form form = form_map (λ text. text.now) form
 abbrev pub moment_form : Form Instant → Form (ℤ × ℕ)
 moment_form form = form_map instant_of form
 
-abbrev pub tree_form : Form (Bor Value) → Form Data
+abbrev pub tree_form : Form (Bor Tree) → Form Data
 tree_form form = form_map (λ tree. view tree.now) form
 
 -- the trees of a slice
-abbrev pub trees_of : Bor (List Value) → List Data
+abbrev pub trees_of : Bor (List Tree) → List Data
 trees_of trees = map view trees.now
 
-abbrev pub trees_form : Form (Bor (List Value)) → Form (List Data)
+abbrev pub trees_form : Form (Bor (List Tree)) → Form (List Data)
 trees_form form = form_map trees_of form
 
 -- an answer of what is shown
@@ -55,16 +54,16 @@ optional_text answer = ok_map (option_map (λ text. text.now)) answer
 abbrev pub optional_moment : Result (Option Instant) Fault → Result (Option (ℤ × ℕ)) Fault
 optional_moment answer = ok_map (option_map instant_of) answer
 
-abbrev pub optional_tree : Result (Option (Bor Value)) Fault → Result (Option Data) Fault
+abbrev pub optional_tree : Result (Option (Bor Tree)) Fault → Result (Option Data) Fault
 optional_tree answer = ok_map (option_map (λ tree. view tree.now)) answer
 
-abbrev pub optional_trees : Result (Option (Bor (List Value))) Fault → Result (Option (List Data)) Fault
+abbrev pub optional_trees : Result (Option (Bor (List Tree))) Fault → Result (Option (List Data)) Fault
 optional_trees answer = ok_map (option_map trees_of) answer
 
 abbrev pub required_text : Result (Bor (List ℕ)) Fault → Result (List ℕ) Fault
 required_text answer = ok_map (λ text. text.now) answer
 
-abbrev pub required_tree : Result (Bor Value) Fault → Result Data Fault
+abbrev pub required_tree : Result (Bor Tree) Fault → Result Data Fault
 required_tree answer = ok_map (λ tree. view tree.now) answer
 
 -- a fault is that of an answer, unless it is want of memory
@@ -73,7 +72,7 @@ IsFaultOf answer (Aside fault) = answer ≡ Err fault
 IsFaultOf answer Memory = ⊤
 
 -- a place of a delivery
-abbrev pub tree_at : Option (Bor Value) → Option Data
+abbrev pub tree_at : Option (Bor Tree) → Option Data
 tree_at found = option_map (λ tree. view tree.now) found
 
 abbrev pub place_of : the_place.Place → Place

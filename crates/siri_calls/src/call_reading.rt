@@ -2,7 +2,7 @@
 //! `specs/Calls.antt`.
 ghost use Rattle.std.specs.Prelude.{◌≡◌, ◌++◌, map, Ok, Some, IfOk, IfErr, option_map};
 ghost use Rattle.std.specs.Option.{ForSome};
-ghost use Rattle.serde_json.specs.View.{view};
+ghost use Rattle.json_tree.specs.Trees.{view};
 ghost use Rattle.service_day.specs.Utc.{IsMoment};
 ghost use Rattle.siri_calls.specs.Calls as spec;
 ghost use Rattle.siri_calls.specs.Seen.{call_of, calls_of};
@@ -13,10 +13,11 @@ use crate::fields::{
     optional_flag, optional_moment, optional_object, optional_objects, optional_text,
     optional_whole, required_text,
 };
+use crate::forms::none;
 use crate::read_fault::ReadFault;
 use gw_base::Member;
 use journey_model::Fault;
-use serde_json::Value;
+use json::Value;
 use service_day::{Instant, Zone};
 use std::alloc::Global;
 
@@ -32,7 +33,7 @@ pub(crate) struct Statuses {
 }
 
 // Whether a status, where there is one, is `cancelled`, in any case of its letters.
-fn status(tree: &Value, member: Member) -> Result<Option<bool>, Fault>
+fn status(tree: &Value<'_>, member: Member) -> Result<Option<bool>, Fault>
     ensures { result ≡ spec.status member (view tree.now) }
 {
     match optional_text(tree, member) {
@@ -62,7 +63,7 @@ fn is_skip(cancellation: Option<bool>, arrival: Option<bool>, departure: Option<
 }
 
 // What a call says of whether the journey stops there.
-fn read_statuses(tree: &Value) -> Result<Statuses, Fault>
+fn read_statuses(tree: &Value<'_>) -> Result<Statuses, Fault>
     ensures { result ≡ spec.statuses (view tree.now) }
 {
     let cancellation = optional_flag(tree, Member::Cancellation)?;
@@ -93,7 +94,7 @@ fn event_time(none: bool, actual: Option<Instant>, expected: Option<Instant>) ->
 
 // The time of an event by its two members, in whole seconds since 1970.
 fn event(
-    tree: &Value,
+    tree: &Value<'_>,
     zone: &Zone,
     none: bool,
     actual: Member,
@@ -108,7 +109,7 @@ fn event(
 }
 
 // A call that is no extra call.
-fn read_call<'a>(tree: &'a Value, zone: &Zone) -> Result<Call<'a>, Fault>
+fn read_call<'a>(tree: &'a Value<'_>, zone: &Zone) -> Result<Call<'a>, Fault>
     ensures { ok_map call_of result ≡ spec.call_read zone.now (view tree.now) }
 {
     let stop = required_text(tree, Member::StopPointRef)?;
@@ -142,7 +143,7 @@ fn read_call<'a>(tree: &'a Value, zone: &Zone) -> Result<Call<'a>, Fault>
 }
 
 // A call; None where it is an extra call, of which the other members aren't read.
-fn call_unless_extra<'a>(tree: &'a Value, zone: &Zone) -> Result<Option<Call<'a>>, Fault>
+fn call_unless_extra<'a>(tree: &'a Value<'_>, zone: &Zone) -> Result<Option<Call<'a>>, Fault>
     ensures { ok_map (option_map call_of) result ≡ spec.call zone.now (view tree.now) }
 {
     let extra = optional_flag(tree, Member::ExtraCall)?;
@@ -154,29 +155,39 @@ fn call_unless_extra<'a>(tree: &'a Value, zone: &Zone) -> Result<Option<Call<'a>
 }
 
 // The trees of the calls in an object.
-fn trees_in(parent: &Value, member: Member) -> Result<&[Value], Fault>
+fn trees_in<'t, 'a>(parent: &'t Value<'a>, member: Member) -> Result<&'t [Value<'a>], Fault>
     ensures { ok_map trees_of result ≡ spec.trees_in member (Some (view parent.now)) }
 {
     match optional_objects(parent, member)? {
         Some(trees) => Ok(trees),
-        None => Ok(&[]),
+        None => {
+            let trees: &'t [Value<'a>] = none();
+            Ok(trees)
+        }
     }
 }
 
 // The trees of the calls under one of the two members of a journey.
-fn trees_under(tree: &Value, group: Member, member: Member) -> Result<&[Value], Fault>
+fn trees_under<'t, 'a>(
+    tree: &'t Value<'a>,
+    group: Member,
+    member: Member,
+) -> Result<&'t [Value<'a>], Fault>
     ensures { ok_map trees_of result ≡ spec.trees_under group member (view tree.now) }
 {
     match optional_object(tree, group)? {
         Some(parent) => trees_in(parent, member),
-        None => Ok(&[]),
+        None => {
+            let trees: &'t [Value<'a>] = none();
+            Ok(trees)
+        }
     }
 }
 
 // The calls of trees, behind those that were found before.
 fn add_calls<'a>(
     found: &mut Vec<Option<Call<'a>>>,
-    trees: &'a [Value],
+    trees: &'a [Value<'_>],
     zone: &Zone,
 ) -> Result<(), ReadFault>
     ensures found { IfOk result (λ _.
@@ -194,8 +205,8 @@ fn add_calls<'a>(
 // The calls of two lists of trees.
 fn calls_in<'a>(
     alloc: Global,
-    recorded: &'a [Value],
-    estimated: &'a [Value],
+    recorded: &'a [Value<'_>],
+    estimated: &'a [Value<'_>],
     zone: &Zone,
 ) -> Result<Vec<Option<Call<'a>>>, ReadFault>
     ensures found { IfOk result (λ found.
@@ -218,7 +229,7 @@ fn calls_in<'a>(
 /// extra call.
 pub(crate) fn read_calls<'a>(
     alloc: Global,
-    tree: &'a Value,
+    tree: &'a Value<'_>,
     zone: &Zone,
 ) -> Result<Vec<Option<Call<'a>>>, ReadFault>
     ensures found { IfOk result (λ found.

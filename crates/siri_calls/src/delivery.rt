@@ -4,7 +4,8 @@ ghost use Rattle.std.specs.List.{flat_map};
 ghost use Rattle.journey_model.specs.Records.{Recorded};
 ghost use Rattle.journey_model.specs.Schedules.{Schedule, schedule_of};
 ghost use Rattle.journey_model.specs.declared.fault.Fault as faults;
-ghost use Rattle.siri_calls.specs.Deliveries.{AreServable, HasVerdicts, ReadsBody};
+ghost use Rattle.json_tree.specs.Trees.{view};
+ghost use Rattle.siri_calls.specs.Deliveries.{AreServable, HasVerdicts, ReadsBody, ReadsTree};
 ghost use Rattle.siri_calls.specs.Frame.{items_below};
 ghost use Rattle.siri_calls.specs.Judgements.{CanBeServed, shown_judged};
 ghost use Rattle.siri_calls.specs.Shown.{place_of};
@@ -15,7 +16,8 @@ use crate::items::{item_place, verdict};
 use crate::judgement::Judged;
 use gw_base::{List, Member};
 use journey_model::{Context, Fault, JourneyRecord};
-use serde_json::Value;
+use json::{Scratch, Value};
+use json_tree::{TreeFault, read_tree};
 use std::alloc::{AllocError, AllocFailed, Global};
 
 /// Why a delivery is refused.
@@ -48,6 +50,20 @@ impl<T: Drop> From<AllocFailed<T>> for DeliveryFault {
 
     fn from(_e: AllocFailed<T>) -> DeliveryFault {
         DeliveryFault::Memory
+    }
+}
+
+impl From<TreeFault> for DeliveryFault {
+    ghost use Rattle.std.specs.Prelude.{◌≡◌};
+    ghost use Rattle.siri_calls.specs.Refusals.{refusal};
+
+    ghost from_gives = { λ fault e. e ≡ refusal fault };
+
+    fn from(fault: TreeFault) -> DeliveryFault {
+        match fault {
+            TreeFault::NotJson => DeliveryFault::NotJson,
+            TreeFault::Memory => DeliveryFault::Memory,
+        }
     }
 }
 
@@ -104,7 +120,7 @@ fn add_item(delivery: &mut Delivery, judged: Judged) -> Result<(), AllocError>
 fn add_items(
     alloc: Global,
     delivery: &mut Delivery,
-    frame: &Place<'_>,
+    frame: &Place<'_, '_>,
     context: &Context<'_>,
 ) -> Result<(), AllocError>
     ensures verdicts { (earlier : Values (Answer (Recorded × ℕ) faults.Fault))
@@ -127,7 +143,7 @@ fn add_items(
 // What the items below frames are.
 fn all_items(
     alloc: Global,
-    frames: &[Place<'_>],
+    frames: &[Place<'_, '_>],
     context: &Context<'_>,
 ) -> Result<Delivery, AllocError>
     ensures verdicts { IfOk result (λ delivery. HasVerdicts delivery
@@ -146,6 +162,26 @@ fn all_items(
     Ok(delivery)
 }
 
+// What the delivery of a tree says.
+fn tree_delivery(
+    alloc: Global,
+    root: &Value<'_>,
+    context: &Context<'_>,
+) -> Result<Delivery, DeliveryFault>
+    ensures reads { ReadsTree (spec.verdicts (schedule_of context.now) (view root.now)) result }
+    ensures servable { IfOk result (λ delivery.
+        AreServable (schedule_of context.now) delivery.items) }
+{
+    let frames = match frames_in(alloc, root) {
+        Ok(frames) => frames,
+        Err(fault) => return Err(fault),
+    };
+    match all_items(alloc, frames.as_slice(), context) {
+        Ok(delivery) => Ok(delivery),
+        Err(AllocError) => Err(DeliveryFault::Memory),
+    }
+}
+
 /// Reads a delivery of estimated timetables (SIRI 2.0, EstimatedTimetableDelivery; in JSON after SIRI
 /// Lite): each journey of it, in document order, is taken, or set aside with its first fault. NotJson
 /// comes exactly where the body isn't JSON in UTF-8, NotDelivery where the way down to its journeys is
@@ -159,17 +195,9 @@ pub fn read_delivery(
     ensures servable { IfOk result (λ delivery.
         AreServable (schedule_of context.now) delivery.items) }
 {
-    let root = match Value::from_slice(alloc, body) {
-        Ok(root) => root,
-        Err(fault) if fault.is_memory() => return Err(DeliveryFault::Memory),
-        Err(_) => return Err(DeliveryFault::NotJson),
-    };
-    let frames = match frames_in(alloc, &root) {
-        Ok(frames) => frames,
-        Err(fault) => return Err(fault),
-    };
-    match all_items(alloc, frames.as_slice(), context) {
-        Ok(delivery) => Ok(delivery),
-        Err(AllocError) => Err(DeliveryFault::Memory),
+    let mut scratch = Scratch::new(alloc);
+    match read_tree(alloc, body, &mut scratch) {
+        Ok(root) => tree_delivery(alloc, &root, context),
+        Err(fault) => Err(DeliveryFault::from(fault)),
     }
 }

@@ -1,13 +1,14 @@
 //! The forms of members in JSON after SIRI Lite. The functions meet `specs/Forms.antt`.
-ghost use Rattle.std.specs.Prelude.{◌≡◌, codes, map};
+ghost use Rattle.std.specs.Prelude.{◌≡◌, [], codes, map};
 ghost use Rattle.std.specs.Char.{is_ascii_digit};
 ghost use Rattle.std.specs.List.{list_all};
 ghost use Rattle.serde_json.specs.Find.{get};
-ghost use Rattle.serde_json.specs.View.{view};
+ghost use Rattle.json_tree.specs.Trees.{view};
 ghost use Rattle.siri_calls.specs.Forms as spec;
 ghost use Rattle.siri_calls.specs.Shown.{text_form, moment_form, tree_form, trees_form};
 
-use serde_json::Value;
+use json::Value;
+use json_tree::{find, whole_number};
 use service_day::{Day, DayForm, Instant, Zone, read_day, read_moment};
 use std::slice;
 
@@ -37,12 +38,12 @@ fn filled(text: &str) -> Form<&str>
 }
 
 // The text under `value` in an object.
-fn text_under_value(tree: &Value) -> Form<&str>
+fn text_under_value<'t>(tree: &'t Value<'_>) -> Form<&'t str>
     ensures { text_form result ≡ spec.text_under_value (get (codes "value") (view tree.now)) }
 {
-    match tree.get("value") {
+    match find(tree, "value") {
         None | Some(Value::Null) => Form::Missing,
-        Some(Value::String(text)) => filled(text.as_str()),
+        Some(Value::String(text)) => filled(text),
         Some(Value::Array(items)) => match items.first() {
             None => Form::Missing,
             Some(_) => Form::Wrong,
@@ -52,19 +53,19 @@ fn text_under_value(tree: &Value) -> Form<&str>
 }
 
 // A string, or an object whose `value` is a string.
-fn plain_text(tree: &Value) -> Form<&str>
+fn plain_text<'t>(tree: &'t Value<'_>) -> Form<&'t str>
     ensures { text_form result ≡ spec.plain_text (view tree.now) }
 {
     match tree {
         Value::Null => Form::Missing,
-        Value::String(text) => filled(text.as_str()),
+        Value::String(text) => filled(text),
         Value::Object(_) => text_under_value(tree),
         _ => Form::Wrong,
     }
 }
 
 /// A Text.
-pub fn text(tree: &Value) -> Form<&str>
+pub fn text<'t>(tree: &'t Value<'_>) -> Form<&'t str>
     ensures { text_form result ≡ spec.text (view tree.now) }
 {
     match tree {
@@ -88,7 +89,7 @@ fn flag_named(text: &str) -> Form<bool>
 }
 
 /// A Flag: a Boolean, or a Text among `true`, `1`, `false` and `0`.
-pub fn flag(tree: &Value) -> Form<bool>
+pub fn flag(tree: &Value<'_>) -> Form<bool>
     ensures { result ≡ spec.flag (view tree.now) }
 {
     match tree {
@@ -122,11 +123,11 @@ fn whole_named(text: &str) -> Form<u64>
 }
 
 /// A Whole: a number in decimal digits alone, or a Text of 1 to 20 decimal digits, below 2^64.
-pub fn whole(tree: &Value) -> Form<u64>
+pub fn whole(tree: &Value<'_>) -> Form<u64>
     ensures { result ≡ spec.whole (view tree.now) }
 {
     match tree {
-        Value::Number(number) => match number.as_u64() {
+        Value::Number(number) => match whole_number(number) {
             Some(number) => Form::Found(number),
             None => Form::Wrong,
         },
@@ -139,7 +140,7 @@ pub fn whole(tree: &Value) -> Form<u64>
 }
 
 /// The moment that a Text names in a zone.
-pub fn moment(tree: &Value, zone: &Zone) -> Form<Instant>
+pub fn moment(tree: &Value<'_>, zone: &Zone) -> Form<Instant>
     ensures { moment_form result ≡ spec.moment zone.now (view tree.now) }
 {
     match text(tree) {
@@ -153,7 +154,7 @@ pub fn moment(tree: &Value, zone: &Zone) -> Form<Instant>
 }
 
 /// The day that a Text names, dashed or compact.
-pub fn day(tree: &Value) -> Form<Day>
+pub fn day(tree: &Value<'_>) -> Form<Day>
     ensures { result ≡ spec.day (view tree.now) }
 {
     match text(tree) {
@@ -167,14 +168,14 @@ pub fn day(tree: &Value) -> Form<Day>
 }
 
 /// An object.
-pub fn object_form(tree: &Value) -> Form<&Value>
+pub fn object_form<'t, 'a>(tree: &'t Value<'a>) -> Form<&'t Value<'a>>
     ensures { tree_form result ≡ spec.object_form (view tree.now) }
 {
     match tree {
         Value::Object(_) => Form::Found(tree),
         Value::Null => Form::Missing,
         Value::String(text) => {
-            if text.as_str().is_empty() {
+            if text.is_empty() {
                 Form::Missing
             } else {
                 Form::Wrong
@@ -188,34 +189,41 @@ pub fn object_form(tree: &Value) -> Form<&Value>
     }
 }
 
+/// No trees.
+pub fn none<'t, 'a>() -> &'t [Value<'a>]
+    ensures { result.now ≡ [] }
+{
+    &[]
+}
+
 /// The items of a repeated element, which is an array or one item.
-pub fn repeated(tree: &Value) -> &[Value]
+pub fn repeated<'t, 'a>(tree: &'t Value<'a>) -> &'t [Value<'a>]
     ensures { map view result.now ≡ spec.repeated (view tree.now) }
 {
     match tree {
         Value::Null => &[],
-        Value::String(text) if text.as_str().is_empty() => &[],
+        Value::String(text) if text.is_empty() => &[],
         Value::Array(items) => items.as_slice(),
         _ => slice::from_ref(tree),
     }
 }
 
 /// Whether a tree is an object.
-pub fn is_object(tree: &Value) -> bool
+pub fn is_object(tree: &Value<'_>) -> bool
     ensures { result ≡ spec.is_object (view tree.now) }
 {
     matches!(tree, Value::Object(_))
 }
 
 /// Whether each of some trees is an object.
-pub fn are_objects(trees: &[Value]) -> bool
+pub fn are_objects(trees: &[Value<'_>]) -> bool
     ensures { result ≡ list_all (λ tree. spec.is_object (view tree)) trees.now }
 {
     trees.iter().all(|tree| is_object(tree))
 }
 
 /// A repeated element whose items are objects.
-pub fn objects(tree: &Value) -> Form<&[Value]>
+pub fn objects<'t, 'a>(tree: &'t Value<'a>) -> Form<&'t [Value<'a>]>
     ensures { trees_form result ≡ spec.objects (view tree.now) }
 {
     let trees = repeated(tree);

@@ -2,7 +2,7 @@
 //! `specs/Verdicts.antt`.
 ghost use Rattle.std.specs.Prelude.{◌≡◌, ◌∷◌, [], codes};
 ghost use Rattle.serde_json.specs.Find.{get};
-ghost use Rattle.serde_json.specs.View.{view};
+ghost use Rattle.json_tree.specs.Trees.{view};
 ghost use Rattle.siri_calls.specs.Fields.{form_at};
 ghost use Rattle.siri_calls.specs.Forms as forms;
 ghost use Rattle.siri_calls.specs.Seen.{header_of};
@@ -14,7 +14,8 @@ use crate::forms::{Form, moment};
 use crate::frame::Place;
 use gw_base::Member;
 use journey_model::Fault;
-use serde_json::Value;
+use json::Value;
+use json_tree::find;
 use service_day::{Day, Instant, Zone};
 
 /// What a journey says before its calls.
@@ -33,7 +34,7 @@ pub(crate) struct Header<'a> {
 }
 
 // The moment of a member that may say when an item was recorded.
-fn moment_at(found: Option<&Value>, zone: &Zone) -> Form<Instant>
+fn moment_at(found: Option<&Value<'_>>, zone: &Zone) -> Form<Instant>
     ensures { moment_form result ≡ form_at (forms.moment zone.now) (tree_at found.entry) }
 {
     match found {
@@ -43,7 +44,7 @@ fn moment_at(found: Option<&Value>, zone: &Zone) -> Form<Instant>
 }
 
 // When an item was recorded by the objects above its frame.
-fn moment_above(place: &Place<'_>, zone: &Zone) -> Form<Instant>
+fn moment_above(place: &Place<'_, '_>, zone: &Zone) -> Form<Instant>
     ensures { moment_form result ≡ spec.first_moment zone.now
         (tree_at place.now.delivery ∷ tree_at place.now.service ∷ []) }
 {
@@ -55,11 +56,11 @@ fn moment_above(place: &Place<'_>, zone: &Zone) -> Form<Instant>
 }
 
 // When an item was recorded.
-fn first_moment(place: &Place<'_>, zone: &Zone) -> Form<Instant>
+fn first_moment(place: &Place<'_, '_>, zone: &Zone) -> Form<Instant>
     ensures { moment_form result ≡ spec.first_moment zone.now
         (get (codes "RecordedAtTime") (place_of place.now).tree ∷ (place_of place.now).further) }
 {
-    match moment_at(place.tree.get("RecordedAtTime"), zone) {
+    match moment_at(find(place.tree, "RecordedAtTime"), zone) {
         Form::Missing => match moment_at(place.frame, zone) {
             Form::Missing => moment_above(place, zone),
             Form::Wrong => Form::Wrong,
@@ -71,7 +72,7 @@ fn first_moment(place: &Place<'_>, zone: &Zone) -> Form<Instant>
 }
 
 // When an item was recorded, which has to be known.
-fn recorded_at(place: &Place<'_>, zone: &Zone) -> Result<Instant, Fault>
+fn recorded_at(place: &Place<'_, '_>, zone: &Zone) -> Result<Instant, Fault>
     ensures { ok_map instant_of result ≡ spec.recorded_at zone.now (place_of place.now) }
 {
     match first_moment(place, zone) {
@@ -81,7 +82,7 @@ fn recorded_at(place: &Place<'_>, zone: &Zone) -> Result<Instant, Fault>
 }
 
 // Whether the journey is cancelled, and whether it is an extra one.
-fn relation(tree: &Value) -> Result<(bool, bool), Fault>
+fn relation(tree: &Value<'_>) -> Result<(bool, bool), Fault>
     ensures { result ≡ spec.relation (view tree.now) }
 {
     let cancelled = optional_flag(tree, Member::Cancellation)?;
@@ -90,7 +91,7 @@ fn relation(tree: &Value) -> Result<(bool, bool), Fault>
 }
 
 /// What an item says before its calls, or its first fault.
-pub(crate) fn read_header<'a>(place: &Place<'a>, zone: &Zone) -> Result<Header<'a>, Fault>
+pub(crate) fn read_header<'t>(place: &Place<'t, '_>, zone: &Zone) -> Result<Header<'t>, Fault>
     ensures { ok_map header_of result ≡ spec.header zone.now (place_of place.now) }
 {
     let at = recorded_at(place, zone)?;

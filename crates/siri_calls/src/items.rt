@@ -1,7 +1,7 @@
 //! What an item of a delivery is. The functions meet `specs/Verdicts.antt`.
 ghost use Rattle.std.specs.Prelude.{◌≡◌, Ok, IfErr, IfOk};
 ghost use Rattle.journey_model.specs.Schedules.{schedule_of};
-ghost use Rattle.serde_json.specs.View.{view};
+ghost use Rattle.json_tree.specs.Trees.{view};
 ghost use Rattle.siri_calls.specs.Frame as places;
 ghost use Rattle.siri_calls.specs.Judgements.{CanBeServed, shown_judged};
 ghost use Rattle.siri_calls.specs.Seen.{calls_of};
@@ -18,7 +18,7 @@ use crate::judging::judged;
 use crate::read_fault::ReadFault;
 use gw_base::Member;
 use journey_model::{Context, Fault};
-use serde_json::Value;
+use json::Value;
 use service_day::Zone;
 use std::alloc::{AllocError, Global};
 
@@ -26,7 +26,7 @@ use std::alloc::{AllocError, Global};
 fn calls_unless<'a>(
     alloc: Global,
     cancelled: bool,
-    tree: &'a Value,
+    tree: &'a Value<'_>,
     zone: &Zone,
 ) -> Result<Vec<Option<Call<'a>>>, ReadFault>
     ensures found { IfOk result (λ found.
@@ -42,7 +42,11 @@ fn calls_unless<'a>(
 }
 
 // What an item is that is an object.
-fn item_read(alloc: Global, place: &Place<'_>, context: &Context<'_>) -> Result<Judged, ReadFault>
+fn item_read(
+    alloc: Global,
+    place: &Place<'_, '_>,
+    context: &Context<'_>,
+) -> Result<Judged, ReadFault>
     ensures value { IfOk result (λ answer.
         shown_judged answer ≡ spec.item_read (schedule_of context.now) (place_of place.now)) }
     ensures fault { IfErr result
@@ -64,7 +68,7 @@ fn item_read(alloc: Global, place: &Place<'_>, context: &Context<'_>) -> Result<
 /// memory.
 pub(crate) fn verdict(
     alloc: Global,
-    place: &Place<'_>,
+    place: &Place<'_, '_>,
     context: &Context<'_>,
 ) -> Result<Judged, AllocError>
     ensures value { IfOk result (λ answer.
@@ -82,7 +86,7 @@ pub(crate) fn verdict(
 }
 
 /// An item below a frame.
-pub(crate) fn item_place<'a>(tree: &'a Value, frame: &Place<'a>) -> Place<'a>
+pub(crate) fn item_place<'t, 'a>(tree: &'t Value<'a>, frame: &Place<'t, 'a>) -> Place<'t, 'a>
     ensures { place_of result ≡ places.item_place (place_of frame.now) (view tree.now) }
 {
     Place {

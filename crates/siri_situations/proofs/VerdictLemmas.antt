@@ -1,5 +1,5 @@
 -- The verdicts of items, one after the other.
-use Rattle.std.proofs.Common.{◌≡◌, ◌∙◌, ℕ, ◌+◌, ◌<◌, ◌≤◌, refl, sym, ap, subst, Bool, true, false, List, [], ◌∷◌, ◌++◌, length, get_or, map, take, Some, None, Result, Ok, Err}
+use Rattle.std.proofs.Common.{◌≡◌, ◌∙◌, ℕ, ◌+◌, ◌<◌, ◌≤◌, refl, sym, ap, subst, Bool, true, false, List, [], ◌∷◌, ◌++◌, length, get_or, map, take, Option, Some, None, Result, Ok, Err}
 use Rattle.std.proofs.lemmas.Grind.{flat_map-append}
 use Rattle.std.proofs.lemmas.List.{append_assoc, append-nil, map-append, take_all}
 use Rattle.std.proofs.lemmas.Str.{IsUtf8-from_is_utf8}
@@ -11,15 +11,18 @@ use Rattle.journey_model.specs.declared.fault.Fault.{Fault}
 use Rattle.journey_model.specs.declared.situation.Situation.{Situation}
 use Rattle.serde_json.specs.Data.{Data}
 use Rattle.serde_json.specs.Read.{read}
-use Rattle.serde_json.specs.View.{view}
-use Rattle.serde_json.specs.declared.value.Value.{Value}
+use Rattle.json_tree.specs.Trees.{Tree, view}
 use Rattle.siri_calls.proofs.DeliveryLemmas.{map-take_more}
 use Rattle.siri_calls.specs.Frame.{repeated_under}
 use Rattle.siri_calls.specs.Shown.{IsFrameFault}
 use Rattle.siri_calls.specs.Verdicts.{tree_of}
 use Rattle.siri_calls.specs.declared.delivery.DeliveryFault as declared
 use Rattle.siri_calls.specs.declared.delivery.DeliveryFault.TheVariants as DeliveryFault
-use Rattle.siri_situations.specs.Deliveries.{HasVerdicts, ReadsSituations, ReadsTree}
+use Rattle.json_tree.specs.Faults.{Says}
+use Rattle.json_tree.specs.declared.reading.TreeFault.{TreeFault}
+use Rattle.json_tree.specs.declared.reading.TreeFault.TheVariants as tree
+use Rattle.siri_calls.specs.Refusals.{refusal}
+use Rattle.siri_situations.specs.Deliveries.{HasVerdicts, Reads, ReadsSituations, ReadsTree}
 use Rattle.siri_situations.specs.Frame.{groups_in}
 use Rattle.siri_situations.specs.Situations.{verdict, verdicts}
 use Rattle.siri_situations.specs.declared.delivery.SituationDelivery.{SituationDelivery}
@@ -37,11 +40,11 @@ items_step verdict_of delivery earlier all i one within at has =
     ∙ ap (λ rest. earlier ++ rest) (sym (map-take_more verdict_of all i one within at)) in
     subst (HasVerdicts delivery) same has
 
-mapped : (schedule : Schedule) (trees : List Value) → map (λ tree. verdict schedule (view tree)) trees ≡ map (verdict schedule) (map view trees)
+mapped : (schedule : Schedule) (trees : List Tree) → map (λ tree. verdict schedule (view tree)) trees ≡ map (verdict schedule) (map view trees)
 mapped schedule [] = refl
 mapped schedule (tree ∷ trees) = ap (λ rest. verdict schedule (view tree) ∷ rest) (mapped schedule trees)
 
-pub items_end : (schedule : Schedule) (group : Data) (trees : List Value) (delivery : SituationDelivery) (earlier : List Verdict) (i : ℕ) → length trees ≤ i
+pub items_end : (schedule : Schedule) (group : Data) (trees : List Tree) (delivery : SituationDelivery) (earlier : List Verdict) (i : ℕ) → length trees ≤ i
     → map view trees ≡ repeated_under Member.PtSituationElement group → HasVerdicts delivery (earlier ++ map (λ tree. verdict schedule (view tree)) (take i trees))
     → HasVerdicts delivery (earlier ++ map (verdict schedule) (repeated_under Member.PtSituationElement group))
 items_end schedule group trees delivery earlier i past same has =
@@ -73,14 +76,27 @@ without_memory : (answer : Result (List Verdict) Member) → ReadsTree answer (E
 without_memory (Ok all) = refl
 without_memory (Err member) = tt
 
--- the way down is broken, and all items were read
-pub frame_fault : (schedule : Schedule) (body : List ℕ) (root : Data) (fault : declared.DeliveryFault) → tree_of body ≡ Some root → IsFrameFault (groups_in root) fault
-    → ReadsSituations schedule body (Err fault)
-frame_fault schedule body root DeliveryFault.NotJson e h = absurd h
-frame_fault schedule body root (DeliveryFault.NotDelivery member) e h = rw (e, h) refl
-frame_fault schedule body root DeliveryFault.Memory e h = rw e (without_memory (verdicts schedule root))
+memory_for_any : (schedule : Schedule) (found : Option Data) → Reads schedule found (Err DeliveryFault.Memory)
+memory_for_any schedule None = tt
+memory_for_any schedule (Some root) = without_memory (verdicts schedule root)
 
-pub all_read : (schedule : Schedule) (body : List ℕ) (root : Data) (groups : List Data) (delivery : SituationDelivery) → tree_of body ≡ Some root
+pub body_refused : (schedule : Schedule) (body : List ℕ) (fault : TreeFault) → Says (IsUtf8 body → read body ≡ None) fault → ReadsSituations schedule body (Err (refusal fault))
+body_refused schedule body tree.NotJson none = body_not_read schedule body none
+body_refused schedule body tree.Memory said = memory_for_any schedule (tree_of body)
+
+-- the way down is broken, and all items were read
+pub frame_fault : (schedule : Schedule) (root : Data) (fault : declared.DeliveryFault) → IsFrameFault (groups_in root) fault
+    → ReadsTree (verdicts schedule root) (Err fault)
+frame_fault schedule root DeliveryFault.NotJson h = absurd h
+frame_fault schedule root (DeliveryFault.NotDelivery member) h = rw h refl
+frame_fault schedule root DeliveryFault.Memory h = without_memory (verdicts schedule root)
+
+pub all_read : (schedule : Schedule) (root : Data) (groups : List Data) (delivery : SituationDelivery)
     → groups_in root ≡ Ok groups → HasVerdicts delivery (map (verdict schedule) (flat_map (repeated_under Member.PtSituationElement) groups))
-    → ReadsSituations schedule body (Ok delivery)
-all_read schedule body root groups delivery e found has = rw (e, found) has
+    → ReadsTree (verdicts schedule root) (Ok delivery)
+all_read schedule root groups delivery found has = rw found has
+
+-- the answer over a body that was read is that over its tree
+pub body_delivery : (schedule : Schedule) (body : List ℕ) (root : Data) (answer : Result SituationDelivery declared.DeliveryFault) → tree_of body ≡ Some root
+    → ReadsTree (verdicts schedule root) answer → ReadsSituations schedule body answer
+body_delivery schedule body root answer e reads = rw e reads

@@ -1,7 +1,7 @@
 //! What a situation affects. The functions meet `specs/Affected.antt`.
 ghost use Rattle.std.specs.Prelude.{◌≡◌, ◌++◌, Ok, IfErr, IfOk, map};
 ghost use Rattle.std.specs.List.{list_all};
-ghost use Rattle.serde_json.specs.View.{view};
+ghost use Rattle.json_tree.specs.Trees.{view};
 ghost use Rattle.siri_calls.specs.Shown.{ok_map, IsFaultOf};
 ghost use Rattle.siri_situations.specs.Affected as spec;
 ghost use Rattle.siri_situations.specs.Shown.{all_seen};
@@ -12,7 +12,7 @@ ghost use Rattle.stop_schedule.specs.Seen.{seen};
 use crate::steps::{Step, trees_at, walk};
 use gw_base::{List, Member};
 use journey_model::{Fault, Ref};
-use serde_json::Value;
+use json::Value;
 use service_day::Day;
 use siri_calls::fields::{optional_text, required_day, required_text};
 use siri_calls::read_fault::ReadFault;
@@ -86,7 +86,7 @@ fn find_journey(table: &Timetable, day: Day, id: &str) -> Option<Ref>
 }
 
 // The line that an object names, if it names one, behind the references that were found before.
-fn add_line(found: &mut List<Reference>, table: &Timetable, tree: &Value) -> Result<(), ReadFault>
+fn add_line(found: &mut List<Reference>, table: &Timetable, tree: &Value<'_>) -> Result<(), ReadFault>
     ensures found { IfOk result (λ _. ok_map (λ rest. found.old ++ rest)
         (spec.reference AffectedKind.Line (seen table.now) (view tree.now)) ≡ Ok found.new) }
     ensures fault { IfErr result
@@ -107,7 +107,7 @@ fn add_line(found: &mut List<Reference>, table: &Timetable, tree: &Value) -> Res
 }
 
 // The stop that an object names, if it names one, behind the references that were found before.
-fn add_stop(found: &mut List<Reference>, table: &Timetable, tree: &Value) -> Result<(), ReadFault>
+fn add_stop(found: &mut List<Reference>, table: &Timetable, tree: &Value<'_>) -> Result<(), ReadFault>
     ensures found { IfOk result (λ _. ok_map (λ rest. found.old ++ rest)
         (spec.reference AffectedKind.StopPoint (seen table.now) (view tree.now)) ≡ Ok found.new) }
     ensures fault { IfErr result
@@ -131,7 +131,7 @@ fn add_stop(found: &mut List<Reference>, table: &Timetable, tree: &Value) -> Res
 fn add_journey(
     found: &mut List<Reference>,
     table: &Timetable,
-    tree: &Value,
+    tree: &Value<'_>,
 ) -> Result<(), ReadFault>
     ensures found { IfOk result (λ _. ok_map (λ rest. found.old ++ rest)
         (spec.reference AffectedKind.VehicleJourney (seen table.now) (view tree.now))
@@ -154,7 +154,7 @@ fn add_reference(
     found: &mut List<Reference>,
     kind: AffectedKind,
     table: &Timetable,
-    tree: &Value,
+    tree: &Value<'_>,
 ) -> Result<(), ReadFault>
     ensures found { IfOk result (λ _. ok_map (λ rest. found.old ++ rest)
         (spec.reference kind (seen table.now) (view tree.now)) ≡ Ok found.new) }
@@ -169,21 +169,21 @@ fn add_reference(
 }
 
 // Whether the day of a journey has its form.
-fn day_in_form(tree: &Value) -> bool
+fn day_in_form(tree: &Value<'_>) -> bool
     ensures { result ≡ spec.day_in_form (view tree.now) }
 {
     required_day(tree, Member::DataFrameRef).is_ok()
 }
 
 // Whether the day of each journey has its form.
-fn each_day_in_form(trees: &[&Value]) -> bool
+fn each_day_in_form(trees: &[&Value<'_>]) -> bool
     ensures { result ≡ list_all (λ tree. spec.day_in_form (view tree.now)) trees.now }
 {
     trees.iter().all(|tree| day_in_form(tree))
 }
 
 // Whether the days have their form, where objects hold references to journeys.
-fn days_in_form(kind: AffectedKind, trees: &[&Value]) -> bool
+fn days_in_form(kind: AffectedKind, trees: &[&Value<'_>]) -> bool
     ensures { result ≡ spec.days_in_form kind (all_seen trees.now) }
 {
     match kind {
@@ -197,7 +197,7 @@ fn gather_references(
     found: &mut List<Reference>,
     kind: AffectedKind,
     table: &Timetable,
-    trees: &[&Value],
+    trees: &[&Value<'_>],
 ) -> Result<(), ReadFault>
     ensures found { IfOk result (λ _. ok_map (λ rest. found.old ++ rest)
         (gather (spec.reference kind (seen table.now)) (all_seen trees.now)) ≡ Ok found.new) }
@@ -217,7 +217,7 @@ fn add_references(
     found: &mut List<Reference>,
     kind: AffectedKind,
     table: &Timetable,
-    trees: &[&Value],
+    trees: &[&Value<'_>],
 ) -> Result<(), ReadFault>
     ensures found { IfOk result (λ _. ok_map (λ rest. found.old ++ rest)
         (spec.references_in kind (seen table.now) (all_seen trees.now)) ≡ Ok found.new) }
@@ -236,7 +236,7 @@ fn add_affected(
     found: &mut List<Reference>,
     kind: AffectedKind,
     table: &Timetable,
-    affects: &[Value],
+    affects: &[Value<'_>],
 ) -> Result<(), ReadFault>
     ensures found { IfOk result (λ _. ok_map (λ rest. found.old ++ rest)
         (spec.references_by kind (seen table.now) (map view affects.now)) ≡ Ok found.new) }
@@ -254,7 +254,7 @@ fn add_affected(
 fn references_below(
     alloc: Global,
     table: &Timetable,
-    affects: &[Value],
+    affects: &[Value<'_>],
 ) -> Result<List<Reference>, ReadFault>
     ensures found { IfOk result (λ found.
         spec.references_below (seen table.now) (map view affects.now) ≡ Ok found) }
@@ -278,7 +278,7 @@ fn references_below(
 pub(crate) fn read_references(
     alloc: Global,
     table: &Timetable,
-    tree: &Value,
+    tree: &Value<'_>,
 ) -> Result<List<Reference>, ReadFault>
     ensures found { IfOk result (λ found.
         spec.references (seen table.now) (view tree.now) ≡ Ok found) }

@@ -5,9 +5,9 @@ ghost use Rattle.gw_base.specs.declared.member.Member.TheVariants as Member;
 ghost use Rattle.journey_model.specs.Schedules.{schedule_of};
 ghost use Rattle.journey_model.specs.declared.fault.Fault as faults;
 ghost use Rattle.journey_model.specs.declared.situation.Situation as of_journeys;
-ghost use Rattle.serde_json.specs.View.{view};
+ghost use Rattle.json_tree.specs.Trees.{view};
 ghost use Rattle.siri_calls.specs.Frame.{repeated_under as trees_under};
-ghost use Rattle.siri_situations.specs.Deliveries.{HasVerdicts, ReadsSituations, ReferToKnown};
+ghost use Rattle.siri_situations.specs.Deliveries.{HasVerdicts, ReadsSituations, ReadsTree, ReferToKnown};
 ghost use Rattle.siri_situations.specs.Shown.{all_seen};
 ghost use Rattle.siri_situations.specs.Situations as spec;
 
@@ -15,7 +15,8 @@ use crate::frame::groups_in;
 use crate::situations::verdict;
 use gw_base::{List, Member};
 use journey_model::{Context, Fault, Situation};
-use serde_json::Value;
+use json::{Scratch, Value};
+use json_tree::read_tree;
 use siri_calls::DeliveryFault;
 use siri_calls::frame::repeated_under;
 use siri_calls::read_fault::ReadFault;
@@ -44,7 +45,7 @@ pub struct SituationDelivery {
 fn add_item(
     alloc: Global,
     delivery: &mut SituationDelivery,
-    tree: &Value,
+    tree: &Value<'_>,
     context: &Context<'_>,
 ) -> Result<(), AllocError>
     ensures { (earlier : Values (Answer (of_journeys.Situation × ℕ) faults.Fault))
@@ -67,7 +68,7 @@ fn add_item(
 fn add_items(
     alloc: Global,
     delivery: &mut SituationDelivery,
-    group: &Value,
+    group: &Value<'_>,
     context: &Context<'_>,
 ) -> Result<(), AllocError>
     ensures { (earlier : Values (Answer (of_journeys.Situation × ℕ) faults.Fault))
@@ -86,7 +87,7 @@ fn add_items(
 // What all items are.
 fn all_items(
     alloc: Global,
-    groups: &[&Value],
+    groups: &[&Value<'_>],
     context: &Context<'_>,
 ) -> Result<SituationDelivery, AllocError>
     ensures { IfOk result (λ delivery. HasVerdicts delivery
@@ -103,6 +104,26 @@ fn all_items(
     Ok(delivery)
 }
 
+// What the delivery of a tree says.
+fn tree_delivery(
+    alloc: Global,
+    root: &Value<'_>,
+    context: &Context<'_>,
+) -> Result<SituationDelivery, DeliveryFault>
+    ensures reads { ReadsTree (spec.verdicts (schedule_of context.now) (view root.now)) result }
+    ensures known { IfOk result (λ delivery.
+        ReferToKnown (schedule_of context.now).table delivery.items) }
+{
+    let groups = match groups_in(alloc, root) {
+        Ok(groups) => groups,
+        Err(fault) => return Err(fault),
+    };
+    match all_items(alloc, groups.as_slice(), context) {
+        Ok(delivery) => Ok(delivery),
+        Err(AllocError) => Err(DeliveryFault::Memory),
+    }
+}
+
 /// Reads a delivery of situations (SIRI 2.0, SituationExchangeDelivery; in JSON after SIRI Lite): each
 /// situation of it, in document order, is taken, or set aside with its first fault. NotJson comes
 /// exactly where the body isn't JSON in UTF-8, NotDelivery where the way down to its situations is
@@ -116,17 +137,9 @@ pub fn read_situations(
     ensures known { IfOk result (λ delivery.
         ReferToKnown (schedule_of context.now).table delivery.items) }
 {
-    let root = match Value::from_slice(alloc, body) {
-        Ok(root) => root,
-        Err(fault) if fault.is_memory() => return Err(DeliveryFault::Memory),
-        Err(_) => return Err(DeliveryFault::NotJson),
-    };
-    let groups = match groups_in(alloc, &root) {
-        Ok(groups) => groups,
-        Err(fault) => return Err(fault),
-    };
-    match all_items(alloc, groups.as_slice(), context) {
-        Ok(delivery) => Ok(delivery),
-        Err(AllocError) => Err(DeliveryFault::Memory),
+    let mut scratch = Scratch::new(alloc);
+    match read_tree(alloc, body, &mut scratch) {
+        Ok(root) => tree_delivery(alloc, &root, context),
+        Err(fault) => Err(DeliveryFault::from(fault)),
     }
 }

@@ -1,6 +1,6 @@
 //! The way down from the root of a delivery to its situations. The functions meet `specs/Frame.antt`.
 ghost use Rattle.std.specs.Prelude.{◌≡◌, Ok, IfErr, IfOk, map};
-ghost use Rattle.serde_json.specs.View.{view};
+ghost use Rattle.json_tree.specs.Trees.{view};
 ghost use Rattle.siri_calls.specs.Shown.{ok_map, trees_of, IsFrameFault};
 ghost use Rattle.siri_situations.specs.Frame as spec;
 ghost use Rattle.siri_situations.specs.Shown.{all_seen};
@@ -8,18 +8,19 @@ ghost use Rattle.siri_situations.specs.Steps.{gather};
 
 use crate::steps::add_trees;
 use gw_base::Member;
-use serde_json::Value;
+use json::Value;
+use json_tree::find;
 use siri_calls::DeliveryFault;
-use siri_calls::forms::{Form, objects};
+use siri_calls::forms::{Form, none, objects};
 use siri_calls::frame::{object_at, service_in};
 use std::alloc::Global;
 use std::slice;
 
 // The deliveries of a service delivery, which have to be there.
-fn deliveries_in(service: &Value) -> Result<&[Value], Member>
+fn deliveries_in<'t, 'a>(service: &'t Value<'a>) -> Result<&'t [Value<'a>], Member>
     ensures { ok_map trees_of result ≡ spec.deliveries_in (view service.now) }
 {
-    let Some(found) = service.get("SituationExchangeDelivery") else {
+    let Some(found) = find(service, "SituationExchangeDelivery") else {
         return Err(Member::SituationExchangeDelivery);
     };
     match found {
@@ -34,18 +35,24 @@ fn deliveries_in(service: &Value) -> Result<&[Value], Member>
 }
 
 // The object in which the situations of a delivery stand, if it is there.
-fn group(delivery: &Value) -> Result<&[Value], Member>
+fn group<'t, 'a>(delivery: &'t Value<'a>) -> Result<&'t [Value<'a>], Member>
     ensures { ok_map trees_of result ≡ spec.group (view delivery.now) }
 {
     match object_at(delivery, Member::Situations) {
-        Form::Missing => Ok(&[]),
+        Form::Missing => {
+            let trees: &'t [Value<'a>] = none();
+            Ok(trees)
+        }
         Form::Wrong => Err(Member::Situations),
         Form::Found(found) => Ok(slice::from_ref(found)),
     }
 }
 
 // Those of deliveries.
-fn groups_of<'a>(alloc: Global, deliveries: &'a [Value]) -> Result<Vec<&'a Value>, DeliveryFault>
+fn groups_of<'t, 'a>(
+    alloc: Global,
+    deliveries: &'t [Value<'a>],
+) -> Result<Vec<&'t Value<'a>>, DeliveryFault>
     ensures found { IfOk result (λ found.
         gather spec.group (map view deliveries.now) ≡ Ok (all_seen found.items)) }
     ensures fault { IfErr result (IsFrameFault (gather spec.group (map view deliveries.now))) }
@@ -60,7 +67,10 @@ fn groups_of<'a>(alloc: Global, deliveries: &'a [Value]) -> Result<Vec<&'a Value
 
 /// The objects in which the situations of a root stand, in document order, or the first row of the way
 /// down that is broken.
-pub(crate) fn groups_in(alloc: Global, root: &Value) -> Result<Vec<&Value>, DeliveryFault>
+pub(crate) fn groups_in<'t, 'a>(
+    alloc: Global,
+    root: &'t Value<'a>,
+) -> Result<Vec<&'t Value<'a>>, DeliveryFault>
     ensures found { IfOk result (λ found.
         spec.groups_in (view root.now) ≡ Ok (all_seen found.items)) }
     ensures fault { IfErr result (IsFrameFault (spec.groups_in (view root.now))) }

@@ -1,7 +1,7 @@
 //! When a situation holds. The functions meet `specs/Periods.antt`.
 ghost use Rattle.std.specs.Prelude.{◌≡◌, Ok, IfErr, IfOk, map, option_map, option_to_list};
 ghost use Rattle.std.specs.List.{list_all};
-ghost use Rattle.serde_json.specs.View.{view};
+ghost use Rattle.json_tree.specs.Trees.{view};
 ghost use Rattle.siri_calls.specs.Shown.{ok_map, instant_of, IsFaultOf};
 ghost use Rattle.siri_situations.specs.Periods as spec;
 ghost use Rattle.siri_situations.specs.Steps.{gather};
@@ -9,7 +9,7 @@ ghost use Rattle.siri_situations.specs.Steps.{gather};
 use crate::steps::{Step, trees_at};
 use gw_base::{List, Member};
 use journey_model::{Fault, ValidPeriod};
-use serde_json::Value;
+use json::Value;
 use service_day::{Instant, Zone};
 use siri_calls::fields::optional_moment;
 use siri_calls::read_fault::ReadFault;
@@ -36,7 +36,7 @@ fn kept(start: Option<u64>, end: Option<u64>) -> Option<ValidPeriod>
 }
 
 // The period that an object says, if it begins or ends.
-fn period(tree: &Value, zone: &Zone) -> Result<Option<ValidPeriod>, Fault>
+fn period(tree: &Value<'_>, zone: &Zone) -> Result<Option<ValidPeriod>, Fault>
     ensures { ok_map option_to_list result ≡ spec.period zone.now (view tree.now) }
 {
     let start = optional_moment(tree, Member::StartTime, zone)?;
@@ -45,14 +45,14 @@ fn period(tree: &Value, zone: &Zone) -> Result<Option<ValidPeriod>, Fault>
 }
 
 // Whether the start of a period has its form.
-fn start_in_form(tree: &Value, zone: &Zone) -> bool
+fn start_in_form(tree: &Value<'_>, zone: &Zone) -> bool
     ensures { result ≡ spec.start_in_form zone.now (view tree.now) }
 {
     optional_moment(tree, Member::StartTime, zone).is_ok()
 }
 
 // Whether the starts of all periods have their form.
-fn starts_in_form(trees: &[Value], zone: &Zone) -> bool
+fn starts_in_form(trees: &[Value<'_>], zone: &Zone) -> bool
     ensures { result ≡ list_all (λ tree. spec.start_in_form zone.now (view tree)) trees.now }
 {
     trees.iter().all(|tree| start_in_form(tree, zone))
@@ -61,7 +61,7 @@ fn starts_in_form(trees: &[Value], zone: &Zone) -> bool
 // The periods that objects say.
 fn gather_periods(
     alloc: Global,
-    trees: &[Value],
+    trees: &[Value<'_>],
     zone: &Zone,
 ) -> Result<List<ValidPeriod>, ReadFault>
     ensures found { IfOk result (λ found.
@@ -79,7 +79,7 @@ fn gather_periods(
 }
 
 // The same, where the starts of all periods have their form.
-fn periods_in(alloc: Global, trees: &[Value], zone: &Zone) -> Result<List<ValidPeriod>, ReadFault>
+fn periods_in(alloc: Global, trees: &[Value<'_>], zone: &Zone) -> Result<List<ValidPeriod>, ReadFault>
     ensures found { IfOk result (λ found.
         spec.periods_in zone.now (map view trees.now) ≡ Ok found) }
     ensures fault { IfErr result (IsFaultOf (spec.periods_in zone.now (map view trees.now))) }
@@ -96,7 +96,7 @@ fn periods_in(alloc: Global, trees: &[Value], zone: &Zone) -> Result<List<ValidP
 /// The periods of a situation, in document order.
 pub(crate) fn read_periods(
     alloc: Global,
-    tree: &Value,
+    tree: &Value<'_>,
     zone: &Zone,
 ) -> Result<List<ValidPeriod>, ReadFault>
     ensures found { IfOk result (λ found. spec.periods zone.now (view tree.now) ≡ Ok found) }

@@ -1,9 +1,10 @@
 //! What words of SIRI mean. The functions meet `specs/Senses.antt`.
 ghost use Rattle.std.specs.Prelude.{◌≡◌, Some, option_map};
-ghost use Rattle.serde_json.specs.View.{view};
+ghost use Rattle.json_tree.specs.Trees.{view};
 ghost use Rattle.siri_situations.specs.Senses as spec;
 
-use serde_json::Value;
+use json::Value;
+use json_tree::find;
 use siri_calls::forms::repeated;
 
 // Whether a situation with this progress is served.
@@ -24,17 +25,17 @@ pub(crate) fn is_served(progress: Option<&str>) -> bool
 }
 
 // Whether a reason is present.
-fn is_present(tree: &Value, name: &str) -> bool
+fn is_present(tree: &Value<'_>, name: &str) -> bool
     ensures { result ≡ spec.is_present name.now (view tree.now) }
 {
-    match tree.get(name) {
+    match find(tree, name) {
         Some(found) => !repeated(found).is_empty(),
         None => false,
     }
 }
 
 /// The cause, as a number of GTFS Realtime (Alert.Cause).
-pub(crate) fn cause(tree: &Value) -> i32
+pub(crate) fn cause(tree: &Value<'_>) -> i32
     ensures { result ≡ spec.cause (view tree.now) }
 {
     if is_present(tree, "EquipmentReason") {

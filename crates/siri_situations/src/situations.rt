@@ -1,7 +1,7 @@
 //! What a situation says. The functions meet `specs/Situations.antt`.
 ghost use Rattle.std.specs.Prelude.{◌≡◌, Ok, IfErr, IfOk};
 ghost use Rattle.journey_model.specs.Schedules.{schedule_of};
-ghost use Rattle.serde_json.specs.View.{view};
+ghost use Rattle.json_tree.specs.Trees.{view};
 ghost use Rattle.siri_calls.specs.Fields.{optional_member, required_member};
 ghost use Rattle.siri_calls.specs.Forms as forms;
 ghost use Rattle.siri_calls.specs.Shown.{optional_text as text_told, IsFaultOf};
@@ -16,7 +16,7 @@ use crate::senses::{cause, effect_of, is_served};
 use crate::steps::{Step, walk};
 use gw_base::{List, Member, Text};
 use journey_model::{Context, Fault, Ref, Situation};
-use serde_json::Value;
+use json::Value;
 use service_day::Zone;
 use siri_calls::fields::{optional_text, optional_whole, required_text};
 use siri_calls::forms::is_object;
@@ -26,7 +26,7 @@ use std::slice;
 use stop_schedule::Timetable;
 
 // A copy of a Text that has to be there.
-fn needed_text(alloc: Global, tree: &Value, member: Member) -> Result<Text, ReadFault>
+fn needed_text(alloc: Global, tree: &Value<'_>, member: Member) -> Result<Text, ReadFault>
     ensures found { IfOk result (λ text.
         required_member forms.text member (view tree.now) ≡ Ok text) }
     ensures fault { IfErr result
@@ -38,7 +38,7 @@ fn needed_text(alloc: Global, tree: &Value, member: Member) -> Result<Text, Read
 }
 
 // A copy of a Text that may be missing.
-fn text_if_there(alloc: Global, tree: &Value, member: Member) -> Result<Option<Text>, ReadFault>
+fn text_if_there(alloc: Global, tree: &Value<'_>, member: Member) -> Result<Option<Text>, ReadFault>
     ensures found { IfOk result (λ text.
         optional_member forms.text member (view tree.now) ≡ Ok text) }
     ensures fault { IfErr result
@@ -55,7 +55,7 @@ fn text_if_there(alloc: Global, tree: &Value, member: Member) -> Result<Option<T
 }
 
 // The number, the version, and whether it is served.
-fn read_head(alloc: Global, tree: &Value) -> Result<Head, ReadFault>
+fn read_head(alloc: Global, tree: &Value<'_>) -> Result<Head, ReadFault>
     ensures found { IfOk result (λ found. spec.head (view tree.now) ≡ Ok found) }
     ensures fault { IfErr result (IsFaultOf (spec.head (view tree.now))) }
 {
@@ -70,7 +70,7 @@ fn read_head(alloc: Global, tree: &Value) -> Result<Head, ReadFault>
 }
 
 // The texts.
-fn read_words(alloc: Global, tree: &Value) -> Result<Words, ReadFault>
+fn read_words(alloc: Global, tree: &Value<'_>) -> Result<Words, ReadFault>
     ensures found { IfOk result (λ found. spec.words (view tree.now) ≡ Ok found) }
     ensures fault { IfErr result (IsFaultOf (spec.words (view tree.now))) }
 {
@@ -83,7 +83,7 @@ fn read_words(alloc: Global, tree: &Value) -> Result<Words, ReadFault>
 }
 
 // What a situation says before what it affects.
-fn read_said(alloc: Global, tree: &Value, zone: &Zone) -> Result<Said, ReadFault>
+fn read_said(alloc: Global, tree: &Value<'_>, zone: &Zone) -> Result<Said, ReadFault>
     ensures found { IfOk result (λ found. spec.said zone.now (view tree.now) ≡ Ok found) }
     ensures fault { IfErr result (IsFaultOf (spec.said zone.now (view tree.now))) }
 {
@@ -98,7 +98,7 @@ fn read_said(alloc: Global, tree: &Value, zone: &Zone) -> Result<Said, ReadFault
 }
 
 // The condition of the first of some consequences.
-fn condition<'a>(consequences: &[&'a Value]) -> Result<Option<&'a str>, Fault>
+fn condition<'a>(consequences: &[&'a Value<'_>]) -> Result<Option<&'a str>, Fault>
     ensures { text_told result ≡ spec.condition (all_seen consequences.now) }
 {
     match consequences.first() {
@@ -108,7 +108,7 @@ fn condition<'a>(consequences: &[&'a Value]) -> Result<Option<&'a str>, Fault>
 }
 
 // The effect, by the condition of the first consequence.
-fn read_effect(alloc: Global, tree: &Value) -> Result<i32, ReadFault>
+fn read_effect(alloc: Global, tree: &Value<'_>) -> Result<i32, ReadFault>
     ensures found { IfOk result (λ found. spec.effect (view tree.now) ≡ Ok found) }
     ensures fault { IfErr result (IsFaultOf (spec.effect (view tree.now))) }
 {
@@ -127,7 +127,7 @@ fn read_effect(alloc: Global, tree: &Value) -> Result<i32, ReadFault>
 // The references and the effect.
 fn read_touched(
     alloc: Global,
-    tree: &Value,
+    tree: &Value<'_>,
     table: &Timetable,
 ) -> Result<(List<Reference>, i32), ReadFault>
     ensures found { IfOk result (λ found.
@@ -173,7 +173,7 @@ fn situation_of(said: Said, cause: i32, effect: i32, refs: List<Ref>) -> Situati
 // What an item is that is an object: a situation, and how many of its references aren't known.
 fn read_situation(
     alloc: Global,
-    tree: &Value,
+    tree: &Value<'_>,
     context: &Context<'_>,
 ) -> Result<(Situation, u64), ReadFault>
     ensures found { IfOk result (λ found.
@@ -190,7 +190,7 @@ fn read_situation(
 /// What an item is: a situation, and how many of its references aren't known.
 pub(crate) fn verdict(
     alloc: Global,
-    tree: &Value,
+    tree: &Value<'_>,
     context: &Context<'_>,
 ) -> Result<(Situation, u64), ReadFault>
     ensures found { IfOk result (λ found.

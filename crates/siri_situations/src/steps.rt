@@ -1,14 +1,15 @@
 //! The way down from an object to what stands in it. The functions meet `specs/Steps.antt`.
 ghost use Rattle.std.specs.Prelude.{◌≡◌, ◌++◌, map, Ok, IfErr, IfOk, OnOk};
-ghost use Rattle.serde_json.specs.View.{view};
+ghost use Rattle.json_tree.specs.Trees.{view};
 ghost use Rattle.siri_calls.specs.Shown.{ok_map, trees_of, IsFaultOf};
 ghost use Rattle.siri_situations.specs.Shown.{all_seen};
 ghost use Rattle.siri_situations.specs.Steps as spec;
 
 use gw_base::Member;
 use journey_model::Fault;
-use serde_json::Value;
+use json::Value;
 use siri_calls::fields::{optional_object, optional_objects};
+use siri_calls::forms::none;
 use siri_calls::read_fault::ReadFault;
 use std::alloc::{AllocError, Global};
 use std::slice;
@@ -23,27 +24,33 @@ pub(crate) enum Step {
 }
 
 /// The trees to which a step leads from one.
-pub(crate) fn trees_at<'a>(tree: &'a Value, step: &Step) -> Result<&'a [Value], Fault>
+pub(crate) fn trees_at<'t, 'a>(tree: &'t Value<'a>, step: &Step) -> Result<&'t [Value<'a>], Fault>
     ensures { ok_map trees_of result ≡ spec.trees_at step.now (view tree.now) }
 {
     match step {
         Step::Object(member) => match optional_object(tree, *member) {
             Ok(Some(found)) => Ok(slice::from_ref(found)),
-            Ok(None) => Ok(&[]),
+            Ok(None) => {
+                let trees: &'t [Value<'a>] = none();
+                Ok(trees)
+            }
             Err(fault) => Err(fault),
         },
         Step::Repeated(member) => match optional_objects(tree, *member) {
             Ok(Some(found)) => Ok(found),
-            Ok(None) => Ok(&[]),
+            Ok(None) => {
+                let trees: &'t [Value<'a>] = none();
+                Ok(trees)
+            }
             Err(fault) => Err(fault),
         },
     }
 }
 
 /// Trees, behind those that were found before.
-pub(crate) fn add_trees<'a>(
-    found: &mut Vec<&'a Value>,
-    trees: &'a [Value],
+pub(crate) fn add_trees<'t, 'a>(
+    found: &mut Vec<&'t Value<'a>>,
+    trees: &'t [Value<'a>],
 ) -> Result<(), AllocError>
     ensures { OnOk result
         (all_seen found.new.items ≡ all_seen found.old.items ++ map view trees.now) }
@@ -55,11 +62,11 @@ pub(crate) fn add_trees<'a>(
 }
 
 // The trees to which a step leads from trees.
-fn step_from<'a>(
+fn step_from<'t, 'a>(
     alloc: Global,
-    trees: &[&'a Value],
+    trees: &[&'t Value<'a>],
     step: &Step,
-) -> Result<Vec<&'a Value>, ReadFault>
+) -> Result<Vec<&'t Value<'a>>, ReadFault>
     ensures found { IfOk result (λ found.
         spec.gather (spec.trees_at step.now) (all_seen trees.now) ≡ Ok (all_seen found.items)) }
     ensures fault { IfErr result
@@ -74,11 +81,11 @@ fn step_from<'a>(
 }
 
 /// The trees at the end of a way.
-pub(crate) fn walk<'a>(
+pub(crate) fn walk<'t, 'a>(
     alloc: Global,
-    start: &'a [Value],
+    start: &'t [Value<'a>],
     steps: &[Step],
-) -> Result<Vec<&'a Value>, ReadFault>
+) -> Result<Vec<&'t Value<'a>>, ReadFault>
     ensures found { IfOk result (λ found.
         spec.walk steps.now (map view start.now) ≡ Ok (all_seen found.items)) }
     ensures fault { IfErr result (IsFaultOf (spec.walk steps.now (map view start.now))) }

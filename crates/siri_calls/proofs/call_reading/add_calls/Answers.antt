@@ -1,6 +1,6 @@
 use Rattle.std.proofs.Common.{◌≡◌, ◌∙◌, ◌+◌, ◌∷◌, sym, ap, map, drop, option_map}
 use Rattle.std.proofs.lemmas.List.{drop_more, map-append}
-use Rattle.serde_json.specs.View.{view}
+use Rattle.json_tree.specs.Trees.{view}
 use Rattle.siri_calls.specs.Seen.{call_of, calls_of}
 use Rattle.siri_calls.proofs.CallLemmas.{one_more}
 use Rattle.siri_calls.proofs.call_reading.add_calls.Goals as goal

@@ -1,5 +1,5 @@
 use Rattle.std.proofs.Common.{◌++◌, map, drop}
-use Rattle.serde_json.specs.View.{view}
+use Rattle.json_tree.specs.Trees.{view}
 use Rattle.siri_calls.specs.Calls.{calls}
 use Rattle.siri_calls.specs.Seen.{calls_of}
 use Rattle.siri_calls.specs.Shown.{ok_map}

@@ -1,5 +1,5 @@
 use Rattle.std.proofs.Common.{map, ap}
-use Rattle.serde_json.specs.View.{view}
+use Rattle.json_tree.specs.Trees.{view}
 use Rattle.siri_calls.specs.Seen.{calls_of}
 use Rattle.siri_calls.proofs.CallLemmas.{both_found, first_refused, second_refused}
 use Rattle.siri_calls.proofs.call_reading.calls_in.Goals as goal

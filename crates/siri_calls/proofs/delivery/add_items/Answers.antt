@@ -1,6 +1,6 @@
 use Rattle.std.proofs.Common.{◌∙◌, ap}
 use Rattle.journey_model.specs.Schedules.{schedule_of}
-use Rattle.serde_json.specs.View.{view}
+use Rattle.json_tree.specs.Trees.{view}
 use Rattle.siri_calls.specs.Frame.{item_place}
 use Rattle.siri_calls.specs.Shown.{place_of}
 use Rattle.siri_calls.specs.Verdicts.{verdict}

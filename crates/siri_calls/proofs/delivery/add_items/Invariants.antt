@@ -2,7 +2,7 @@ use Rattle.std.proofs.Common.{List, ℕ, Result, ◌++◌, map, take}
 use Rattle.journey_model.specs.Records.{Recorded}
 use Rattle.journey_model.specs.Schedules.{schedule_of}
 use Rattle.journey_model.specs.declared.fault.Fault.{Fault}
-use Rattle.serde_json.specs.View.{view}
+use Rattle.json_tree.specs.Trees.{view}
 use Rattle.siri_calls.specs.Deliveries.{AreServable, HasVerdicts}
 use Rattle.siri_calls.specs.Frame.{item_place}
 use Rattle.siri_calls.specs.Shown.{place_of}

@@ -1,6 +1,6 @@
 use Rattle.std.proofs.Common.{◌∙◌, sym, ap, map}
-use Rattle.serde_json.specs.View.{view}
-use Rattle.serde_json.proofs.Views.{view-Array}
+use Rattle.json_tree.specs.Trees.{view}
+use Rattle.json_tree.proofs.ArrayLemmas.{view-Array}
 use Rattle.siri_calls.proofs.TreeLemmas.{listed-items_of}
 use Rattle.siri_calls.proofs.forms.repeated.Goals as goal
 

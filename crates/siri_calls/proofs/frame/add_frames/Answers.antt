@@ -1,6 +1,6 @@
 use Rattle.std.proofs.Common.{◌≡◌, ◌∙◌, sym, drop, []}
 use Rattle.std.proofs.lemmas.List.{append-nil, drop_all}
-use Rattle.serde_json.specs.View.{view}
+use Rattle.json_tree.specs.Trees.{view}
 use Rattle.siri_calls.specs.Frame.{delivery_place}
 use Rattle.siri_calls.specs.Shown.{places_of}
 use Rattle.siri_calls.proofs.FrameLemmas.{frames_there, frames_wrong}

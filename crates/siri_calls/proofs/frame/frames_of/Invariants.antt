@@ -1,5 +1,5 @@
 use Rattle.std.proofs.Common.{map, drop}
-use Rattle.serde_json.specs.View.{view}
+use Rattle.json_tree.specs.Trees.{view}
 use Rattle.siri_calls.specs.Frame.{frames_of, delivery_place}
 use Rattle.siri_calls.specs.Shown.{places_of}
 use Rattle.siri_calls.proofs.FrameLemmas.{SoFar}

@@ -1,5 +1,5 @@
 use Rattle.journey_model.specs.Schedules.{schedule_of}
-use Rattle.serde_json.specs.View.{view}
+use Rattle.json_tree.specs.Trees.{view}
 use Rattle.siri_situations.specs.Situations.{verdict}
 use Rattle.siri_situations.proofs.VerdictLemmas.{items_step, items_end}
 use Rattle.siri_situations.proofs.delivery.add_items.Goals as goal

@@ -2,7 +2,7 @@ use Rattle.std.proofs.Common.{List, ℕ, Result, ◌++◌, map, take}
 use Rattle.journey_model.specs.Schedules.{schedule_of}
 use Rattle.journey_model.specs.declared.fault.Fault.{Fault}
 use Rattle.journey_model.specs.declared.situation.Situation.{Situation}
-use Rattle.serde_json.specs.View.{view}
+use Rattle.json_tree.specs.Trees.{view}
 use Rattle.siri_situations.specs.Deliveries.{HasVerdicts}
 use Rattle.siri_situations.specs.Situations.{verdict}
 use Rattle.siri_situations.proofs.delivery.add_items.Given as goal

@@ -1,5 +1,5 @@
 use Rattle.std.proofs.Common.{map, drop}
-use Rattle.serde_json.specs.View.{view}
+use Rattle.json_tree.specs.Trees.{view}
 use Rattle.siri_situations.specs.Periods.{period}
 use Rattle.siri_situations.specs.Steps.{gather}
 use Rattle.siri_situations.proofs.Gathers.{SoFar}
