@@ -9,7 +9,7 @@ ghost use Rattle.siri_situations.specs.Steps.{gather};
 ghost use Rattle.siri_situations.specs.declared.affected.AffectedKind.TheVariants as AffectedKind;
 ghost use Rattle.stop_schedule.specs.Seen.{seen};
 
-use crate::steps::{Step, trees_at, walk};
+use crate::steps::{Branch, Step, trees_at, walk};
 use gw_base::{List, Member};
 use journey_model::{Fault, Ref};
 use json::Value;
@@ -86,7 +86,11 @@ fn find_journey(table: &Timetable, day: Day, id: &str) -> Option<Ref>
 }
 
 // The line that an object names, if it names one, behind the references that were found before.
-fn add_line(found: &mut List<Reference>, table: &Timetable, tree: &Value<'_>) -> Result<(), ReadFault>
+fn add_line(
+    found: &mut List<Reference>,
+    table: &Timetable,
+    tree: &Value<'_>,
+) -> Result<(), ReadFault>
     ensures found { IfOk result (λ _. ok_map (λ rest. found.old ++ rest)
         (spec.reference AffectedKind.Line (seen table.now) (view tree.now)) ≡ Ok found.new) }
     ensures fault { IfErr result
@@ -107,7 +111,11 @@ fn add_line(found: &mut List<Reference>, table: &Timetable, tree: &Value<'_>) ->
 }
 
 // The stop that an object names, if it names one, behind the references that were found before.
-fn add_stop(found: &mut List<Reference>, table: &Timetable, tree: &Value<'_>) -> Result<(), ReadFault>
+fn add_stop(
+    found: &mut List<Reference>,
+    table: &Timetable,
+    tree: &Value<'_>,
+) -> Result<(), ReadFault>
     ensures found { IfOk result (λ _. ok_map (λ rest. found.old ++ rest)
         (spec.reference AffectedKind.StopPoint (seen table.now) (view tree.now)) ≡ Ok found.new) }
     ensures fault { IfErr result
@@ -176,14 +184,14 @@ fn day_in_form(tree: &Value<'_>) -> bool
 }
 
 // Whether the day of each journey has its form.
-fn each_day_in_form(trees: &[&Value<'_>]) -> bool
-    ensures { result ≡ list_all (λ tree. spec.day_in_form (view tree.now)) trees.now }
+fn each_day_in_form(trees: &[Branch<'_, '_>]) -> bool
+    ensures { result ≡ list_all (λ tree. spec.day_in_form (view tree.tree.now)) trees.now }
 {
-    trees.iter().all(|tree| day_in_form(tree))
+    trees.iter().all(|tree| day_in_form(tree.tree))
 }
 
 // Whether the days have their form, where objects hold references to journeys.
-fn days_in_form(kind: AffectedKind, trees: &[&Value<'_>]) -> bool
+fn days_in_form(kind: AffectedKind, trees: &[Branch<'_, '_>]) -> bool
     ensures { result ≡ spec.days_in_form kind (all_seen trees.now) }
 {
     match kind {
@@ -197,7 +205,7 @@ fn gather_references(
     found: &mut List<Reference>,
     kind: AffectedKind,
     table: &Timetable,
-    trees: &[&Value<'_>],
+    trees: &[Branch<'_, '_>],
 ) -> Result<(), ReadFault>
     ensures found { IfOk result (λ _. ok_map (λ rest. found.old ++ rest)
         (gather (spec.reference kind (seen table.now)) (all_seen trees.now)) ≡ Ok found.new) }
@@ -205,7 +213,7 @@ fn gather_references(
         (IsFaultOf (gather (spec.reference kind (seen table.now)) (all_seen trees.now))) }
 {
     for tree in trees {
-        if let Err(fault) = add_reference(found, kind, table, tree) {
+        if let Err(fault) = add_reference(found, kind, table, tree.tree) {
             return Err(fault);
         }
     }
@@ -217,7 +225,7 @@ fn add_references(
     found: &mut List<Reference>,
     kind: AffectedKind,
     table: &Timetable,
-    trees: &[&Value<'_>],
+    trees: &[Branch<'_, '_>],
 ) -> Result<(), ReadFault>
     ensures found { IfOk result (λ _. ok_map (λ rest. found.old ++ rest)
         (spec.references_in kind (seen table.now) (all_seen trees.now)) ≡ Ok found.new) }

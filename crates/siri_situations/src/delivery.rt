@@ -13,6 +13,7 @@ ghost use Rattle.siri_situations.specs.Situations as spec;
 
 use crate::frame::groups_in;
 use crate::situations::verdict;
+use crate::steps::Branch;
 use gw_base::{List, Member};
 use journey_model::{Context, Fault, Situation};
 use json::{Scratch, Value};
@@ -87,7 +88,7 @@ fn add_items(
 // What all items are.
 fn all_items(
     alloc: Global,
-    groups: &[&Value<'_>],
+    groups: &[Branch<'_, '_>],
     context: &Context<'_>,
 ) -> Result<SituationDelivery, AllocError>
     ensures { IfOk result (λ delivery. HasVerdicts delivery
@@ -99,7 +100,7 @@ fn all_items(
         passed: 0,
     };
     for group in groups {
-        add_items(alloc, &mut delivery, group, context)?;
+        add_items(alloc, &mut delivery, group.tree, context)?;
     }
     Ok(delivery)
 }

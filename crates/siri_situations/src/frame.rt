@@ -6,7 +6,7 @@ ghost use Rattle.siri_situations.specs.Frame as spec;
 ghost use Rattle.siri_situations.specs.Shown.{all_seen};
 ghost use Rattle.siri_situations.specs.Steps.{gather};
 
-use crate::steps::add_trees;
+use crate::steps::{Branch, add_trees};
 use gw_base::Member;
 use json::Value;
 use json_tree::find;
@@ -52,7 +52,7 @@ fn group<'t, 'a>(delivery: &'t Value<'a>) -> Result<&'t [Value<'a>], Member>
 fn groups_of<'t, 'a>(
     alloc: Global,
     deliveries: &'t [Value<'a>],
-) -> Result<Vec<&'t Value<'a>>, DeliveryFault>
+) -> Result<Vec<Branch<'t, 'a>>, DeliveryFault>
     ensures found { IfOk result (λ found.
         gather spec.group (map view deliveries.now) ≡ Ok (all_seen found.items)) }
     ensures fault { IfErr result (IsFrameFault (gather spec.group (map view deliveries.now))) }
@@ -70,7 +70,7 @@ fn groups_of<'t, 'a>(
 pub(crate) fn groups_in<'t, 'a>(
     alloc: Global,
     root: &'t Value<'a>,
-) -> Result<Vec<&'t Value<'a>>, DeliveryFault>
+) -> Result<Vec<Branch<'t, 'a>>, DeliveryFault>
     ensures found { IfOk result (λ found.
         spec.groups_in (view root.now) ≡ Ok (all_seen found.items)) }
     ensures fault { IfErr result (IsFrameFault (spec.groups_in (view root.now))) }

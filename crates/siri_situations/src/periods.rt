@@ -79,7 +79,11 @@ fn gather_periods(
 }
 
 // The same, where the starts of all periods have their form.
-fn periods_in(alloc: Global, trees: &[Value<'_>], zone: &Zone) -> Result<List<ValidPeriod>, ReadFault>
+fn periods_in(
+    alloc: Global,
+    trees: &[Value<'_>],
+    zone: &Zone,
+) -> Result<List<ValidPeriod>, ReadFault>
     ensures found { IfOk result (λ found.
         spec.periods_in zone.now (map view trees.now) ≡ Ok found) }
     ensures fault { IfErr result (IsFaultOf (spec.periods_in zone.now (map view trees.now))) }

@@ -13,7 +13,7 @@ use crate::affected::{Reference, affected, read_references};
 use crate::periods::read_periods;
 use crate::said::{Head, Said, Words};
 use crate::senses::{cause, effect_of, is_served};
-use crate::steps::{Step, walk};
+use crate::steps::{Branch, Step, walk};
 use gw_base::{List, Member, Text};
 use journey_model::{Context, Fault, Ref, Situation};
 use json::Value;
@@ -98,11 +98,11 @@ fn read_said(alloc: Global, tree: &Value<'_>, zone: &Zone) -> Result<Said, ReadF
 }
 
 // The condition of the first of some consequences.
-fn condition<'a>(consequences: &[&'a Value<'_>]) -> Result<Option<&'a str>, Fault>
+fn condition<'t>(consequences: &[Branch<'t, '_>]) -> Result<Option<&'t str>, Fault>
     ensures { text_told result ≡ spec.condition (all_seen consequences.now) }
 {
     match consequences.first() {
-        Some(first) => optional_text(first, Member::Condition),
+        Some(first) => optional_text(first.tree, Member::Condition),
         None => Ok(None),
     }
 }

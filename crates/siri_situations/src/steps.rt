@@ -14,6 +14,13 @@ use siri_calls::read_fault::ReadFault;
 use std::alloc::{AllocError, Global};
 use std::slice;
 
+/// A tree in a delivery.
+#[derive(Clone, Copy)]
+pub(crate) struct Branch<'t, 'a> {
+    /// The tree.
+    pub tree: &'t Value<'a>,
+}
+
 /// A step down from an object, to a member that may be missing.
 #[derive(Clone, Copy, Debug, PartialEq, Eq)]
 pub(crate) enum Step {
@@ -49,14 +56,14 @@ pub(crate) fn trees_at<'t, 'a>(tree: &'t Value<'a>, step: &Step) -> Result<&'t [
 
 /// Trees, behind those that were found before.
 pub(crate) fn add_trees<'t, 'a>(
-    found: &mut Vec<&'t Value<'a>>,
+    found: &mut Vec<Branch<'t, 'a>>,
     trees: &'t [Value<'a>],
 ) -> Result<(), AllocError>
     ensures { OnOk result
         (all_seen found.new.items ≡ all_seen found.old.items ++ map view trees.now) }
 {
     for tree in trees {
-        found.push(tree)?;
+        found.push(Branch { tree })?;
     }
     Ok(())
 }
@@ -64,9 +71,9 @@ pub(crate) fn add_trees<'t, 'a>(
 // The trees to which a step leads from trees.
 fn step_from<'t, 'a>(
     alloc: Global,
-    trees: &[&'t Value<'a>],
+    trees: &[Branch<'t, 'a>],
     step: &Step,
-) -> Result<Vec<&'t Value<'a>>, ReadFault>
+) -> Result<Vec<Branch<'t, 'a>>, ReadFault>
     ensures found { IfOk result (λ found.
         spec.gather (spec.trees_at step.now) (all_seen trees.now) ≡ Ok (all_seen found.items)) }
     ensures fault { IfErr result
@@ -74,7 +81,7 @@ fn step_from<'t, 'a>(
 {
     let mut found = Vec::new(alloc);
     for tree in trees {
-        let under = trees_at(tree, step)?;
+        let under = trees_at(tree.tree, step)?;
         add_trees(&mut found, under)?;
     }
     Ok(found)
@@ -85,7 +92,7 @@ pub(crate) fn walk<'t, 'a>(
     alloc: Global,
     start: &'t [Value<'a>],
     steps: &[Step],
-) -> Result<Vec<&'t Value<'a>>, ReadFault>
+) -> Result<Vec<Branch<'t, 'a>>, ReadFault>
     ensures found { IfOk result (λ found.
         spec.walk steps.now (map view start.now) ≡ Ok (all_seen found.items)) }
     ensures fault { IfErr result (IsFaultOf (spec.walk steps.now (map view start.now))) }
