@@ -20,6 +20,8 @@ pub enum Found<'a> {
 }
 
 // Two bodies, of which each has to be a list of fields by itself.
+#[cold]
+#[inline(never)]
 fn joined(alloc: Global, first: &[u8], second: &[u8]) -> Result<Bytes, PlainFault>
     ensures { IfOk result (AreJoined first.now second.now) }
 {
@@ -32,6 +34,7 @@ fn joined(alloc: Global, first: &[u8], second: &[u8]) -> Result<Bytes, PlainFaul
 }
 
 // These bodies and one more.
+#[inline(always)]
 fn with_body<'a>(alloc: Global, found: Found<'a>, body: &'a [u8]) -> Result<Found<'a>, PlainFault>
     ensures { IfOk result (λ more. (bodies : List (List ℕ)) → IsFoundIn bodies found.entry → IsFoundIn (bodies ++ body.now ∷ []) more) }
 {
@@ -48,6 +51,7 @@ fn with_body<'a>(alloc: Global, found: Found<'a>, body: &'a [u8]) -> Result<Foun
 }
 
 // Adds the body of a field, if it has this number.
+#[inline(always)]
 pub fn add_body<'a>(
     alloc: Global,
     number: u32,
