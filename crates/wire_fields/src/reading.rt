@@ -12,9 +12,17 @@ use crate::item::{Item, read_item, read_varint};
 use gw_base::WireKind;
 
 /// The bytes behind the end of a group of this number, whose start stands before these bytes.
+#[inline(always)]
+fn skip_group(number: u32, bytes: &[u8]) -> Result<&[u8], WireKind>
+    ensures found { IfOk result (λ rest. EndsGroup number bytes.now rest.now) }
+    ensures fault { IfErr result (λ kind. BreaksInGroup number bytes.now kind) }
+{
+    skip_group_apart(number, bytes)
+}
+
 #[cold]
 #[inline(never)]
-fn skip_group(number: u32, bytes: &[u8]) -> Result<&[u8], WireKind>
+fn skip_group_apart(number: u32, bytes: &[u8]) -> Result<&[u8], WireKind>
     ensures found { IfOk result (λ rest. EndsGroup number bytes.now rest.now) }
     ensures fault { IfErr result (λ kind. BreaksInGroup number bytes.now kind) }
 {

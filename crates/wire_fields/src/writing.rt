@@ -3,10 +3,10 @@ ghost use Rattle.std.specs.Prelude.{◌≡◌, ◌++◌, ◌-◌, ◌≤◌, len
 ghost use Rattle.gw_base.specs.Written.{Written};
 ghost use Rattle.wire_fields.specs.Spelling.{varint, varint_field, bytes_field};
 
-use crate::varint::spell_varint;
 use gw_base::Buf;
 
 /// Writes a number's shortest spelling at the end. Takes no memory.
+#[inline(always)]
 pub fn put_varint(buf: &mut Buf, value: u64)
     requires room { length (varint value) ≤ buf.old.spare }
     ensures bytes { buf.new.bytes ≡ buf.old.bytes ++ varint value }
@@ -16,11 +16,26 @@ pub fn put_varint(buf: &mut Buf, value: u64)
         buf.put(value as u8);
         return;
     }
-    let text = spell_varint(value);
-    buf.put_slice(text.as_slice());
+    put_long_varint(buf, value);
+}
+
+/// The same, byte by byte.
+#[inline(never)]
+fn put_long_varint(buf: &mut Buf, value: u64)
+    requires room { length (varint value) ≤ buf.old.spare }
+    ensures bytes { buf.new.bytes ≡ buf.old.bytes ++ varint value }
+    ensures spare { buf.new.spare ≡ buf.old.spare - length (varint value) }
+{
+    let mut rest = value;
+    while rest >= 128 {
+        buf.put((rest % 128) as u8 + 128);
+        rest /= 128;
+    }
+    buf.put(rest as u8);
 }
 
 /// Writes a field of that number that holds a number (wire type 0) at the end. Takes no memory.
+#[inline(always)]
 pub fn put_field_varint(buf: &mut Buf, number: u32, value: u64)
     requires first { 1 ≤ number }
     requires last { number ≤ 536870911 }
@@ -33,6 +48,7 @@ pub fn put_field_varint(buf: &mut Buf, number: u32, value: u64)
 }
 
 /// Writes a field of that number that holds bytes (wire type 2) at the end. Takes no memory.
+#[inline(always)]
 pub fn put_field_bytes(buf: &mut Buf, number: u32, bytes: &[u8])
     requires first { 1 ≤ number }
     requires last { number ≤ 536870911 }
