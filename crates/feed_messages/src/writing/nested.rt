@@ -34,12 +34,14 @@ pub trait WrittenMessage {
 }
 
 // How long a field of a message is.
+#[inline(always)]
 pub fn message_size<M: WrittenMessage>(number: u32, message: &M) -> u64
     ensures { Counts result (bytes_field number (M.written message.now)) }
 {
     bytes_size(number, message.size())
 }
 
+#[inline(always)]
 pub fn optional_message_size<M: WrittenMessage>(number: u32, message: &Option<M>) -> u64
     ensures { Counts result (if_there (λ m. bytes_field number (M.written m)) message.now) }
 {
@@ -61,6 +63,7 @@ pub fn messages_size<M: WrittenMessage>(number: u32, messages: &List<M>) -> u64
 }
 
 // Writes a field of a message.
+#[inline(always)]
 pub fn put_message<M: WrittenMessage>(buf: &mut Buf, number: u32, message: &M)
     requires first { 1 ≤ number }
     requires last { number ≤ 536870911 }
@@ -75,6 +78,7 @@ pub fn put_message<M: WrittenMessage>(buf: &mut Buf, number: u32, message: &M)
     message.put(buf);
 }
 
+#[inline(always)]
 pub fn put_optional_message<M: WrittenMessage>(buf: &mut Buf, number: u32, message: &Option<M>)
     requires first { 1 ≤ number }
     requires last { number ≤ 536870911 }
