@@ -87,6 +87,23 @@ pub varint-small : (number : ℕ) → number < 128 → varint number ≡ number 
 unfolding varint
 varint-small number below = last_byte 9 number below
 
+-- a number of two bytes, and one of five
+pub varint_2 : (number : ℕ) → 128 ≤ number → number < 16384 → varint number ≡ (number % 128 + 128) ∷ (number / 128) ∷ []
+unfolding varint
+varint_2 number least most = rw (first_byte 9 number least, last_byte 8 (number / 128) (omega arith)) refl
+
+pub varint_5 : (n : ℕ) → 268435456 ≤ n → n < 34359738368
+    → varint n ≡ (n % 128 + 128) ∷ (n / 128 % 128 + 128) ∷ (n / 128 / 128 % 128 + 128) ∷ (n / 128 / 128 / 128 % 128 + 128) ∷ (n / 128 / 128 / 128 / 128) ∷ []
+unfolding varint
+varint_5 n least most =
+    rw (
+      first_byte 9 n (omega arith),
+      first_byte 8 (n / 128) (omega arith),
+      first_byte 7 (n / 128 / 128) (omega arith),
+      first_byte 6 (n / 128 / 128 / 128) (omega arith),
+      last_byte 5 (n / 128 / 128 / 128 / 128) (omega arith),
+    ) refl
+
 -- the length of a spelling, by ranges
 pub length-varint_1 : (number : ℕ) → number < 128 → length (varint number) ≡ 1
 unfolding varint

@@ -1,6 +1,6 @@
 use Rattle.std.proofs.Common.{◌≡◌, ℕ, ◌+◌, ◌^◌, ◌<◌, ◌≤◌, ◌++◌, length}
 use Rattle.wire_fields.specs.Spelling.{seven_bits_each, varint}
-use Rattle.wire_fields.proofs.writing.put_long_varint.Given as goal
+use Rattle.wire_fields.proofs.writing.put_each.Given as goal
 
 -- what is written and the spelling of the rest are the whole spelling, and there is room for it
 abbrev pub invariant-loop-rest : goal.invariant-loop-rest

@@ -2,7 +2,7 @@
 use Rattle.std.proofs.Common.{ℕ, List, [], ◌∷◌, ◌++◌, ◌%◌, ◌/◌, ◌+◌, ◌-◌, length, refl, ap, sym, ◌∙◌, arith, append_assoc}
 use Rattle.wire_fields.specs.Spelling.{varint, seven_bits_each}
 use Rattle.wire_fields.proofs.Varints.{one_more, no_more}
-use Rattle.wire_fields.proofs.writing.put_long_varint.Goals as goal
+use Rattle.wire_fields.proofs.writing.put_each.Goals as goal
 
 pub loop-rest-init : goal.loop-rest-init
 unfolding varint
