@@ -7,8 +7,8 @@ mod fields;
 mod messages;
 mod nested;
 
-use gw_base::{Buf, Bytes, Entity};
 use fields::bytes_size;
+use gw_base::{Buf, Bytes, Entity};
 use nested::{WrittenMessage, put_sized};
 use std::alloc::{AllocError, Global};
 
