@@ -37,8 +37,14 @@ impl<'a> Parts<'a> for EventParts {
 
     #[inline(always)]
     fn take(&mut self, _alloc: Global, field: &Field<'a>) -> Result<(), PlainFault> {
-        self.delay = number_after(1, field, self.delay);
-        self.time = number_after(2, field, self.time);
+        if field.number == 1 {
+            self.delay = number_after(1, field, self.delay);
+            return Ok(());
+        }
+        if field.number == 2 {
+            self.time = number_after(2, field, self.time);
+            return Ok(());
+        }
         Ok(())
     }
 
@@ -142,9 +148,18 @@ impl<'a> Parts<'a> for StopParts<'a> {
 
     #[inline(always)]
     fn take(&mut self, alloc: Global, field: &Field<'a>) -> Result<(), PlainFault> {
-        self.sequence = number_after(1, field, self.sequence);
-        add_body(alloc, 2, field, &mut self.arrival)?;
-        add_body(alloc, 3, field, &mut self.departure)?;
+        if field.number == 1 {
+            self.sequence = number_after(1, field, self.sequence);
+            return Ok(());
+        }
+        if field.number == 2 {
+            add_body(alloc, 2, field, &mut self.arrival)?;
+            return Ok(());
+        }
+        if field.number == 3 {
+            add_body(alloc, 3, field, &mut self.departure)?;
+            return Ok(());
+        }
         self.stop_id = text_after(4, field, self.stop_id)?;
         self.relation = number_after(5, field, self.relation);
         Ok(())
