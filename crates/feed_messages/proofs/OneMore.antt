@@ -1,5 +1,6 @@
 -- One field behind others: what its kind says of them all.
-use Rattle.std.proofs.Common.{append_assoc, ◌≡◌, ◌≢◌, ◌==◌, ℕ, ◌≤◌, List, [], ◌∷◌, ◌++◌, length, refl, sym, ap, subst, ◌∙◌}
+use Rattle.std.proofs.Common.{append_assoc, ◌≡◌, ◌≢◌, ◌==◌, Bool, ℕ, ◌≤◌, List, [], ◌∷◌, ◌++◌, length, refl, sym, ap, subst, ◌∙◌}
+use Rattle.std.proofs.lemmas.Bool.{ne_eqb}
 use Rattle.std.proofs.lemmas.List.{append-nil}
 use Rattle.std.proofs.lemmas.List.Elements.{filter_map-append}
 use Rattle.std.specs.Prelude.{Option, Some, None, IsUtf8, if◌then◌else◌}
@@ -86,6 +87,20 @@ found_new number fields field old new body e more known = subst (λ (bs : List (
 
 pub found_same : (number : ℕ) (fields : List WireField) (field : WireField) (old : Found) → holds body_in number field ≡ None → IsFound number fields old → IsFound number (fields ++ field ∷ []) old
 found_same number fields field old e known = subst (λ (bs : List (List ℕ)). IsFoundIn bs old) (sym (held_same body_in number fields field e)) known
+
+-- a field of another number
+
+other : {X : Type 0} (what : Payload → Option X) (number : ℕ) (field : WireField) → field.number ≢ number → holds what number field ≡ None
+other what number field differs = ap (λ (b : Bool). if b then what field.payload else None) (ne_eqb field.number number differs)
+
+pub number_other : (number : ℕ) (fields : List WireField) (field : WireField) (last : Option ℕ) → field.number ≢ number → IsUint64 number fields last → IsUint64 number (fields ++ field ∷ []) last
+number_other number fields field last differs = number_same number fields field last (other number_in number field differs)
+
+pub text_other : (number : ℕ) (fields : List WireField) (field : WireField) (last : Option (List ℕ)) → field.number ≢ number → IsText number fields last → IsText number (fields ++ field ∷ []) last
+text_other number fields field last differs = text_same number fields field last (other body_in number field differs)
+
+pub found_other : (number : ℕ) (fields : List WireField) (field : WireField) (old : Found) → field.number ≢ number → IsFound number fields old → IsFound number (fields ++ field ∷ []) old
+found_other number fields field old differs = found_same number fields field old (other body_in number field differs)
 
 -- what they mean
 

@@ -7,8 +7,9 @@ mod fields;
 mod messages;
 mod nested;
 
+use fields::bytes_size;
 use gw_base::{Buf, Bytes, Entity};
-use nested::{message_size, put_message};
+use nested::{WrittenMessage, put_sized};
 use std::alloc::{AllocError, Global};
 
 /// The entity as a field of its feed, tag and length included (GTFS Realtime, FeedEntity). Its length is measured first,
@@ -17,11 +18,12 @@ pub fn entity_bytes(alloc: Global, entity: &Entity) -> Result<Bytes, AllocError>
     ensures written { IfOk result (λ bytes. bytes ≡ written entity.now) }
     ensures means { IfOk result (λ bytes. MeansEntity bytes entity.now) }
 {
-    let size = message_size(2, entity);
+    let fields = entity.size();
+    let size = bytes_size(2, fields);
     if size == u64::MAX {
         return Err(AllocError);
     }
     let mut buf = Buf::with_room(alloc, size as usize)?;
-    put_message(&mut buf, 2, entity);
+    put_sized(&mut buf, 2, fields, entity);
     Ok(buf.into_bytes())
 }

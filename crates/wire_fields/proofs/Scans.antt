@@ -1,5 +1,5 @@
 -- Reading a varint from left to right, seven bits at a time.
-use Rattle.std.proofs.Common.{◌≡◌, ℕ, zero, suc, ◌+◌, ◌-◌, ◌*◌, ◌/◌, ◌%◌, ◌^◌, ◌<◌, ◌≤◌, List, [], ◌∷◌, length, get_or, drop, Result, Ok, Err, refl, sym, ap, ◌∙◌, arith, add-one}
+use Rattle.std.proofs.Common.{◌≡◌, ℕ, suc, ◌+◌, ◌-◌, ◌*◌, ◌/◌, ◌%◌, ◌^◌, ◌<◌, ◌≤◌, List, [], ◌∷◌, length, get_or, drop, Result, Ok, Err, refl, sym, ap, ◌∙◌, arith, add-one}
 use Rattle.std.specs.Int.Bits.{bit_or}
 use Rattle.std.proofs.lemmas.List.{drop_more, drop_all}
 use Rattle.std.proofs.lemmas.Nat.{pow-add, or_comm, or_shifted, mod-mul-add, mul-add-lt, mod_below, div-add-mod', pow_pos}
@@ -8,6 +8,7 @@ use Rattle.gw_base.specs.declared.wire_kind.WireKind.{WireKind}
 use Rattle.gw_base.specs.declared.wire_kind.WireKind.TheVariants.{Truncated, LongVarint}
 use Rattle.wire_fields.specs.Reading.{◌>>=◌, chain_at, varint_at}
 use Rattle.wire_fields.proofs.Numbers.{chain_last, chain_more}
+use Rattle.wire_fields.proofs.Varints.{power}
 
 -- what is read of the rest, behind i bytes whose number is low
 abbrev pub raised : ℕ → ℕ → Result (ℕ × List ℕ) WireKind → Result (ℕ × List ℕ) WireKind
@@ -20,12 +21,6 @@ pub record IsScan (bytes : List ℕ) (i value : ℕ) : Type 0 where
   pub small : low < 128 ^ i
   pub value_is : value ≡ low % 2 ^ 64
   pub same : chain_at 10 bytes ≡ raised low i (chain_at (10 - i) (drop i bytes))
-
-power : (i : ℕ) → 128 ^ i ≡ 2 ^ (7 * i)
-power zero = refl
-power (suc i) =
-    let more : 7 * suc i ≡ 7 * i + 7 = omega arith in
-    pow-suc 128 i ∙ ap (λ (x : ℕ). x * 128) (power i) ∙ sym (ap (λ (k : ℕ). 2 ^ k) more ∙ pow-add 2 (7 * i) 7)
 
 -- seven more bits, of which those past 64 are dropped
 or_value : (low i c : ℕ) → i < 10 → low < 128 ^ i → bit_or (low % 2 ^ 64) (c * 2 ^ (7 * i) % 2 ^ 64) ≡ (low + 128 ^ i * c) % 2 ^ 64

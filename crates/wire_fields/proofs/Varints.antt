@@ -1,9 +1,16 @@
 -- How long a number's spelling is, and how it goes on byte by byte.
-use Rattle.std.proofs.Common.{◌≡◌, ℕ, zero, suc, ◌+◌, ◌*◌, ◌/◌, ◌%◌, ◌^◌, ◌<◌, ◌≤◌, [], ◌∷◌, length, refl, arith, inl, inr}
+use Rattle.std.proofs.Common.{◌≡◌, ℕ, zero, suc, ◌+◌, ◌*◌, ◌/◌, ◌%◌, ◌^◌, ◌<◌, ◌≤◌, [], ◌∷◌, length, refl, sym, ap, ◌∙◌, arith, inl, inr}
 use Rattle.std.proofs.lemmas.Bool.{cases_lt, le-ltb, lt-ltb}
-use Rattle.std.proofs.lemmas.Nat.{div_below}
-use Rattle.std.proofs.Math.Nat.{pow-suc}
+use Rattle.std.proofs.lemmas.Nat.{div_below, pow-add}
+use Rattle.std.proofs.Math.Nat.{pow-suc, one-le-pow}
+use Rattle.std.proofs.Math.Pow.{pow_mono}
 use Rattle.wire_fields.specs.Spelling.{seven_bits_each, varint}
+
+pub power : (i : ℕ) → 128 ^ i ≡ 2 ^ (7 * i)
+power zero = refl
+power (suc i) =
+    let more : 7 * suc i ≡ 7 * i + 7 = omega arith in
+    pow-suc 128 i ∙ ap (λ (x : ℕ). x * 128) (power i) ∙ sym (ap (λ (k : ℕ). 2 ^ k) more ∙ pow-add 2 (7 * i) 7)
 
 -- a number below 128 is its own spelling
 pub last_byte : (most number : ℕ) → number < 128 → seven_bits_each (suc most) number ≡ number ∷ []
@@ -46,6 +53,30 @@ one_more left next number e above below =
 pub no_more : (left next number : ℕ) → left ≡ suc next → number < 128 → seven_bits_each left number ≡ number ∷ []
 no_more left next number e lt = rw e (last_byte next number lt)
 
+exact-seven_bits_each : (k most number : ℕ) → suc k ≤ most → 128 ^ k ≤ number → number < 128 ^ suc k → length (seven_bits_each most number) ≡ suc k
+exact-seven_bits_each k zero number fits ge lt = absurd (omega arith)
+exact-seven_bits_each zero (suc most) number fits ge lt = rw (last_byte most number lt) refl
+exact-seven_bits_each (suc k) (suc most) number fits ge lt =
+    let power : 128 ^ suc (suc k) ≡ 128 ^ suc k * 128 = pow-suc 128 (suc k) in
+    let lower : 128 ^ suc k ≡ 128 ^ k * 128 = pow-suc 128 k in
+    let some : 0 < 128 ^ k = one-le-pow k 128 (omega arith) in
+    let above : 128 ≤ number = omega (arith, ge, lower, some) in
+    let more : 128 ^ k ≤ number / 128 = omega (arith, ge, lower) in
+    let less : number / 128 < 128 ^ suc k = div_below number 128 (128 ^ suc k) (omega arith) (omega (arith, power, lt)) in
+    rw (first_byte most number above) (omega (arith, exact-seven_bits_each k most (number / 128) (omega arith) more less))
+
+-- the length of a spelling, by the place of the highest bit
+pub length-varint_bit : (bit number : ℕ) → bit < 64 → 2 ^ bit ≤ number → number < 2 * 2 ^ bit → length (varint number) ≡ bit / 7 + 1
+unfolding varint
+length-varint_bit bit number few ge lt =
+    let k = bit / 7 in
+    let low : 128 ^ k ≡ 2 ^ (7 * k) = power k in
+    let high : 128 ^ suc k ≡ 2 ^ (7 * suc k) = power (suc k) in
+    let below : 2 ^ (7 * k) ≤ 2 ^ bit = pow_mono (omega arith) in
+    let above : 2 ^ suc bit ≤ 2 ^ (7 * suc k) = pow_mono (omega arith) in
+    let twice : 2 ^ suc bit ≡ 2 ^ bit * 2 = pow-suc 2 bit in
+    omega (arith, exact-seven_bits_each k 10 number (omega arith) (omega (arith, low, below, ge)) (omega (arith, high, above, twice, lt)))
+
 -- a number below 128 ^ k is spelled in at most k bytes, k being 1 to 10
 pub length-varint_below : (k number : ℕ) → k < 10 → number < 128 ^ suc k → length (varint number) ≤ suc k
 unfolding varint
@@ -55,6 +86,23 @@ length-varint_below k number lt below = (length-seven_bits_each k 10 number (ome
 pub varint-small : (number : ℕ) → number < 128 → varint number ≡ number ∷ []
 unfolding varint
 varint-small number below = last_byte 9 number below
+
+-- a number of two bytes, and one of five
+pub varint_2 : (number : ℕ) → 128 ≤ number → number < 16384 → varint number ≡ (number % 128 + 128) ∷ (number / 128) ∷ []
+unfolding varint
+varint_2 number least most = rw (first_byte 9 number least, last_byte 8 (number / 128) (omega arith)) refl
+
+pub varint_5 : (n : ℕ) → 268435456 ≤ n → n < 34359738368
+    → varint n ≡ (n % 128 + 128) ∷ (n / 128 % 128 + 128) ∷ (n / 128 / 128 % 128 + 128) ∷ (n / 128 / 128 / 128 % 128 + 128) ∷ (n / 128 / 128 / 128 / 128) ∷ []
+unfolding varint
+varint_5 n least most =
+    rw (
+      first_byte 9 n (omega arith),
+      first_byte 8 (n / 128) (omega arith),
+      first_byte 7 (n / 128 / 128) (omega arith),
+      first_byte 6 (n / 128 / 128 / 128) (omega arith),
+      last_byte 5 (n / 128 / 128 / 128 / 128) (omega arith),
+    ) refl
 
 -- the length of a spelling, by ranges
 pub length-varint_1 : (number : ℕ) → number < 128 → length (varint number) ≡ 1

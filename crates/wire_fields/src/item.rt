@@ -1,5 +1,5 @@
 //! One item at the front of bytes: a tag with its payload. Reading one is `item_at` of `specs/Reading.antt`.
-ghost use Rattle.std.specs.Prelude.{◌≡◌};
+ghost use Rattle.std.specs.Prelude.{◌≡◌, ◌≢◌};
 ghost use Rattle.std.specs.Int.{w32, w64};
 ghost use Rattle.wire_fields.specs.Reading.{Gives, varint_at, bytes_at, fixed_at, payload_at, item_at};
 ghost use Rattle.wire_fields.specs.Seen.{item_of};
@@ -18,6 +18,7 @@ pub enum Item<'a> {
 
 impl<'a> Item<'a> {
     /// The item of a field.
+    #[inline(always)]
     fn holding(number: u32, value: Value<'a>) -> Item<'a>
         ensures { result ≡ Item.Holds (record { number = number; value = value.entry }) }
     {
@@ -33,12 +34,41 @@ pub fn read_varint(bytes: &[u8]) -> Result<(u64, &[u8]), WireKind>
 {
     match bytes {
         [byte, rest @ ..] if *byte < 128 => Ok((u64::from(*byte), rest)),
+        _ => read_rare_varint(bytes),
+    }
+}
+
+/// The same where longer spellings are as common.
+#[tactic(auto, unfolding(crate::specs::Reading::varint_at, crate::specs::Reading::chain_at))]
+#[inline(always)]
+fn read_number(bytes: &[u8]) -> Result<(u64, &[u8]), WireKind>
+    ensures { Gives (λ x. (x.0, x.1.now)) result (varint_at bytes.now) }
+{
+    match bytes {
+        [byte, rest @ ..] if *byte < 128 => Ok((u64::from(*byte), rest)),
         _ => read_long_varint(bytes),
     }
 }
 
-/// The same, byte by byte, of which there are ten at most.
+/// The same where longer spellings are rare. A function that calls what stands apart clears the room of the answer when
+/// it starts, so this one stands between.
+#[inline(always)]
+fn read_rare_varint(bytes: &[u8]) -> Result<(u64, &[u8]), WireKind>
+    ensures { Gives (λ x. (x.0, x.1.now)) result (varint_at bytes.now) }
+{
+    read_varint_apart(bytes)
+}
+
+#[cold]
 #[inline(never)]
+fn read_varint_apart(bytes: &[u8]) -> Result<(u64, &[u8]), WireKind>
+    ensures { Gives (λ x. (x.0, x.1.now)) result (varint_at bytes.now) }
+{
+    read_long_varint(bytes)
+}
+
+/// The same, byte by byte, of which there are ten at most.
+#[inline(always)]
 fn read_long_varint(bytes: &[u8]) -> Result<(u64, &[u8]), WireKind>
     ensures { Gives (λ x. (x.0, x.1.now)) result (varint_at bytes.now) }
 {
@@ -58,6 +88,7 @@ fn read_long_varint(bytes: &[u8]) -> Result<(u64, &[u8]), WireKind>
 
 /// So many bytes from the front, and the bytes behind them.
 #[tactic(auto, unfolding(crate::specs::Reading::bytes_at))]
+#[inline(always)]
 fn read_bytes(size: u64, bytes: &[u8]) -> Result<(&[u8], &[u8]), WireKind>
     ensures { Gives (λ x. (x.0.now, x.1.now)) result (bytes_at size bytes.now) }
 {
@@ -98,22 +129,54 @@ fn read_fixed32(bytes: &[u8]) -> Result<(u32, &[u8]), WireKind>
 
 /// The payload of an item of this number and wire type, and the bytes behind it.
 #[tactic(auto, unfolding(crate::specs::Reading::payload_at))]
+#[inline(always)]
 fn read_payload(number: u32, wire_type: u64, bytes: &[u8]) -> Result<(Item<'_>, &[u8]), WireKind>
     ensures { Gives (λ x. (item_of x.0, x.1.now)) result (payload_at number wire_type bytes.now) }
 {
     match wire_type {
         0 => {
-            let (value, rest) = read_varint(bytes)?;
+            let (value, rest) = read_number(bytes)?;
             Ok((Item::holding(number, Value::Varint(value)), rest))
-        }
-        1 => {
-            let (value, rest) = read_fixed64(bytes)?;
-            Ok((Item::holding(number, Value::Fixed64(value)), rest))
         }
         2 => {
             let (size, rest) = read_varint(bytes)?;
             let (body, rest) = read_bytes(size, rest)?;
             Ok((Item::holding(number, Value::Bytes(body)), rest))
+        }
+        _ => read_rare_payload(number, wire_type, bytes),
+    }
+}
+
+/// The same at a wire type that is rare.
+#[inline(always)]
+fn read_rare_payload(
+    number: u32,
+    wire_type: u64,
+    bytes: &[u8],
+) -> Result<(Item<'_>, &[u8]), WireKind>
+    requires no_number { wire_type ≢ 0 }
+    requires no_bytes { wire_type ≢ 2 }
+    ensures { Gives (λ x. (item_of x.0, x.1.now)) result (payload_at number wire_type bytes.now) }
+{
+    read_payload_apart(number, wire_type, bytes)
+}
+
+#[tactic(auto, unfolding(crate::specs::Reading::payload_at))]
+#[cold]
+#[inline(never)]
+fn read_payload_apart(
+    number: u32,
+    wire_type: u64,
+    bytes: &[u8],
+) -> Result<(Item<'_>, &[u8]), WireKind>
+    requires no_number { wire_type ≢ 0 }
+    requires no_bytes { wire_type ≢ 2 }
+    ensures { Gives (λ x. (item_of x.0, x.1.now)) result (payload_at number wire_type bytes.now) }
+{
+    match wire_type {
+        1 => {
+            let (value, rest) = read_fixed64(bytes)?;
+            Ok((Item::holding(number, Value::Fixed64(value)), rest))
         }
         3 => Ok((Item::holding(number, Value::Group), bytes)),
         4 => Ok((Item::Ends(number), bytes)),
@@ -127,6 +190,7 @@ fn read_payload(number: u32, wire_type: u64, bytes: &[u8]) -> Result<(Item<'_>, 
 
 /// The item at the front, and the bytes behind it.
 #[tactic(auto, unfolding(crate::specs::Reading::item_at))]
+#[inline(always)]
 pub fn read_item(bytes: &[u8]) -> Result<(Item<'_>, &[u8]), WireKind>
     ensures { Gives (λ x. (item_of x.0, x.1.now)) result (item_at bytes.now) }
 {

@@ -20,7 +20,7 @@ pub use laws::{
 pub use listing::list_fields;
 pub use reading::{first_number, next_field};
 pub use varint::{Varint, spell_varint, varint_len};
-pub use writing::{put_field_bytes, put_field_varint, put_varint};
+pub use writing::{put_bytes_head, put_field_bytes, put_field_varint, put_varint};
 
 #[cfg(test)]
 mod tests;

@@ -12,7 +12,17 @@ use crate::item::{Item, read_item, read_varint};
 use gw_base::WireKind;
 
 /// The bytes behind the end of a group of this number, whose start stands before these bytes.
+#[inline(always)]
 fn skip_group(number: u32, bytes: &[u8]) -> Result<&[u8], WireKind>
+    ensures found { IfOk result (λ rest. EndsGroup number bytes.now rest.now) }
+    ensures fault { IfErr result (λ kind. BreaksInGroup number bytes.now kind) }
+{
+    skip_group_apart(number, bytes)
+}
+
+#[cold]
+#[inline(never)]
+fn skip_group_apart(number: u32, bytes: &[u8]) -> Result<&[u8], WireKind>
     ensures found { IfOk result (λ rest. EndsGroup number bytes.now rest.now) }
     ensures fault { IfErr result (λ kind. BreaksInGroup number bytes.now kind) }
 {
@@ -27,6 +37,7 @@ fn skip_group(number: u32, bytes: &[u8]) -> Result<&[u8], WireKind>
 }
 
 /// The field at the front, and the bytes behind it.
+#[inline(always)]
 fn first_field(bytes: &[u8]) -> Result<(Field<'_>, &[u8]), WireKind>
     ensures found { IfOk result (λ x. BeginsField bytes.now (field_of x.0) x.1.now) }
     ensures fault { IfErr result (λ kind. IsBreak bytes.now kind) }
@@ -43,6 +54,7 @@ fn first_field(bytes: &[u8]) -> Result<(Field<'_>, &[u8]), WireKind>
 
 /// The next field of a message, and the place behind it: of bytes whose first `at` are a list of fields.
 /// None at the end of the bytes. A fault names this place. Takes no memory.
+#[inline(always)]
 pub fn next_field<'a>(bytes: &'a [u8], at: usize) -> Result<Option<(Field<'a>, usize)>, WireFault>
     requires place { at ≤ length bytes.now }
     requires front { (fields : List WireField) × AreFields (take at bytes.now) fields }

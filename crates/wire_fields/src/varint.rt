@@ -50,16 +50,14 @@ pub fn spell_varint(value: u64) -> Varint
 }
 
 /// The number of bytes of a number's shortest spelling, from 1 to 10.
+#[inline(always)]
 pub fn varint_len(value: u64) -> usize
     ensures counted { result ≡ length (varint value) }
     ensures some { 1 ≤ result }
     ensures most { result ≤ 10 }
 {
-    let mut len = 1;
-    let mut left = value;
-    while left >= 128 {
-        len += 1;
-        left /= 128;
+    if value == 0 {
+        return 1;
     }
-    len
+    value.ilog2() as usize / 7 + 1
 }

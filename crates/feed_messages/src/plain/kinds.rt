@@ -15,6 +15,7 @@ use wire_fields::{Field, Value};
 const WORD: u64 = 4_294_967_296;
 
 // The number that a field holds, if the field has that field number.
+#[inline(always)]
 pub fn number_in(field: &Field<'_>, number: u32) -> Option<u64>
     ensures { result ≡ (if field.now.number == number then number_in (payload_of field.now.value) else None) }
 {
@@ -25,6 +26,7 @@ pub fn number_in(field: &Field<'_>, number: u32) -> Option<u64>
 }
 
 // The bytes that a field holds, if the field has that field number.
+#[inline(always)]
 pub fn body_in<'a>(field: &Field<'a>, number: u32) -> Option<&'a [u8]>
     ensures { option_map (λ body. body.now) result ≡ (if field.now.number == number then body_in (payload_of field.now.value) else None) }
 {

@@ -27,6 +27,7 @@ impl<'a> Parts<'a> for PeriodParts {
 
     ghost table = { OfTimeRange };
 
+    #[inline(always)]
     fn start(_alloc: Global) -> PeriodParts {
         PeriodParts {
             start: None,
@@ -34,12 +35,14 @@ impl<'a> Parts<'a> for PeriodParts {
         }
     }
 
+    #[inline(always)]
     fn take(&mut self, _alloc: Global, field: &Field<'a>) -> Result<(), PlainFault> {
         self.start = number_after(1, field, self.start);
         self.end = number_after(2, field, self.end);
         Ok(())
     }
 
+    #[inline(always)]
     fn finish(self, _alloc: Global) -> Result<Period, PlainFault> {
         Ok(Period {
             start: self.start,
@@ -71,6 +74,7 @@ impl<'a> Parts<'a> for SelectorParts<'a> {
 
     ghost table = { OfEntitySelector };
 
+    #[inline(always)]
     fn start(_alloc: Global) -> SelectorParts<'a> {
         SelectorParts {
             agency_id: None,
@@ -80,6 +84,7 @@ impl<'a> Parts<'a> for SelectorParts<'a> {
         }
     }
 
+    #[inline(always)]
     fn take(&mut self, alloc: Global, field: &Field<'a>) -> Result<(), PlainFault> {
         self.agency_id = text_after(1, field, self.agency_id)?;
         self.route_id = text_after(2, field, self.route_id)?;
@@ -88,6 +93,7 @@ impl<'a> Parts<'a> for SelectorParts<'a> {
         Ok(())
     }
 
+    #[inline(always)]
     fn finish(self, alloc: Global) -> Result<Selector, PlainFault> {
         Ok(Selector {
             agency_id: copied(alloc, self.agency_id)?,
@@ -119,6 +125,7 @@ impl<'a> Parts<'a> for TranslationParts<'a> {
 
     ghost table = { OfTranslation };
 
+    #[inline(always)]
     fn start(_alloc: Global) -> TranslationParts<'a> {
         TranslationParts {
             text: None,
@@ -126,12 +133,14 @@ impl<'a> Parts<'a> for TranslationParts<'a> {
         }
     }
 
+    #[inline(always)]
     fn take(&mut self, _alloc: Global, field: &Field<'a>) -> Result<(), PlainFault> {
         self.text = text_after(1, field, self.text)?;
         self.language = text_after(2, field, self.language)?;
         Ok(())
     }
 
+    #[inline(always)]
     fn finish(self, alloc: Global) -> Result<Translation, PlainFault> {
         Ok(Translation {
             text: required_text(alloc, self.text)?,
@@ -160,17 +169,20 @@ impl<'a> Parts<'a> for StringParts {
 
     ghost table = { OfTranslatedString };
 
+    #[inline(always)]
     fn start(alloc: Global) -> StringParts {
         StringParts {
             translations: List::new(alloc),
         }
     }
 
+    #[inline(always)]
     fn take(&mut self, alloc: Global, field: &Field<'a>) -> Result<(), PlainFault> {
         add_message(alloc, 1, field, &mut self.translations)?;
         Ok(())
     }
 
+    #[inline(always)]
     fn finish(self, _alloc: Global) -> Result<List<Translation>, PlainFault> {
         Ok(self.translations)
     }
@@ -211,6 +223,7 @@ impl<'a> Parts<'a> for AlertParts<'a> {
 
     ghost table = { OfAlert };
 
+    #[inline(always)]
     fn start(alloc: Global) -> AlertParts<'a> {
         AlertParts {
             periods: List::new(alloc),
@@ -222,6 +235,7 @@ impl<'a> Parts<'a> for AlertParts<'a> {
         }
     }
 
+    #[inline(always)]
     fn take(&mut self, alloc: Global, field: &Field<'a>) -> Result<(), PlainFault> {
         add_message(alloc, 1, field, &mut self.periods)?;
         add_message(alloc, 5, field, &mut self.selectors)?;
@@ -232,6 +246,7 @@ impl<'a> Parts<'a> for AlertParts<'a> {
         Ok(())
     }
 
+    #[inline(always)]
     fn finish(self, alloc: Global) -> Result<Alert, PlainFault> {
         Ok(Alert {
             periods: self.periods,

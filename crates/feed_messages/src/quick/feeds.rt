@@ -31,6 +31,7 @@ impl<'a> Parts<'a> for EntityParts<'a> {
 
     ghost table = { OfFeedEntity };
 
+    #[inline(always)]
     fn start(_alloc: Global) -> EntityParts<'a> {
         EntityParts {
             id: None,
@@ -40,6 +41,7 @@ impl<'a> Parts<'a> for EntityParts<'a> {
         }
     }
 
+    #[inline(always)]
     fn take(&mut self, alloc: Global, field: &Field<'a>) -> Result<(), PlainFault> {
         self.id = text_after(1, field, self.id)?;
         self.deleted = number_after(2, field, self.deleted);
@@ -48,6 +50,7 @@ impl<'a> Parts<'a> for EntityParts<'a> {
         Ok(())
     }
 
+    #[inline(always)]
     fn finish(self, alloc: Global) -> Result<Entity, PlainFault> {
         Ok(Entity {
             id: required_text(alloc, self.id)?,
@@ -80,6 +83,7 @@ impl<'a> Parts<'a> for HeaderParts<'a> {
 
     ghost table = { λ fields m. OfFeedHeader fields (record { version = m.version; incrementality = m.incrementality; timestamp = m.timestamp }) };
 
+    #[inline(always)]
     fn start(_alloc: Global) -> HeaderParts<'a> {
         HeaderParts {
             version: None,
@@ -88,6 +92,7 @@ impl<'a> Parts<'a> for HeaderParts<'a> {
         }
     }
 
+    #[inline(always)]
     fn take(&mut self, _alloc: Global, field: &Field<'a>) -> Result<(), PlainFault> {
         self.version = text_after(1, field, self.version)?;
         self.incrementality = number_after(2, field, self.incrementality);
@@ -95,6 +100,7 @@ impl<'a> Parts<'a> for HeaderParts<'a> {
         Ok(())
     }
 
+    #[inline(always)]
     fn finish(self, alloc: Global) -> Result<Header, PlainFault> {
         Ok(Header {
             version: required_text(alloc, self.version)?,
@@ -146,6 +152,7 @@ impl<'a> Parts<'a> for FeedParts<'a> {
 
     ghost table = { OfShortFeed };
 
+    #[inline(always)]
     fn start(alloc: Global) -> FeedParts<'a> {
         FeedParts {
             header: Found::Nothing,
@@ -153,12 +160,14 @@ impl<'a> Parts<'a> for FeedParts<'a> {
         }
     }
 
+    #[inline(always)]
     fn take(&mut self, alloc: Global, field: &Field<'a>) -> Result<(), PlainFault> {
         add_body(alloc, 1, field, &mut self.header)?;
         add_entity(alloc, field, &mut self.entities)?;
         Ok(())
     }
 
+    #[inline(always)]
     fn finish(self, alloc: Global) -> Result<Feed, PlainFault> {
         let Header {
             version,

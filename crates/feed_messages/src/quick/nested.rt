@@ -56,6 +56,7 @@ pub trait QuickMessage: Drop {
 }
 
 // Adds the message that the body of a field means, if the field has this number.
+#[inline(always)]
 pub fn add_message<M: QuickMessage>(
     alloc: Global,
     number: u32,
@@ -75,6 +76,7 @@ pub fn add_message<M: QuickMessage>(
 }
 
 // The message that the bodies mean together, if there are some.
+#[inline(always)]
 pub fn read_found<M: QuickMessage>(
     alloc: Global,
     found: &Found<'_>,
@@ -89,6 +91,7 @@ pub fn read_found<M: QuickMessage>(
 }
 
 // The message that the bodies mean together, which has to be there.
+#[inline(always)]
 pub fn read_required<M: QuickMessage>(alloc: Global, found: &Found<'_>) -> Result<M, PlainFault>
     ensures { IfOk result (λ message. (number : ℕ) (fields : List WireField) → IsFound number fields found.now → IsMessage M.table number fields (Some message)) }
 {
@@ -99,6 +102,7 @@ pub fn read_required<M: QuickMessage>(alloc: Global, found: &Found<'_>) -> Resul
 }
 
 // The message that bytes mean.
+#[inline(always)]
 pub fn read_parts<'a, P: Parts<'a>>(alloc: Global, bytes: &'a [u8]) -> Result<P::Whole, PlainFault>
     ensures { IfOk result (λ whole. Means P.table bytes.now whole) }
 {

@@ -27,6 +27,7 @@ impl<'a> Parts<'a> for EventParts {
 
     ghost table = { OfStopTimeEvent };
 
+    #[inline(always)]
     fn start(_alloc: Global) -> EventParts {
         EventParts {
             delay: None,
@@ -34,12 +35,20 @@ impl<'a> Parts<'a> for EventParts {
         }
     }
 
+    #[inline(always)]
     fn take(&mut self, _alloc: Global, field: &Field<'a>) -> Result<(), PlainFault> {
-        self.delay = number_after(1, field, self.delay);
-        self.time = number_after(2, field, self.time);
+        if field.number == 1 {
+            self.delay = number_after(1, field, self.delay);
+            return Ok(());
+        }
+        if field.number == 2 {
+            self.time = number_after(2, field, self.time);
+            return Ok(());
+        }
         Ok(())
     }
 
+    #[inline(always)]
     fn finish(self, _alloc: Global) -> Result<Event, PlainFault> {
         Ok(Event {
             delay: as_int32(self.delay),
@@ -51,6 +60,7 @@ impl<'a> Parts<'a> for EventParts {
 impl QuickMessage for Event {
     ghost table = { OfStopTimeEvent };
 
+    #[inline(always)]
     fn read(alloc: Global, bytes: &[u8]) -> Result<Event, PlainFault> {
         read_parts::<EventParts>(alloc, bytes)
     }
@@ -71,6 +81,7 @@ impl<'a> Parts<'a> for TripParts<'a> {
 
     ghost table = { OfTripDescriptor };
 
+    #[inline(always)]
     fn start(_alloc: Global) -> TripParts<'a> {
         TripParts {
             trip_id: None,
@@ -80,6 +91,7 @@ impl<'a> Parts<'a> for TripParts<'a> {
         }
     }
 
+    #[inline(always)]
     fn take(&mut self, _alloc: Global, field: &Field<'a>) -> Result<(), PlainFault> {
         self.trip_id = text_after(1, field, self.trip_id)?;
         self.start_date = text_after(3, field, self.start_date)?;
@@ -88,6 +100,7 @@ impl<'a> Parts<'a> for TripParts<'a> {
         Ok(())
     }
 
+    #[inline(always)]
     fn finish(self, alloc: Global) -> Result<TripDescriptor, PlainFault> {
         Ok(TripDescriptor {
             trip_id: copied(alloc, self.trip_id)?,
@@ -122,6 +135,7 @@ impl<'a> Parts<'a> for StopParts<'a> {
 
     ghost table = { OfStopTimeUpdate };
 
+    #[inline(always)]
     fn start(_alloc: Global) -> StopParts<'a> {
         StopParts {
             sequence: None,
@@ -132,15 +146,26 @@ impl<'a> Parts<'a> for StopParts<'a> {
         }
     }
 
+    #[inline(always)]
     fn take(&mut self, alloc: Global, field: &Field<'a>) -> Result<(), PlainFault> {
-        self.sequence = number_after(1, field, self.sequence);
-        add_body(alloc, 2, field, &mut self.arrival)?;
-        add_body(alloc, 3, field, &mut self.departure)?;
+        if field.number == 1 {
+            self.sequence = number_after(1, field, self.sequence);
+            return Ok(());
+        }
+        if field.number == 2 {
+            add_body(alloc, 2, field, &mut self.arrival)?;
+            return Ok(());
+        }
+        if field.number == 3 {
+            add_body(alloc, 3, field, &mut self.departure)?;
+            return Ok(());
+        }
         self.stop_id = text_after(4, field, self.stop_id)?;
         self.relation = number_after(5, field, self.relation);
         Ok(())
     }
 
+    #[inline(always)]
     fn finish(self, alloc: Global) -> Result<StopUpdate, PlainFault> {
         Ok(StopUpdate {
             sequence: as_uint32(self.sequence),
@@ -174,6 +199,7 @@ impl<'a> Parts<'a> for UpdateParts<'a> {
 
     ghost table = { OfTripUpdate };
 
+    #[inline(always)]
     fn start(alloc: Global) -> UpdateParts<'a> {
         UpdateParts {
             trip: Found::Nothing,
@@ -182,6 +208,7 @@ impl<'a> Parts<'a> for UpdateParts<'a> {
         }
     }
 
+    #[inline(always)]
     fn take(&mut self, alloc: Global, field: &Field<'a>) -> Result<(), PlainFault> {
         add_body(alloc, 1, field, &mut self.trip)?;
         add_message(alloc, 2, field, &mut self.updates)?;
@@ -189,6 +216,7 @@ impl<'a> Parts<'a> for UpdateParts<'a> {
         Ok(())
     }
 
+    #[inline(always)]
     fn finish(self, alloc: Global) -> Result<TripUpdate, PlainFault> {
         Ok(TripUpdate {
             trip: read_required(alloc, &self.trip)?,

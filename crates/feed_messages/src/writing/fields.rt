@@ -9,6 +9,7 @@ use gw_base::{Buf, Text};
 use wire_fields::{put_field_bytes, put_field_varint, varint_len};
 
 // How long two parts are, one behind the other.
+#[inline(always)]
 pub fn plus(front: u64, back: u64) -> u64
     ensures { (a b : List ℕ) → Counts front a → Counts back b → Counts result (a ++ b) }
 {
@@ -16,12 +17,14 @@ pub fn plus(front: u64, back: u64) -> u64
 }
 
 // How long a field of a number is.
+#[inline(always)]
 pub fn number_size(number: u32, value: u64) -> u64
     ensures { Counts result (varint_field number value) }
 {
     (varint_len(u64::from(number) * 8) + varint_len(value)) as u64
 }
 
+#[inline(always)]
 pub fn optional_number_size(number: u32, value: Option<u64>) -> u64
     ensures { Counts result (if_there (varint_field number) value) }
 {
@@ -32,6 +35,7 @@ pub fn optional_number_size(number: u32, value: Option<u64>) -> u64
 }
 
 // How long a field of a signed number is.
+#[inline(always)]
 pub fn signed_size(number: u32, value: i64) -> u64
     ensures { Counts result (signed_field number value) }
 {
@@ -39,12 +43,14 @@ pub fn signed_size(number: u32, value: i64) -> u64
 }
 
 // How long the number of an enum is.
+#[inline(always)]
 pub fn enum_size(number: u32, value: &i32) -> u64
     ensures { Counts result (signed_field number value.now) }
 {
     signed_size(number, i64::from(*value))
 }
 
+#[inline(always)]
 pub fn optional_signed_size(number: u32, value: Option<i64>) -> u64
     ensures { Counts result (if_there (signed_field number) value) }
 {
@@ -55,6 +61,7 @@ pub fn optional_signed_size(number: u32, value: Option<i64>) -> u64
 }
 
 // How long the relation of a stop is, which isn't written where it is 0.
+#[inline(always)]
 pub fn relation_size(relation: &i32) -> u64
     ensures { Counts result (relation_field relation.now) }
 {
@@ -65,6 +72,7 @@ pub fn relation_size(relation: &i32) -> u64
 }
 
 // How long a mark of deletion is, which isn't written where it is false.
+#[inline(always)]
 pub fn deleted_size(deleted: bool) -> u64
     ensures { Counts result (deleted_field deleted) }
 {
@@ -72,6 +80,7 @@ pub fn deleted_size(deleted: bool) -> u64
 }
 
 // How long a field of bytes is, of which the length is given.
+#[inline(always)]
 pub fn bytes_size(number: u32, len: u64) -> u64
     ensures { (body : List ℕ) → Counts len body → Counts result (bytes_field number body) }
 {
@@ -80,12 +89,14 @@ pub fn bytes_size(number: u32, len: u64) -> u64
 }
 
 // How long a field of a text is.
+#[inline(always)]
 pub fn text_size(number: u32, text: &Text) -> u64
     ensures { Counts result (bytes_field number text.now) }
 {
     bytes_size(number, text.as_str().len() as u64)
 }
 
+#[inline(always)]
 pub fn optional_text_size(number: u32, text: &Option<Text>) -> u64
     ensures { Counts result (if_there (bytes_field number) text.now) }
 {
@@ -96,6 +107,7 @@ pub fn optional_text_size(number: u32, text: &Option<Text>) -> u64
 }
 
 // The same number in 64 bits.
+#[inline(always)]
 pub fn wide(value: Option<i32>) -> Option<i64>
     ensures same { result ≡ value }
     ensures sound { IfSome value (FitsSigned w32) }
@@ -106,6 +118,7 @@ pub fn wide(value: Option<i32>) -> Option<i64>
     }
 }
 
+#[inline(always)]
 pub fn wide_unsigned(value: Option<u32>) -> Option<u64>
     ensures same { result ≡ value }
     ensures sound { IfSome value (λ n. n < 2 ^ 32) }
@@ -117,6 +130,7 @@ pub fn wide_unsigned(value: Option<u32>) -> Option<u64>
 }
 
 // Writes a field of a number.
+#[inline(always)]
 pub fn put_number(buf: &mut Buf, number: u32, value: u64)
     requires first { 1 ≤ number }
     requires last { number ≤ 536870911 }
@@ -126,6 +140,7 @@ pub fn put_number(buf: &mut Buf, number: u32, value: u64)
     put_field_varint(buf, number, value);
 }
 
+#[inline(always)]
 pub fn put_optional_number(buf: &mut Buf, number: u32, value: Option<u64>)
     requires first { 1 ≤ number }
     requires last { number ≤ 536870911 }
@@ -139,6 +154,7 @@ pub fn put_optional_number(buf: &mut Buf, number: u32, value: Option<u64>)
 }
 
 // Writes a field of a signed number.
+#[inline(always)]
 pub fn put_signed(buf: &mut Buf, number: u32, value: i64)
     requires first { 1 ≤ number }
     requires last { number ≤ 536870911 }
@@ -148,6 +164,7 @@ pub fn put_signed(buf: &mut Buf, number: u32, value: i64)
     put_number(buf, number, value.cast_unsigned());
 }
 
+#[inline(always)]
 pub fn put_optional_signed(buf: &mut Buf, number: u32, value: Option<i64>)
     requires first { 1 ≤ number }
     requires last { number ≤ 536870911 }
@@ -161,6 +178,7 @@ pub fn put_optional_signed(buf: &mut Buf, number: u32, value: Option<i64>)
 }
 
 // Writes the number of an enum.
+#[inline(always)]
 pub fn put_enum(buf: &mut Buf, number: u32, value: &i32)
     requires first { 1 ≤ number }
     requires last { number ≤ 536870911 }
@@ -172,6 +190,7 @@ pub fn put_enum(buf: &mut Buf, number: u32, value: &i32)
 }
 
 // Writes the relation of a stop.
+#[inline(always)]
 pub fn put_relation(buf: &mut Buf, relation: &i32)
     requires { length (relation_field relation.now) ≤ buf.old.spare }
     ensures appends { Appends buf.old buf.new (relation_field relation.now) }
@@ -183,6 +202,7 @@ pub fn put_relation(buf: &mut Buf, relation: &i32)
 }
 
 // Writes a mark of deletion.
+#[inline(always)]
 pub fn put_deleted(buf: &mut Buf, deleted: bool)
     requires { length (deleted_field deleted) ≤ buf.old.spare }
     ensures { Appends buf.old buf.new (deleted_field deleted) }
@@ -193,6 +213,7 @@ pub fn put_deleted(buf: &mut Buf, deleted: bool)
 }
 
 // Writes a field of a text.
+#[inline(always)]
 pub fn put_text(buf: &mut Buf, number: u32, text: &Text)
     requires first { 1 ≤ number }
     requires last { number ≤ 536870911 }
@@ -203,6 +224,7 @@ pub fn put_text(buf: &mut Buf, number: u32, text: &Text)
     put_field_bytes(buf, number, text.as_str().as_bytes());
 }
 
+#[inline(always)]
 pub fn put_optional_text(buf: &mut Buf, number: u32, text: &Option<Text>)
     requires first { 1 ≤ number }
     requires last { number ≤ 536870911 }

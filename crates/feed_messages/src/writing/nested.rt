@@ -9,7 +9,7 @@ ghost use Rattle.feed_messages.specs.Sizes.{Counts, Appends};
 
 use crate::writing::fields::{bytes_size, plus};
 use gw_base::{Buf, List, Translation};
-use wire_fields::put_varint;
+use wire_fields::put_bytes_head;
 
 // A message that knows its length and writes itself.
 pub trait WrittenMessage {
@@ -34,12 +34,14 @@ pub trait WrittenMessage {
 }
 
 // How long a field of a message is.
+#[inline(always)]
 pub fn message_size<M: WrittenMessage>(number: u32, message: &M) -> u64
     ensures { Counts result (bytes_field number (M.written message.now)) }
 {
     bytes_size(number, message.size())
 }
 
+#[inline(always)]
 pub fn optional_message_size<M: WrittenMessage>(number: u32, message: &Option<M>) -> u64
     ensures { Counts result (if_there (λ m. bytes_field number (M.written m)) message.now) }
 {
@@ -60,7 +62,24 @@ pub fn messages_size<M: WrittenMessage>(number: u32, messages: &List<M>) -> u64
     size
 }
 
+// Writes a field of a message whose size is known.
+#[inline(always)]
+pub fn put_sized<M: WrittenMessage>(buf: &mut Buf, number: u32, size: u64, message: &M)
+    requires first { 1 ≤ number }
+    requires last { number ≤ 536870911 }
+    requires size { Counts size (M.written message.now) }
+    requires room { length (bytes_field number (M.written message.now)) ≤ buf.old.spare }
+    ensures appends { Appends buf.old buf.new (bytes_field number (M.written message.now)) }
+    ensures sound { M.sound message.now }
+{
+    // no buffer has more room than the greatest length
+    let _most = buf.spare();
+    put_bytes_head(buf, number, size);
+    message.put(buf);
+}
+
 // Writes a field of a message.
+#[inline(always)]
 pub fn put_message<M: WrittenMessage>(buf: &mut Buf, number: u32, message: &M)
     requires first { 1 ≤ number }
     requires last { number ≤ 536870911 }
@@ -68,13 +87,10 @@ pub fn put_message<M: WrittenMessage>(buf: &mut Buf, number: u32, message: &M)
     ensures appends { Appends buf.old buf.new (bytes_field number (M.written message.now)) }
     ensures sound { M.sound message.now }
 {
-    // no buffer has more room than the greatest length
-    let _most = buf.spare();
-    put_varint(buf, u64::from(number) * 8 + 2);
-    put_varint(buf, message.size());
-    message.put(buf);
+    put_sized(buf, number, message.size(), message);
 }
 
+#[inline(always)]
 pub fn put_optional_message<M: WrittenMessage>(buf: &mut Buf, number: u32, message: &Option<M>)
     requires first { 1 ≤ number }
     requires last { number ≤ 536870911 }

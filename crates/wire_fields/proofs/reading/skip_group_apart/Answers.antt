@@ -4,7 +4,7 @@ use Rattle.wire_fields.specs.Seen.{item_of}
 use Rattle.wire_fields.proofs.Broken.{stop_at_item}
 use Rattle.wire_fields.proofs.Skips.{skip_none, skip_more, skip_stops, skip_blocked, item_shorter}
 use Rattle.wire_fields.proofs.Fronts.{not_nil}
-use Rattle.wire_fields.proofs.reading.skip_group.Goals as goal
+use Rattle.wire_fields.proofs.reading.skip_group_apart.Goals as goal
 
 pub loop-open-init : goal.loop-open-init
 loop-open-init c = rw c.with_first-open.ensures.first (skip_none c.args.number c.args.bytes.now)

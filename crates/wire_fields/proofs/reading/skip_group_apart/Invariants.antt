@@ -1,6 +1,6 @@
 use Rattle.std.proofs.Common.{length}
 use Rattle.wire_fields.proofs.Skips.{IsSkip}
-use Rattle.wire_fields.proofs.reading.skip_group.Given as goal
+use Rattle.wire_fields.proofs.reading.skip_group_apart.Given as goal
 
 abbrev pub invariant-loop-open : goal.invariant-loop-open
 invariant-loop-open l = IsSkip l.number l.bytes l.open l.rest
