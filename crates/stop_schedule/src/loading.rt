@@ -243,6 +243,15 @@ fn no_stops(alloc: Global, trips: &Ids, stops: &Ids) -> Result<Vec<Vec<LoadedSto
     Ok(by_trip)
 }
 
+// Of each stop the first one came after it.
+fn no_followers(alloc: Global, stops: &Ids) -> Result<Vec<u32>, AllocError> {
+    let mut followers = Vec::new(alloc);
+    for _ in 0..stops.len() {
+        followers.push(0)?;
+    }
+    Ok(followers)
+}
+
 /// Reads `frequencies.txt`, and answers of each trip whether it is carried.
 pub(crate) fn read_frequencies<F: Files>(
     alloc: Global,
@@ -280,11 +289,14 @@ pub(crate) fn read_stop_times<F: Files>(
     ensures same { F.told files.new ≡ F.told files.old }
 {
     let by_trip = no_stops(alloc, trips, stops)?;
+    let followers = no_followers(alloc, stops)?;
     let mut rows = StopTimeRows {
         trips,
         stops,
         by_trip,
         last: 0,
+        stop: 0,
+        followers,
     };
     if let Err(fault) = read_needed(alloc, files, dir, buffer, &mut rows) {
         return Err(fault);
@@ -294,6 +306,8 @@ pub(crate) fn read_stop_times<F: Files>(
         stops: _,
         by_trip,
         last: _,
+        stop: _,
+        followers: _,
     } = rows;
     Ok(by_trip)
 }

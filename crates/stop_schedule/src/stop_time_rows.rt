@@ -1,10 +1,18 @@
 //! The rows of `stop_times.txt`: the stops of each trip, in rising sequence.
-ghost use Rattle.std.specs.Prelude.{◌≡◌, map};
+ghost use Rattle.std.specs.Prelude.{◌≡◌, ◌≤◌, ◌+◌, true, ◌++◌, ◌∷◌, [], ℕ, Some, List, map, length, nat_le, slice_get, is_some, IfSome, IsTrue};
+ghost use Rattle.stop_schedule.specs.Answers.{Finds, HasFailed};
+ghost use Rattle.stop_schedule.specs.Causes.{stop_time_fault};
+ghost use Rattle.stop_schedule.specs.Forms as forms_of;
+ghost use Rattle.stop_schedule.specs.Holding.{HoldsStops, IsKnown};
+ghost use Rattle.stop_schedule.specs.Ids.{are_ids};
+ghost use Rattle.stop_schedule.specs.Sheet.{Row, nth};
 ghost use Rattle.stop_schedule.specs.StopTimes as spec;
+ghost use Rattle.stop_schedule.specs.declared.stop_times.LoadedStop.{LoadedStop as Loaded};
 
 use crate::column::Column;
 use crate::forms::{seconds, sequence};
 use crate::ids::{Ids, find_from, find_in};
+use crate::layout::row_limit;
 use crate::numbers::StopNo;
 use crate::sheet::Sheet;
 use crate::stop_times::{LoadedStop, MAX_STOPS, place_of};
@@ -13,13 +21,16 @@ use crate::table_file::TableFile;
 use crate::taking::TakesRows;
 use std::alloc::Global;
 
-/// The stops of each trip of `trips.txt`, in rising sequence, and the number of the trip that began last.
+/// The stops of each trip of `trips.txt`, in rising sequence. Besides, what the next row is looked for at first: the number
+/// of the trip that began last, the stop of the row before, and the stop that came after each stop the last time.
 #[derive(Drop)]
 pub(crate) struct StopTimeRows<'a> {
     pub(crate) trips: &'a Ids,
     pub(crate) stops: &'a Ids,
     pub(crate) by_trip: Vec<Vec<LoadedStop>>,
     pub(crate) last: u32,
+    pub(crate) stop: u32,
+    pub(crate) followers: Vec<u32>,
 }
 
 // Whether a trip has no stops so far.
@@ -77,6 +88,129 @@ fn times(sheet: &Sheet<'_>) -> Option<(u32, u32)>
     }
 }
 
+// Whether the trip at a place has as many stops as it may have.
+fn is_full(by_trip: &[Vec<LoadedStop>], trip: u32) -> bool
+    ensures { (held : List Loaded) → slice_get (map (λ held. held.items) by_trip.now) trip ≡ Some held → result ≡ nat_le 250 (length held) }
+{
+    match by_trip.get(trip as usize) {
+        Some(held) => held.len() >= MAX_STOPS,
+        None => false,
+    }
+}
+
+// Puts the stop of a row among those of its trip, or tells the row's fault.
+fn put(
+    by_trip: &mut Vec<Vec<LoadedStop>>,
+    trip: u32,
+    loaded: LoadedStop,
+    number: u64,
+) -> Result<(), TableFault>
+    ensures puts { (trips stops : List (List ℕ)) (before : List Row) (row : Row) → IsKnown trips stops number row trip loaded → number ≡ length before + 1
+        → HoldsStops trips stops (map (λ held. held.items) by_trip.old.items) before
+        → Finds (stop_time_fault trips stops before row) (λ _. HoldsStops trips stops (map (λ held. held.items) by_trip.new.items) (before ++ row ∷ [])) result }
+    ensures no_failure { HasFailed result → ⊥ }
+{
+    let Some(held) = by_trip.get_mut(trip as usize) else {
+        return Err(TableFault::Unknown(TableFile::StopTimes, number, Column::TripId));
+    };
+    if held.len() >= MAX_STOPS {
+        return Err(TableFault::Limit(TableFile::StopTimes, number));
+    }
+    let Some(place) = place_of(held.as_slice(), loaded.sequence) else {
+        return Err(TableFault::Duplicate(TableFile::StopTimes, number));
+    };
+    match held.insert(place, loaded) {
+        Ok(()) => Ok(()),
+        Err(_) => Err(TableFault::Memory),
+    }
+}
+
+// The numbers of the trip and the stop of the row at hand, where both are known, by numbers that are tried first.
+fn known_ids(
+    trips: &Ids,
+    stops: &Ids,
+    sheet: &Sheet<'_>,
+    trip: u32,
+    stop: u32,
+) -> Option<(u32, u32)>
+    ensures trip { IfSome result (λ known. slice_get trips.now known.0 ≡ Some (nth 0 sheet.now.row)) }
+    ensures stop { IfSome result (λ known. slice_get stops.now known.1 ≡ Some (nth 2 sheet.now.row)) }
+    ensures trips { IsTrue (are_ids trips.now) }
+    ensures stops { IsTrue (are_ids stops.now) }
+{
+    let _ = (trips.len(), stops.len());
+    let (Some(trip), Some(stop)) = (
+        find_from(trips, sheet, 0, trip),
+        find_from(stops, sheet, 2, stop),
+    ) else {
+        return None;
+    };
+    Some((trip, stop))
+}
+
+// The arrival and the departure of the row at hand, where both fields have a time.
+fn known_times(sheet: &Sheet<'_>) -> Option<(u32, u32)>
+    ensures arrival { IfSome result (λ known. forms_of.seconds (nth 3 sheet.now.row) ≡ Some known.0) }
+    ensures departure { IfSome result (λ known. forms_of.seconds (nth 4 sheet.now.row) ≡ Some known.1) }
+{
+    match (seconds(sheet.field(3)), seconds(sheet.field(4))) {
+        (Some(arrival), Some(departure)) => Some((arrival, departure)),
+        _ => None,
+    }
+}
+
+// The stop of the row at hand by its number, where its fields have their forms and it has both times.
+fn known_stop(sheet: &Sheet<'_>, number: u64, stop: u32) -> Option<LoadedStop>
+    ensures sequence { IfSome result (λ known. forms_of.sequence (nth 1 sheet.now.row) ≡ Some known.sequence) }
+    ensures arrival { IfSome result (λ _. is_some (forms_of.seconds (nth 3 sheet.now.row)) ≡ true) }
+    ensures departure { IfSome result (λ _. is_some (forms_of.seconds (nth 4 sheet.now.row)) ≡ true) }
+    ensures times { IfSome result (λ known. known.times ≡ spec.times sheet.now.row) }
+    ensures counted { IfSome result (λ known. (number ≤ 4000000) × (known.row ≡ number) × (known.stop.0 ≡ stop)) }
+{
+    if number > row_limit(TableFile::StopTimes) {
+        return None;
+    }
+    let (Some(sequence), Some(times)) = (sequence(sheet.field(1)), known_times(sheet)) else {
+        return None;
+    };
+    Some(LoadedStop {
+        row: number as u32,
+        sequence,
+        stop: StopNo(stop),
+        times: Some(times),
+    })
+}
+
+// The trip and the stop of the row at hand, where it is seen at once that it has no fault by its fields.
+fn known_row(
+    trips: &Ids,
+    stops: &Ids,
+    sheet: &Sheet<'_>,
+    number: u64,
+    trip: u32,
+    stop: u32,
+) -> Option<(u32, LoadedStop)>
+    ensures { IfSome result (λ known. IsKnown trips.now stops.now number sheet.now.row known.0 known.1) }
+{
+    let (trip, stop) = known_ids(trips, stops, sheet, trip, stop)?;
+    match known_stop(sheet, number, stop) {
+        Some(loaded) => Some((trip, loaded)),
+        None => None,
+    }
+}
+
+// The stop that came after that one the last time.
+fn follower(followers: &[u32], stop: u32) -> u32 {
+    followers.get(stop as usize).copied().unwrap_or(0)
+}
+
+// Notes that a stop came after that one.
+fn note_follower(followers: &mut Vec<u32>, stop: u32, next: u32) {
+    if let Some(follower) = followers.get_mut(stop as usize) {
+        *follower = next;
+    }
+}
+
 impl<'a> TakesRows for StopTimeRows<'a> {
     ghost use Rattle.std.specs.Prelude.{map};
     ghost use Rattle.stop_schedule.specs.Causes.{stop_time_fault};
@@ -98,10 +232,7 @@ impl<'a> TakesRows for StopTimeRows<'a> {
             return Err(TableFault::Unknown(TableFile::StopTimes, number, Column::TripId));
         };
         self.last = begin_trip(&mut self.by_trip, self.last, trip);
-        let Some(held) = self.by_trip.get_mut(trip as usize) else {
-            return Err(TableFault::Unknown(TableFile::StopTimes, number, Column::TripId));
-        };
-        if held.len() >= MAX_STOPS {
+        if is_full(self.by_trip.as_slice(), trip) {
             return Err(TableFault::Limit(TableFile::StopTimes, number));
         }
         let Some(stop) = find_in(self.stops, sheet, 2) else {
@@ -110,18 +241,27 @@ impl<'a> TakesRows for StopTimeRows<'a> {
         let Some(sequence) = sequence(sheet.field(1)) else {
             return Err(TableFault::Unknown(TableFile::StopTimes, number, Column::StopSequence));
         };
-        let Some(place) = place_of(held.as_slice(), sequence) else {
-            return Err(TableFault::Duplicate(TableFile::StopTimes, number));
-        };
         let loaded = LoadedStop {
             row: number as u32,
             sequence,
             stop: StopNo(stop),
             times: times(sheet),
         };
-        match held.insert(place, loaded) {
-            Ok(()) => Ok(()),
-            Err(_) => Err(TableFault::Memory),
+        put(&mut self.by_trip, trip, loaded, number)
+    }
+
+    fn take_known(&mut self, sheet: &Sheet<'_>, number: u64) -> Result<bool, TableFault> {
+        let next = follower(self.followers.as_slice(), self.stop);
+        let Some((trip, loaded)) = known_row(self.trips, self.stops, sheet, number, self.last, next)
+        else {
+            return Ok(false);
+        };
+        note_follower(&mut self.followers, self.stop, loaded.stop.0);
+        self.stop = loaded.stop.0;
+        self.last = begin_trip(&mut self.by_trip, self.last, trip);
+        match put(&mut self.by_trip, trip, loaded, number) {
+            Ok(()) => Ok(true),
+            Err(fault) => Err(fault),
         }
     }
 }
