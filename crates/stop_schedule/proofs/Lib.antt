@@ -22,3 +22,4 @@ pub mod StopsLemmas
 pub mod TakingLemmas
 pub mod TextLemmas
 pub mod TripStep
+pub mod TripStopLemmas

@@ -10,6 +10,7 @@ ghost use Rattle.stop_schedule.specs.Services.{runs_by};
 ghost use Rattle.stop_schedule.specs.Reading.{ReadsNeeded, ReadsRows};
 ghost use Rattle.stop_schedule.specs.Timetable.{calendars_fault, sheets_in};
 ghost use Rattle.stop_schedule.specs.Sheet.{nth, rows_in};
+ghost use Rattle.stop_schedule.specs.TripStops.{stops_kept};
 ghost use Rattle.stop_schedule.specs.Trips.{is_carried};
 ghost use Rattle.stop_schedule.specs.declared.table_file.TableFile.TheVariants as File;
 
@@ -18,11 +19,11 @@ use crate::id_rows::IdRows;
 use crate::ids::Ids;
 use crate::service_rows::{Calendar, CalendarRows, DateRows};
 use crate::stop_time_rows::StopTimeRows;
-use crate::stop_times::LoadedStop;
 use crate::table_fault::TableFault;
 use crate::table_file::TableFile;
 use crate::taking::{TakesRows, read_rows};
 use crate::trip_rows::TripRows;
+use crate::trip_stops::TripStops;
 use crate::zone_rows::ZoneRows;
 use gw_base::{Bytes, Files};
 use service_day::Day;
@@ -232,13 +233,13 @@ fn all_carried(alloc: Global, trips: &Ids) -> Result<Vec<bool>, AllocError>
 }
 
 // No trip has stops.
-fn no_stops(alloc: Global, trips: &Ids, stops: &Ids) -> Result<Vec<Vec<LoadedStop>>, AllocError>
-    ensures { IfOk result (λ by_trip. HoldsStops trips.now stops.now (map (λ held. held.items) by_trip.items) []) }
+fn no_stops(alloc: Global, trips: &Ids, stops: &Ids) -> Result<Vec<TripStops>, AllocError>
+    ensures { IfOk result (λ by_trip. HoldsStops trips.now stops.now (map stops_kept by_trip.items) []) }
 {
     let _ = stops;
     let mut by_trip = Vec::new(alloc);
     for _ in 0..trips.len() {
-        by_trip.push(Vec::new(alloc))?;
+        by_trip.push(TripStops::new(alloc))?;
     }
     Ok(by_trip)
 }
@@ -282,9 +283,9 @@ pub(crate) fn read_stop_times<F: Files>(
     buffer: &mut Bytes,
     trips: &Ids,
     stops: &Ids,
-) -> Result<Vec<Vec<LoadedStop>>, TableFault>
+) -> Result<Vec<TripStops>, TableFault>
     ensures exact { IfSome (F.told files.old) (λ told. ReadsNeeded File.StopTimes (stop_time_fault trips.now stops.now)
-        (λ by_trip. HoldsStops trips.now stops.now (map (λ held. held.items) by_trip.items)) (sheets_in told dir.now) result) }
+        (λ by_trip. HoldsStops trips.now stops.now (map stops_kept by_trip.items)) (sheets_in told dir.now) result) }
     ensures counts { Counts (HasFailed result) (F.faults files.old) (F.faults files.new) }
     ensures same { F.told files.new ≡ F.told files.old }
 {

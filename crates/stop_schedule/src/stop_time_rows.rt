@@ -7,6 +7,7 @@ ghost use Rattle.stop_schedule.specs.Holding.{HoldsStops, IsKnown};
 ghost use Rattle.stop_schedule.specs.Ids.{are_ids};
 ghost use Rattle.stop_schedule.specs.Sheet.{Row, nth};
 ghost use Rattle.stop_schedule.specs.StopTimes as spec;
+ghost use Rattle.stop_schedule.specs.TripStops.{stops_kept};
 ghost use Rattle.stop_schedule.specs.declared.stop_times.LoadedStop.{LoadedStop as Loaded};
 
 use crate::column::Column;
@@ -15,10 +16,11 @@ use crate::ids::{Ids, find_from, find_in};
 use crate::layout::row_limit;
 use crate::numbers::StopNo;
 use crate::sheet::Sheet;
-use crate::stop_times::{LoadedStop, MAX_STOPS, place_of};
+use crate::stop_times::{LoadedStop, MAX_STOPS};
 use crate::table_fault::TableFault;
 use crate::table_file::TableFile;
 use crate::taking::TakesRows;
+use crate::trip_stops::TripStops;
 use std::alloc::Global;
 
 /// The stops of each trip of `trips.txt`, in rising sequence. Besides, what the next row is looked for at first: the number
@@ -27,27 +29,27 @@ use std::alloc::Global;
 pub(crate) struct StopTimeRows<'a> {
     pub(crate) trips: &'a Ids,
     pub(crate) stops: &'a Ids,
-    pub(crate) by_trip: Vec<Vec<LoadedStop>>,
+    pub(crate) by_trip: Vec<TripStops>,
     pub(crate) last: u32,
     pub(crate) stop: u32,
     pub(crate) followers: Vec<u32>,
 }
 
 // Whether a trip has no stops so far.
-fn has_none(by_trip: &[Vec<LoadedStop>], trip: u32) -> bool {
+fn has_none(by_trip: &[TripStops], trip: u32) -> bool {
     match by_trip.get(trip as usize) {
-        Some(held) => held.is_empty(),
+        Some(held) => held.len() == 0,
         None => true,
     }
 }
 
 // Gives back the room that the stops of a trip don't take, and answers how many they are.
-fn give_back(by_trip: &mut Vec<Vec<LoadedStop>>, trip: u32) -> usize
-    ensures { map (λ held. held.items) by_trip.new.items ≡ map (λ held. held.items) by_trip.old.items }
+fn give_back(by_trip: &mut Vec<TripStops>, trip: u32) -> usize
+    ensures { map stops_kept by_trip.new.items ≡ map stops_kept by_trip.old.items }
 {
     match by_trip.get_mut(trip as usize) {
         Some(held) => {
-            held.shrink_to_fit();
+            held.give_back();
             held.len()
         }
         None => 0,
@@ -55,18 +57,18 @@ fn give_back(by_trip: &mut Vec<Vec<LoadedStop>>, trip: u32) -> usize
 }
 
 // Takes room for so many stops of a trip where there is memory for them.
-fn make_room(by_trip: &mut Vec<Vec<LoadedStop>>, trip: u32, count: usize)
-    ensures { map (λ held. held.items) by_trip.new.items ≡ map (λ held. held.items) by_trip.old.items }
+fn make_room(by_trip: &mut Vec<TripStops>, trip: u32, count: usize)
+    ensures { map stops_kept by_trip.new.items ≡ map stops_kept by_trip.old.items }
 {
     if let Some(held) = by_trip.get_mut(trip as usize) {
-        let _ = held.reserve_exact(count);
+        held.make_room(count);
     }
 }
 
 // Answers which trip began last, of which the next row is one of `trip`. Where that row is its first, the stops of the
 // one that began before are mostly all there, and this one mostly has as many.
-fn begin_trip(by_trip: &mut Vec<Vec<LoadedStop>>, last: u32, trip: u32) -> u32
-    ensures { map (λ held. held.items) by_trip.new.items ≡ map (λ held. held.items) by_trip.old.items }
+fn begin_trip(by_trip: &mut Vec<TripStops>, last: u32, trip: u32) -> u32
+    ensures { map stops_kept by_trip.new.items ≡ map stops_kept by_trip.old.items }
 {
     if !has_none(by_trip.as_slice(), trip) {
         return last;
@@ -89,8 +91,8 @@ fn times(sheet: &Sheet<'_>) -> Option<(u32, u32)>
 }
 
 // Whether the trip at a place has as many stops as it may have.
-fn is_full(by_trip: &[Vec<LoadedStop>], trip: u32) -> bool
-    ensures { (held : List Loaded) → slice_get (map (λ held. held.items) by_trip.now) trip ≡ Some held → result ≡ nat_le 250 (length held) }
+fn is_full(by_trip: &[TripStops], trip: u32) -> bool
+    ensures { (held : List Loaded) → slice_get (map stops_kept by_trip.now) trip ≡ Some held → result ≡ nat_le 250 (length held) }
 {
     match by_trip.get(trip as usize) {
         Some(held) => held.len() >= MAX_STOPS,
@@ -100,14 +102,15 @@ fn is_full(by_trip: &[Vec<LoadedStop>], trip: u32) -> bool
 
 // Puts the stop of a row among those of its trip, or tells the row's fault.
 fn put(
-    by_trip: &mut Vec<Vec<LoadedStop>>,
+    alloc: Global,
+    by_trip: &mut Vec<TripStops>,
     trip: u32,
     loaded: LoadedStop,
     number: u64,
 ) -> Result<(), TableFault>
     ensures puts { (trips stops : List (List ℕ)) (before : List Row) (row : Row) → IsKnown trips stops number row trip loaded → number ≡ length before + 1
-        → HoldsStops trips stops (map (λ held. held.items) by_trip.old.items) before
-        → Finds (stop_time_fault trips stops before row) (λ _. HoldsStops trips stops (map (λ held. held.items) by_trip.new.items) (before ++ row ∷ [])) result }
+        → HoldsStops trips stops (map stops_kept by_trip.old.items) before
+        → Finds (stop_time_fault trips stops before row) (λ _. HoldsStops trips stops (map stops_kept by_trip.new.items) (before ++ row ∷ [])) result }
     ensures no_failure { HasFailed result → ⊥ }
 {
     let Some(held) = by_trip.get_mut(trip as usize) else {
@@ -116,12 +119,10 @@ fn put(
     if held.len() >= MAX_STOPS {
         return Err(TableFault::Limit(TableFile::StopTimes, number));
     }
-    let Some(place) = place_of(held.as_slice(), loaded.sequence) else {
-        return Err(TableFault::Duplicate(TableFile::StopTimes, number));
-    };
-    match held.insert(place, loaded) {
-        Ok(()) => Ok(()),
-        Err(_) => Err(TableFault::Memory),
+    if held.add(alloc, &loaded)? {
+        Ok(())
+    } else {
+        Err(TableFault::Duplicate(TableFile::StopTimes, number))
     }
 }
 
@@ -215,19 +216,20 @@ impl<'a> TakesRows for StopTimeRows<'a> {
     ghost use Rattle.std.specs.Prelude.{map};
     ghost use Rattle.stop_schedule.specs.Causes.{stop_time_fault};
     ghost use Rattle.stop_schedule.specs.Holding.{HoldsStops};
+    ghost use Rattle.stop_schedule.specs.TripStops.{stops_kept};
     ghost use Rattle.stop_schedule.specs.declared.table_file.TableFile.TheVariants.{StopTimes};
 
     ghost file_of = { λ _. StopTimes };
 
     ghost fault = { λ taker. stop_time_fault taker.trips.now taker.stops.now };
 
-    ghost Holds = { λ start taker rows. (taker.trips.now ≡ start.trips.now) × (taker.stops.now ≡ start.stops.now) × HoldsStops taker.trips.now taker.stops.now (map (λ held. held.items) taker.by_trip.items) rows };
+    ghost Holds = { λ start taker rows. (taker.trips.now ≡ start.trips.now) × (taker.stops.now ≡ start.stops.now) × HoldsStops taker.trips.now taker.stops.now (map stops_kept taker.by_trip.items) rows };
 
     fn file(&self) -> TableFile {
         TableFile::StopTimes
     }
 
-    fn take(&mut self, _alloc: Global, sheet: &Sheet<'_>, number: u64) -> Result<(), TableFault> {
+    fn take(&mut self, alloc: Global, sheet: &Sheet<'_>, number: u64) -> Result<(), TableFault> {
         let Some(trip) = find_from(self.trips, sheet, 0, self.last) else {
             return Err(TableFault::Unknown(TableFile::StopTimes, number, Column::TripId));
         };
@@ -247,10 +249,15 @@ impl<'a> TakesRows for StopTimeRows<'a> {
             stop: StopNo(stop),
             times: times(sheet),
         };
-        put(&mut self.by_trip, trip, loaded, number)
+        put(alloc, &mut self.by_trip, trip, loaded, number)
     }
 
-    fn take_known(&mut self, sheet: &Sheet<'_>, number: u64) -> Result<bool, TableFault> {
+    fn take_known(
+        &mut self,
+        alloc: Global,
+        sheet: &Sheet<'_>,
+        number: u64,
+    ) -> Result<bool, TableFault> {
         let next = follower(self.followers.as_slice(), self.stop);
         let Some((trip, loaded)) = known_row(self.trips, self.stops, sheet, number, self.last, next)
         else {
@@ -259,7 +266,7 @@ impl<'a> TakesRows for StopTimeRows<'a> {
         note_follower(&mut self.followers, self.stop, loaded.stop.0);
         self.stop = loaded.stop.0;
         self.last = begin_trip(&mut self.by_trip, self.last, trip);
-        match put(&mut self.by_trip, trip, loaded, number) {
+        match put(alloc, &mut self.by_trip, trip, loaded, number) {
             Ok(()) => Ok(true),
             Err(fault) => Err(fault),
         }

@@ -50,7 +50,12 @@ pub(crate) trait TakesRows {
 
     /// Takes the row at hand where it is seen at once that its fields have their forms, and says whether it was taken, or
     /// tells its fault.
-    fn take_known(&mut self, sheet: &Sheet<'_>, number: u64) -> Result<bool, TableFault>
+    fn take_known(
+        &mut self,
+        _alloc: Global,
+        sheet: &Sheet<'_>,
+        number: u64,
+    ) -> Result<bool, TableFault>
         ensures takes { (start : Self) (before : List Row) → Holds start self.old before → number ≡ length before + 1
             → FindsKnown (fault_of_row (file_of self.old) (fault self.old) before sheet.now.row) (Holds start self.new before)
             (Holds start self.new (before ++ sheet.now.row ∷ [])) result }
@@ -78,7 +83,7 @@ fn take_row<T: TakesRows>(
     ensures same_file { T.file_of taker.new ≡ T.file_of taker.old }
     ensures no_failure { HasFailed result → ⊥ }
 {
-    match taker.take_known(sheet, number) {
+    match taker.take_known(alloc, sheet, number) {
         Ok(true) => return Ok(()),
         Ok(false) => {}
         Err(fault) => return Err(fault),

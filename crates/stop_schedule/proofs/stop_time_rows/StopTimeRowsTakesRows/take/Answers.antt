@@ -2,12 +2,13 @@ use Rattle.std.proofs.Common.{◌≡◌, ◌∙◌, ◌<◌, ◌≤◌, true, fa
 use Rattle.std.specs.Str.{is_utf8}
 use Rattle.std.proofs.lemmas.Bool.{leb-true}
 use Rattle.std.proofs.lemmas.Bool.Decides.{nat_tests}
+use Rattle.stop_schedule.specs.TripStops.{stops_kept}
 use Rattle.stop_schedule.specs.Holding.{HoldsStops}
 use Rattle.stop_schedule.specs.Ids.{has_id}
 use Rattle.stop_schedule.specs.Sheet.{nth}
 use Rattle.stop_schedule.specs.StopTimes.{stops_in}
 use Rattle.stop_schedule.proofs.IdLemmas.{and-left, and-right}
-use Rattle.stop_schedule.proofs.StopStep.{items_of, unknown-trip, too-many, unknown-stop, stands-in}
+use Rattle.stop_schedule.proofs.StopStep.{unknown-trip, too-many, unknown-stop, stands-in}
 use Rattle.stop_schedule.proofs.stop_time_rows.StopTimeRowsTakesRows.take.Goals as goal
 
 pub returns-in_default-clause-takes : goal.returns-in_default-clause-takes
@@ -21,7 +22,7 @@ returns-then-is_full-clause-takes c = λ start before kept counted.
     let row = c.args.sheet.now.row in
     let trips = c.args.self.now.trips.now in
     let stops = c.args.self.now.stops.now in
-    let by_trip = map items_of c.begin_trip-self.new.by_trip.items in
+    let by_trip = map stops_kept c.begin_trip-self.new.by_trip.items in
     let holds : HoldsStops trips stops by_trip before = rw c.begin_trip-self.ensures kept.2 in
     let held = stops_in stops before (nth 0 row) in
     let full = (rw c.as_slice.ensures.value at c.is_full.ensures) held (stands-in trips stops by_trip before holds c.in-Some.trip (nth 0 row) c.in-Some.ensures.at) in
@@ -33,7 +34,7 @@ returns-in_default-find_in-clause-takes c = λ start before kept counted.
     let row = c.args.sheet.now.row in
     let trips = c.args.self.now.trips.now in
     let stops = c.args.self.now.stops.now in
-    let by_trip = map items_of c.begin_trip-self.new.by_trip.items in
+    let by_trip = map stops_kept c.begin_trip-self.new.by_trip.items in
     let holds : HoldsStops trips stops by_trip before = rw c.begin_trip-self.ensures kept.2 in
     let held = stops_in stops before (nth 0 row) in
     let full = (rw c.as_slice.ensures.value at c.is_full.ensures) held (stands-in trips stops by_trip before holds c.in-Some.trip (nth 0 row) c.in-Some.ensures.at) in
