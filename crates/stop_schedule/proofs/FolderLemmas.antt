@@ -9,6 +9,7 @@ use Rattle.std.proofs.Math.Numerals.{add-one}
 use Rattle.std.proofs.lemmas.List.{append-nil, length-map, take_more}
 use Rattle.std.proofs.lemmas.List.Elements.{filter-append}
 use Rattle.indexmap.proofs.SetLemmas.{AllZip-push}
+use Rattle.stop_schedule.specs.TripStops.{stops_kept}
 use Rattle.stop_schedule.specs.Carrying.{Candidate, Lists, candidate, carried_to, IsOf, Carries}
 use Rattle.stop_schedule.specs.Folder.{HoldsRest}
 use Rattle.stop_schedule.specs.Held.{route_held, runs_held, stops_held}
@@ -175,7 +176,7 @@ listed folder = record {
   routes = folder.trips.routes.items;
   services = folder.trips.services.items;
   carried = folder.carried.items;
-  by_trip = map (λ held. held.items) folder.by_trip.items;
+  by_trip = map stops_kept folder.by_trip.items;
 }
 
 abbrev Held : FolderRows → Sheets → Type 0

@@ -1,6 +1,7 @@
 -- Ids by place, and ids with one more.
-use Rattle.std.proofs.Common.{◌≡◌, ◌∙◌, ◌<◌, ◌≤◌, ◌+◌, ◌&&◌, ◌||◌, ℕ, zero, suc, Bool, true, false, cond, not, nat_le, List, [], ◌∷◌, ◌++◌, map, length, slice_get, get_or, position, Some, refl, arith, sym, ap, subst, add-one, add_comm}
+use Rattle.std.proofs.Common.{◌≡◌, ◌∙◌, ◌<◌, ◌≤◌, ◌+◌, ◌&&◌, ◌||◌, ℕ, zero, suc, Bool, true, false, cond, not, nat_le, List, [], ◌∷◌, ◌++◌, map, length, slice_get, get_or, position, Some, refl, arith, sym, ap, subst, add-one, add_comm, Option, None}
 use Rattle.std.specs.List.{list_all, list_any, prefix_len}
+use Rattle.std.specs.Prelude.{IfSome}
 use Rattle.std.specs.Str.{bytes_eq, is_utf8}
 use Rattle.std.proofs.lemmas.List.{length-map, map-append}
 use Rattle.std.proofs.lemmas.Str.{is_utf8-from_IsUtf8, IsUtf8-from_is_utf8}
@@ -41,7 +42,7 @@ and-right true b h = h
 and-right false b h = absurd (false≢true h)
 
 -- an id at a place is one
-id-at : (ids : List (List ℕ)) (place : ℕ) (id : List ℕ) → list_all is_id ids ≡ true → slice_get ids place ≡ Some id → is_id id ≡ true
+pub id-at : (ids : List (List ℕ)) (place : ℕ) (id : List ℕ) → list_all is_id ids ≡ true → slice_get ids place ≡ Some id → is_id id ≡ true
 id-at [] place id all at = cc
 id-at (first ∷ ids) zero id all at = let same : first ≡ id = cc in subst (λ t. is_id t ≡ true) same (and-left _ _ all)
 id-at (first ∷ ids) (suc place) id all at = id-at ids place id (and-right _ _ all) at
@@ -189,3 +190,8 @@ one-more before after false is few = omega arith
 pub id-behind : (ids : List (List ℕ)) (id : List ℕ) → slice_get (ids ++ id ∷ []) (length ids) ≡ Some id
 id-behind [] id = refl
 id-behind (first ∷ ids) id = id-behind ids id
+
+-- where an id is found it stands
+pub at-place : (ids : List (List ℕ)) (found : Option ℕ) (id : List ℕ) → found ≡ position (bytes_eq id) ids → IfSome found (λ place. slice_get ids place ≡ Some id)
+at-place ids (Some place) id is = id-of-place ids place id (sym is)
+at-place ids None id is = tt

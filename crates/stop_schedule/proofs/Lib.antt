@@ -7,6 +7,7 @@ pub mod FolderLemmas
 pub mod FormLemmas
 pub mod IdLemmas
 pub mod JoinLemmas
+pub mod KnownLemmas
 pub mod ListLemmas
 pub mod NearestLemmas
 pub mod RowLemmas
@@ -21,3 +22,4 @@ pub mod StopsLemmas
 pub mod TakingLemmas
 pub mod TextLemmas
 pub mod TripStep
+pub mod TripStopLemmas

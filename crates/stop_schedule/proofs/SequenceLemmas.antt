@@ -45,7 +45,7 @@ placed-first : (stop : LoadedStop) (stops : List LoadedStop) → all_greater sto
 placed-first stop [] greater = refl
 placed-first stop (first ∷ stops) greater = rw (and-left (nat_lt stop.sequence first.sequence) _ greater) refl
 
-placed-behind : (stop : LoadedStop) (front stops : List LoadedStop) → all_less stop.sequence front ≡ true → placed stop (front ++ stops) ≡ front ++ placed stop stops
+pub placed-behind : (stop : LoadedStop) (front stops : List LoadedStop) → all_less stop.sequence front ≡ true → placed stop (front ++ stops) ≡ front ++ placed stop stops
 placed-behind stop [] stops less = refl
 placed-behind stop (first ∷ front) stops less =
     let before = and-left (nat_lt first.sequence stop.sequence) _ less in
@@ -154,7 +154,7 @@ rising-placed stop (first ∷ stops) rising none =
 
 -- ---- a place between others is of a sequence that none has
 
-less-apart : (sequence : ℕ) (stops : List LoadedStop) → all_less sequence stops ≡ true → has_sequence sequence stops ≡ false
+pub less-apart : (sequence : ℕ) (stops : List LoadedStop) → all_less sequence stops ≡ true → has_sequence sequence stops ≡ false
 less-apart sequence [] less = refl
 less-apart sequence (first ∷ stops) less =
     let here = and-left (nat_lt first.sequence sequence) _ less in

@@ -151,6 +151,10 @@ module _ (trips stops : List (List ℕ)) (by_trip : List (List LoadedStop)) (bef
       let found : Some items ≡ Some (stops_in stops before trip) = sym is ∙ all in
       cc found
 
+  pub stands-in : (place : ℕ) (trip : List ℕ) → slice_get trips place ≡ Some trip → slice_get by_trip place ≡ Some (stops_in stops before trip)
+  stands-in place trip at =
+      ap (λ lists. slice_get lists place) holds.stops_are ∙ slice_get-map (stops_in stops before) trips place ∙ ap (option_map (stops_in stops before)) at
+
   pub stops-step : (row : Row) (place : ℕ) (value : List LoadedStop) → are_distinct trips ≡ true → slice_get trips place ≡ Some (nth 0 row)
       → is_rising (stops_in stops before (nth 0 row)) ≡ true → has_sequence (sequence_of row) (stops_in stops before (nth 0 row)) ≡ false
       → has_id (nth 0 row) trips ≡ true

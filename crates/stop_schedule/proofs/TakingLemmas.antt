@@ -1,13 +1,13 @@
 -- Rows that are taken one after the other.
-use Rattle.std.proofs.Common.{◌≡◌, ◌∙◌, ◌+◌, ℕ, List, [], ◌∷◌, ◌++◌, length, Option, Some, None, ap, sym, append_assoc, subst}
+use Rattle.std.proofs.Common.{◌≡◌, ◌∙◌, ◌+◌, ℕ, List, [], ◌∷◌, ◌++◌, length, Option, Some, None, ap, sym, append_assoc}
 use Rattle.std.specs.Prelude.{⊤}
 use Rattle.std.specs.Bool.{MatchBool}
 use Rattle.stop_schedule.specs.Answers.{is_free}
-use Rattle.stop_schedule.specs.Faults.{common_fault, first_fault, row_fault}
+use Rattle.stop_schedule.specs.Faults.{first_fault, row_fault}
 use Rattle.stop_schedule.specs.Sheet.{Row}
 use Rattle.stop_schedule.specs.declared.table_file.TableFile.{TableFile}
 use Rattle.stop_schedule.specs.declared.table_fault.TableFault.{TableFault}
-use Rattle.stop_schedule.proofs.FaultLemmas.{both-none, fault-here, next-row, said-of, second-some}
+use Rattle.stop_schedule.proofs.FaultLemmas.{fault-here, next-row, said-of}
 
 -- some rows were taken without fault, and these are left
 pub record SoFar {S : Type 0} (Holds : S → S → List Row → Type 0) (file : TableFile) (further : List Row → Row → Option TableFault)
@@ -18,25 +18,21 @@ pub record SoFar {S : Type 0} (Holds : S → S → List Row → Type 0) (file : 
 
 module _ {S : Type 0} (Holds : S → S → List Row → Type 0) (file : TableFile) (further : List Row → Row → Option TableFault) (start before after : S)
     (all done lefts left : List Row) (row : Row) (number : ℕ) where
-  -- a row that is without fault by its fields
-  common-none : number ≡ length done → common_fault file (number + 1) row ≡ None → common_fault file (length done + 1) row ≡ None
-  common-none counted none = subst (λ n. common_fault file (n + 1) row ≡ None) counted none
-
-  pub taken : SoFar Holds file further start before all done lefts → lefts ≡ row ∷ left → number ≡ length done → common_fault file (number + 1) row ≡ None
-      → (Holds start before done → number + 1 ≡ length done + 1 → (further done row ≡ None) × Holds start after (done ++ row ∷ []))
+  pub taken : SoFar Holds file further start before all done lefts → lefts ≡ row ∷ left → number ≡ length done
+      → (Holds start before done → number + 1 ≡ length done + 1 → (row_fault file further done row ≡ None) × Holds start after (done ++ row ∷ []))
       → SoFar Holds file further start after all (done ++ row ∷ []) left
-  taken so_far is counted none takes =
+  taken so_far is counted takes =
       let now = takes so_far.holds (ap (λ n. n + 1) counted) in
       record {
         rows = append_assoc done (row ∷ []) left ∙ ap (λ rest. done ++ rest) (sym is) ∙ so_far.rows;
-        faultless = next-row (row_fault file further) done row left lefts _ is (both-none _ _ (common-none counted none) now.0) so_far.faultless;
+        faultless = next-row (row_fault file further) done row left lefts _ is now.0 so_far.faultless;
         holds = now.1;
       }
 
-  pub refused : (fault : TableFault) → SoFar Holds file further start before all done lefts → lefts ≡ row ∷ left → number ≡ length done → common_fault file (number + 1) row ≡ None
-      → (Holds start before done → number + 1 ≡ length done + 1 → MatchBool (is_free fault) ⊤ (further done row ≡ Some fault))
+  pub refused : (fault : TableFault) → SoFar Holds file further start before all done lefts → lefts ≡ row ∷ left → number ≡ length done
+      → (Holds start before done → number + 1 ≡ length done + 1 → MatchBool (is_free fault) ⊤ (row_fault file further done row ≡ Some fault))
       → MatchBool (is_free fault) ⊤ (first_fault (row_fault file further) [] all ≡ Some fault)
-  refused fault so_far is counted none takes =
-      said-of (is_free fault) (further done row ≡ Some fault) (first_fault (row_fault file further) [] all ≡ Some fault)
-      (λ here. fault-here (row_fault file further) done row left lefts _ fault is (second-some _ _ fault (common-none counted none) here) so_far.faultless)
+  refused fault so_far is counted takes =
+      said-of (is_free fault) (row_fault file further done row ≡ Some fault) (first_fault (row_fault file further) [] all ≡ Some fault)
+      (λ here. fault-here (row_fault file further) done row left lefts _ fault is here so_far.faultless)
       (takes so_far.holds (ap (λ n. n + 1) counted))

@@ -43,3 +43,9 @@ HasFailed (Err fault) = IsFailure fault
 abbrev pub Finds : {T : Type 0} → Option TableFault → (T → Type 0) → Result T TableFault → Type 0
 Finds fault Holds (Ok value) = (fault ≡ None) × Holds value
 Finds fault Holds (Err told) = MatchBool (is_free told) ⊤ (fault ≡ Some told)
+
+-- where there is no fault it was done, or else the fault is told; or nothing was looked at, and another holds
+abbrev pub FindsKnown : Option TableFault → Type 0 → Type 0 → Result Bool TableFault → Type 0
+FindsKnown fault Kept Done (Ok true) = (fault ≡ None) × Done
+FindsKnown fault Kept Done (Ok false) = Kept
+FindsKnown fault Kept Done (Err told) = MatchBool (is_free told) ⊤ (fault ≡ Some told)

@@ -3,6 +3,7 @@ use Rattle.std.specs.Prelude.{◌≡◌, ℕ, List, map}
 use Rattle.stop_schedule.specs.Holding.{Calendars, Exceptions, HoldsServices, HoldsStops, HoldsTrips}
 use Rattle.stop_schedule.specs.Sheet.{rows_in}
 use Rattle.stop_schedule.specs.Timetable.{Sheets}
+use Rattle.stop_schedule.specs.TripStops.{stops_kept}
 use Rattle.stop_schedule.specs.Trips.{is_carried}
 use Rattle.stop_schedule.specs.declared.folder_rows.FolderRows.{FolderRows}
 use Rattle.stop_schedule.specs.declared.table_file.TableFile.TheVariants.{Trips, Calendar, CalendarDates, Frequencies, StopTimes}
@@ -19,4 +20,4 @@ pub record HoldsRest (stops routes : List (List ℕ)) (folder : FolderRows) (she
   pub routes_are : folder.routes ≡ routes
   pub runs : HoldsRuns routes folder.trips.ids folder.trips.routes.items folder.trips.services.items folder.services.calendars folder.services.exceptions sheets
   pub carried : folder.carried.items ≡ map (is_carried (rows_in (sheets Frequencies))) folder.trips.ids
-  pub by_trip : HoldsStops folder.trips.ids stops (map (λ held. held.items) folder.by_trip.items) (rows_in (sheets StopTimes))
+  pub by_trip : HoldsStops folder.trips.ids stops (map stops_kept folder.by_trip.items) (rows_in (sheets StopTimes))

@@ -5,13 +5,15 @@ use Rattle.std.specs.Ordering.{int_eq}
 use Rattle.std.specs.HashMap.{HashMap, get}
 use Rattle.std.specs.declared.hash.FoldHasher.{FoldHasher}
 use Rattle.std.specs.declared.hash.BuildHasherDefault.{BuildHasherDefault}
-use Rattle.stop_schedule.specs.Ids.{has_id}
+use Rattle.stop_schedule.specs.Faults.{Fits}
+use Rattle.stop_schedule.specs.Ids.{are_ids, has_id}
 use Rattle.stop_schedule.specs.Rising.{is_rising}
 use Rattle.stop_schedule.specs.Services.{calendar_in, exception_in}
 use Rattle.stop_schedule.specs.Sheet.{Row, nth}
-use Rattle.stop_schedule.specs.StopTimes.{stops_in}
+use Rattle.stop_schedule.specs.StopTimes.{loaded, stops_in}
 use Rattle.stop_schedule.specs.declared.service_rows.Calendar.{Calendar}
 use Rattle.stop_schedule.specs.declared.stop_times.LoadedStop.{LoadedStop}
+use Rattle.stop_schedule.specs.declared.table_file.TableFile.TheVariants.{StopTimes}
 
 -- these are the numbers of names among ids
 abbrev pub AreNumbers : List (List ℕ) → List ℕ → List (List ℕ) → Type 0
@@ -66,3 +68,11 @@ pub record HoldsStops (trips stops : List (List ℕ)) (by_trip : List (List Load
   pub stops_are : by_trip ≡ map (stops_in stops rows) trips
   pub rising : list_all is_rising by_trip ≡ true
   pub known : list_all (λ row. has_id (nth 0 row) trips) rows ≡ true
+
+-- a row of stop_times.txt has no fault by its fields, its trip stands at that place of the trips, and this is its stop
+pub record IsKnown (trips stops : List (List ℕ)) (number : ℕ) (row : Row) (trip : ℕ) (stop : LoadedStop) : Type 0 where
+  pub ids : are_ids trips ≡ true
+  pub fits : Fits StopTimes number row
+  pub trip_at : slice_get trips trip ≡ Some (nth 0 row)
+  pub of_stop : has_id (nth 2 row) stops ≡ true
+  pub loaded_is : stop ≡ loaded stops (number, row)

@@ -23,4 +23,5 @@ pub mod StopTimes
 pub mod Stops
 pub mod Table
 pub mod Timetable
+pub mod TripStops
 pub mod Trips

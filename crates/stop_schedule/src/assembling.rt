@@ -8,6 +8,7 @@ ghost use Rattle.stop_schedule.specs.Carrying.{Adds, Carries, carried_to};
 ghost use Rattle.stop_schedule.specs.Folder.{HoldsRest};
 ghost use Rattle.stop_schedule.specs.Reading.{Assembles, IsAssembled, Reads};
 ghost use Rattle.stop_schedule.specs.Timetable.{Sheets, ids_in, timetable as timetable_of};
+ghost use Rattle.stop_schedule.specs.TripStops.{stops_kept};
 ghost use Rattle.stop_schedule.specs.declared.table_file.TableFile.TheVariants as File;
 
 use crate::carried::CarriedTrip;
@@ -18,6 +19,7 @@ use crate::stop_checks::are_stops_of;
 use crate::stop_times::{LoadedStop, StopRow, lesser, push_filled, untimed_end};
 use crate::table_fault::TableFault;
 use crate::timetable::Timetable;
+use crate::trip_stops::TripStops;
 use gw_base::Files;
 use std::alloc::{AllocError, Global};
 
@@ -75,13 +77,18 @@ fn is_carried_at(carried: &[bool], place: usize) -> bool
     carried.get(place).copied().unwrap_or(false)
 }
 
-// The stops of the trip at a place.
-fn stops_at(by_trip: &[Vec<LoadedStop>], place: usize) -> &[LoadedStop]
-    ensures { result.now ≡ slice_index_or (map (λ held. held.items) by_trip.now) place [] }
+// Writes the stops of the trip at a place in place of those that are there.
+fn put_stops_at(
+    by_trip: &[TripStops],
+    place: usize,
+    into: &mut Vec<LoadedStop>,
+) -> Result<(), AllocError>
+    ensures { OnOk result (into.new.items ≡ slice_index_or (map stops_kept by_trip.now) place []) }
 {
+    into.clear();
     match by_trip.get(place) {
-        Some(stops) => stops.as_slice(),
-        None => &[],
+        Some(held) => held.copy_to(into),
+        None => Ok(()),
     }
 }
 
@@ -90,14 +97,14 @@ fn carried_trips(
     alloc: Global,
     trips: &Trips,
     carried: &[bool],
-    by_trip: &[Vec<LoadedStop>],
+    by_trip: &[TripStops],
 ) -> Result<Assembled, AllocError>
     ensures { IfOk result (λ all. Carries all (carried_to (record {
       ids = trips.now.ids;
       routes = trips.now.routes.items;
       services = trips.now.services.items;
       carried = carried.now;
-      by_trip = map (λ held. held.items) by_trip.now;
+      by_trip = map stops_kept by_trip.now;
     }) (length trips.now.ids))) }
 {
     let mut all = Assembled {
@@ -106,18 +113,19 @@ fn carried_trips(
         stop_rows: Vec::new(alloc),
         untimed: None,
     };
+    let mut stops = Vec::new(alloc);
     for place in 0..trips.ids.len() {
         if is_carried_at(carried, place) {
             let route = number_at(trips.routes.as_slice(), place);
             let service = number_at(trips.services.as_slice(), place);
-            let stops = stops_at(by_trip, place);
+            put_stops_at(by_trip, place, &mut stops)?;
             add_trip(
                 alloc,
                 &mut all,
                 trips.ids.at(place as u32),
                 route,
                 service,
-                stops,
+                stops.as_slice(),
             )?;
         }
     }

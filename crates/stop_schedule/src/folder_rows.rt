@@ -5,6 +5,7 @@ ghost use Rattle.stop_schedule.specs.Answers.{Finds, HasFailed};
 ghost use Rattle.stop_schedule.specs.Folder.{HoldsRest, HoldsRuns};
 ghost use Rattle.stop_schedule.specs.Holding.{HoldsStops};
 ghost use Rattle.stop_schedule.specs.Sheet.{rows_in};
+ghost use Rattle.stop_schedule.specs.TripStops.{stops_kept};
 ghost use Rattle.stop_schedule.specs.Trips.{is_carried};
 ghost use Rattle.stop_schedule.specs.Timetable.{files_fault, ids_in, rest_fault, runs_fault, stops_fault, names_fault, sheets_in};
 ghost use Rattle.stop_schedule.specs.declared.table_file.TableFile.TheVariants as File;
@@ -14,9 +15,9 @@ use crate::loading::{
     Services, Trips, read_frequencies, read_ids, read_services, read_stop_times, read_trips,
     read_zones,
 };
-use crate::stop_times::LoadedStop;
 use crate::table_fault::TableFault;
 use crate::table_file::TableFile;
+use crate::trip_stops::TripStops;
 use gw_base::{Bytes, Files, List};
 use std::alloc::Global;
 
@@ -28,7 +29,7 @@ pub(crate) struct FolderRows {
     pub(crate) trips: Trips,
     pub(crate) services: Services,
     pub(crate) carried: Vec<bool>,
-    pub(crate) by_trip: Vec<Vec<LoadedStop>>,
+    pub(crate) by_trip: Vec<TripStops>,
 }
 
 // Reads `agency.txt`, `stops.txt` and `routes.txt`, and answers the ids of the stops and the routes.
@@ -75,10 +76,10 @@ fn read_stops<F: Files>(
     buffer: &mut Bytes,
     trips: &Ids,
     stops: &Ids,
-) -> Result<(Vec<bool>, Vec<Vec<LoadedStop>>), TableFault>
+) -> Result<(Vec<bool>, Vec<TripStops>), TableFault>
     ensures exact { IfSome (F.told files.old) (λ told. Finds (stops_fault trips.now stops.now (sheets_in told dir.now))
         (λ found. (found.0.items ≡ map (is_carried (rows_in (sheets_in told dir.now File.Frequencies))) trips.now)
-        × HoldsStops trips.now stops.now (map (λ held. held.items) found.1.items) (rows_in (sheets_in told dir.now File.StopTimes))) result) }
+        × HoldsStops trips.now stops.now (map stops_kept found.1.items) (rows_in (sheets_in told dir.now File.StopTimes))) result) }
     ensures counts { Counts (HasFailed result) (F.faults files.old) (F.faults files.new) }
     ensures same { F.told files.new ≡ F.told files.old }
 {

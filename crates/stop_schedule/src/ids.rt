@@ -129,6 +129,7 @@ pub(crate) fn find_in(ids: &Ids, sheet: &Sheet<'_>, column: usize) -> Option<u32
     ensures place { is_utf8 (nth column sheet.now.row) ≡ true → result ≡ position (bytes_eq (nth column sheet.now.row)) ids.now }
     ensures found { is_utf8 (nth column sheet.now.row) ≡ true → is_some result ≡ has_id (nth column sheet.now.row) ids.now }
     ensures within { IfSome result (λ place. place < length ids.now) }
+    ensures at { IfSome result (λ place. slice_get ids.now place ≡ Some (nth column sheet.now.row)) }
     ensures ids { IsTrue (are_ids ids.now) }
 {
     let _ = ids.len();
@@ -150,6 +151,7 @@ pub(crate) fn find_from(ids: &Ids, sheet: &Sheet<'_>, column: usize, number: u32
     ensures place { is_utf8 (nth column sheet.now.row) ≡ true → result ≡ position (bytes_eq (nth column sheet.now.row)) ids.now }
     ensures found { is_utf8 (nth column sheet.now.row) ≡ true → is_some result ≡ has_id (nth column sheet.now.row) ids.now }
     ensures within { IfSome result (λ place. place < length ids.now) }
+    ensures at { IfSome result (λ place. slice_get ids.now place ≡ Some (nth column sheet.now.row)) }
     ensures ids { IsTrue (are_ids ids.now) }
 {
     let _ = ids.len();

@@ -27,6 +27,7 @@ mod table_file;
 mod taking;
 mod timetable;
 mod trip_rows;
+mod trip_stops;
 mod zone_rows;
 
 pub use assembling::read_timetable;

@@ -10,6 +10,7 @@ ghost use Rattle.stop_schedule.specs.Services.{runs_by};
 ghost use Rattle.stop_schedule.specs.Reading.{ReadsNeeded, ReadsRows};
 ghost use Rattle.stop_schedule.specs.Timetable.{calendars_fault, sheets_in};
 ghost use Rattle.stop_schedule.specs.Sheet.{nth, rows_in};
+ghost use Rattle.stop_schedule.specs.TripStops.{stops_kept};
 ghost use Rattle.stop_schedule.specs.Trips.{is_carried};
 ghost use Rattle.stop_schedule.specs.declared.table_file.TableFile.TheVariants as File;
 
@@ -18,11 +19,11 @@ use crate::id_rows::IdRows;
 use crate::ids::Ids;
 use crate::service_rows::{Calendar, CalendarRows, DateRows};
 use crate::stop_time_rows::StopTimeRows;
-use crate::stop_times::LoadedStop;
 use crate::table_fault::TableFault;
 use crate::table_file::TableFile;
 use crate::taking::{TakesRows, read_rows};
 use crate::trip_rows::TripRows;
+use crate::trip_stops::TripStops;
 use crate::zone_rows::ZoneRows;
 use gw_base::{Bytes, Files};
 use service_day::Day;
@@ -232,15 +233,24 @@ fn all_carried(alloc: Global, trips: &Ids) -> Result<Vec<bool>, AllocError>
 }
 
 // No trip has stops.
-fn no_stops(alloc: Global, trips: &Ids, stops: &Ids) -> Result<Vec<Vec<LoadedStop>>, AllocError>
-    ensures { IfOk result (λ by_trip. HoldsStops trips.now stops.now (map (λ held. held.items) by_trip.items) []) }
+fn no_stops(alloc: Global, trips: &Ids, stops: &Ids) -> Result<Vec<TripStops>, AllocError>
+    ensures { IfOk result (λ by_trip. HoldsStops trips.now stops.now (map stops_kept by_trip.items) []) }
 {
     let _ = stops;
     let mut by_trip = Vec::new(alloc);
     for _ in 0..trips.len() {
-        by_trip.push(Vec::new(alloc))?;
+        by_trip.push(TripStops::new(alloc))?;
     }
     Ok(by_trip)
+}
+
+// Of each stop the first one came after it.
+fn no_followers(alloc: Global, stops: &Ids) -> Result<Vec<u32>, AllocError> {
+    let mut followers = Vec::new(alloc);
+    for _ in 0..stops.len() {
+        followers.push(0)?;
+    }
+    Ok(followers)
 }
 
 /// Reads `frequencies.txt`, and answers of each trip whether it is carried.
@@ -273,18 +283,21 @@ pub(crate) fn read_stop_times<F: Files>(
     buffer: &mut Bytes,
     trips: &Ids,
     stops: &Ids,
-) -> Result<Vec<Vec<LoadedStop>>, TableFault>
+) -> Result<Vec<TripStops>, TableFault>
     ensures exact { IfSome (F.told files.old) (λ told. ReadsNeeded File.StopTimes (stop_time_fault trips.now stops.now)
-        (λ by_trip. HoldsStops trips.now stops.now (map (λ held. held.items) by_trip.items)) (sheets_in told dir.now) result) }
+        (λ by_trip. HoldsStops trips.now stops.now (map stops_kept by_trip.items)) (sheets_in told dir.now) result) }
     ensures counts { Counts (HasFailed result) (F.faults files.old) (F.faults files.new) }
     ensures same { F.told files.new ≡ F.told files.old }
 {
     let by_trip = no_stops(alloc, trips, stops)?;
+    let followers = no_followers(alloc, stops)?;
     let mut rows = StopTimeRows {
         trips,
         stops,
         by_trip,
         last: 0,
+        stop: 0,
+        followers,
     };
     if let Err(fault) = read_needed(alloc, files, dir, buffer, &mut rows) {
         return Err(fault);
@@ -294,6 +307,8 @@ pub(crate) fn read_stop_times<F: Files>(
         stops: _,
         by_trip,
         last: _,
+        stop: _,
+        followers: _,
     } = rows;
     Ok(by_trip)
 }

@@ -1,42 +1,55 @@
 //! The rows of `stop_times.txt`: the stops of each trip, in rising sequence.
-ghost use Rattle.std.specs.Prelude.{◌≡◌, map};
+ghost use Rattle.std.specs.Prelude.{◌≡◌, ◌≤◌, ◌+◌, true, ◌++◌, ◌∷◌, [], ℕ, Some, List, map, length, nat_le, slice_get, is_some, IfSome, IsTrue};
+ghost use Rattle.stop_schedule.specs.Answers.{Finds, HasFailed};
+ghost use Rattle.stop_schedule.specs.Causes.{stop_time_fault};
+ghost use Rattle.stop_schedule.specs.Forms as forms_of;
+ghost use Rattle.stop_schedule.specs.Holding.{HoldsStops, IsKnown};
+ghost use Rattle.stop_schedule.specs.Ids.{are_ids};
+ghost use Rattle.stop_schedule.specs.Sheet.{Row, nth};
 ghost use Rattle.stop_schedule.specs.StopTimes as spec;
+ghost use Rattle.stop_schedule.specs.TripStops.{stops_kept};
+ghost use Rattle.stop_schedule.specs.declared.stop_times.LoadedStop.{LoadedStop as Loaded};
 
 use crate::column::Column;
 use crate::forms::{seconds, sequence};
 use crate::ids::{Ids, find_from, find_in};
+use crate::layout::row_limit;
 use crate::numbers::StopNo;
 use crate::sheet::Sheet;
-use crate::stop_times::{LoadedStop, MAX_STOPS, place_of};
+use crate::stop_times::{LoadedStop, MAX_STOPS};
 use crate::table_fault::TableFault;
 use crate::table_file::TableFile;
 use crate::taking::TakesRows;
+use crate::trip_stops::TripStops;
 use std::alloc::Global;
 
-/// The stops of each trip of `trips.txt`, in rising sequence, and the number of the trip that began last.
+/// The stops of each trip of `trips.txt`, in rising sequence. Besides, what the next row is looked for at first: the number
+/// of the trip that began last, the stop of the row before, and the stop that came after each stop the last time.
 #[derive(Drop)]
 pub(crate) struct StopTimeRows<'a> {
     pub(crate) trips: &'a Ids,
     pub(crate) stops: &'a Ids,
-    pub(crate) by_trip: Vec<Vec<LoadedStop>>,
+    pub(crate) by_trip: Vec<TripStops>,
     pub(crate) last: u32,
+    pub(crate) stop: u32,
+    pub(crate) followers: Vec<u32>,
 }
 
 // Whether a trip has no stops so far.
-fn has_none(by_trip: &[Vec<LoadedStop>], trip: u32) -> bool {
+fn has_none(by_trip: &[TripStops], trip: u32) -> bool {
     match by_trip.get(trip as usize) {
-        Some(held) => held.is_empty(),
+        Some(held) => held.len() == 0,
         None => true,
     }
 }
 
 // Gives back the room that the stops of a trip don't take, and answers how many they are.
-fn give_back(by_trip: &mut Vec<Vec<LoadedStop>>, trip: u32) -> usize
-    ensures { map (λ held. held.items) by_trip.new.items ≡ map (λ held. held.items) by_trip.old.items }
+fn give_back(by_trip: &mut Vec<TripStops>, trip: u32) -> usize
+    ensures { map stops_kept by_trip.new.items ≡ map stops_kept by_trip.old.items }
 {
     match by_trip.get_mut(trip as usize) {
         Some(held) => {
-            held.shrink_to_fit();
+            held.give_back();
             held.len()
         }
         None => 0,
@@ -44,18 +57,18 @@ fn give_back(by_trip: &mut Vec<Vec<LoadedStop>>, trip: u32) -> usize
 }
 
 // Takes room for so many stops of a trip where there is memory for them.
-fn make_room(by_trip: &mut Vec<Vec<LoadedStop>>, trip: u32, count: usize)
-    ensures { map (λ held. held.items) by_trip.new.items ≡ map (λ held. held.items) by_trip.old.items }
+fn make_room(by_trip: &mut Vec<TripStops>, trip: u32, count: usize)
+    ensures { map stops_kept by_trip.new.items ≡ map stops_kept by_trip.old.items }
 {
     if let Some(held) = by_trip.get_mut(trip as usize) {
-        let _ = held.reserve_exact(count);
+        held.make_room(count);
     }
 }
 
 // Answers which trip began last, of which the next row is one of `trip`. Where that row is its first, the stops of the
 // one that began before are mostly all there, and this one mostly has as many.
-fn begin_trip(by_trip: &mut Vec<Vec<LoadedStop>>, last: u32, trip: u32) -> u32
-    ensures { map (λ held. held.items) by_trip.new.items ≡ map (λ held. held.items) by_trip.old.items }
+fn begin_trip(by_trip: &mut Vec<TripStops>, last: u32, trip: u32) -> u32
+    ensures { map stops_kept by_trip.new.items ≡ map stops_kept by_trip.old.items }
 {
     if !has_none(by_trip.as_slice(), trip) {
         return last;
@@ -77,31 +90,151 @@ fn times(sheet: &Sheet<'_>) -> Option<(u32, u32)>
     }
 }
 
+// Whether the trip at a place has as many stops as it may have.
+fn is_full(by_trip: &[TripStops], trip: u32) -> bool
+    ensures { (held : List Loaded) → slice_get (map stops_kept by_trip.now) trip ≡ Some held → result ≡ nat_le 250 (length held) }
+{
+    match by_trip.get(trip as usize) {
+        Some(held) => held.len() >= MAX_STOPS,
+        None => false,
+    }
+}
+
+// Puts the stop of a row among those of its trip, or tells the row's fault.
+fn put(
+    alloc: Global,
+    by_trip: &mut Vec<TripStops>,
+    trip: u32,
+    loaded: LoadedStop,
+    number: u64,
+) -> Result<(), TableFault>
+    ensures puts { (trips stops : List (List ℕ)) (before : List Row) (row : Row) → IsKnown trips stops number row trip loaded → number ≡ length before + 1
+        → HoldsStops trips stops (map stops_kept by_trip.old.items) before
+        → Finds (stop_time_fault trips stops before row) (λ _. HoldsStops trips stops (map stops_kept by_trip.new.items) (before ++ row ∷ [])) result }
+    ensures no_failure { HasFailed result → ⊥ }
+{
+    let Some(held) = by_trip.get_mut(trip as usize) else {
+        return Err(TableFault::Unknown(TableFile::StopTimes, number, Column::TripId));
+    };
+    if held.len() >= MAX_STOPS {
+        return Err(TableFault::Limit(TableFile::StopTimes, number));
+    }
+    if held.add(alloc, &loaded)? {
+        Ok(())
+    } else {
+        Err(TableFault::Duplicate(TableFile::StopTimes, number))
+    }
+}
+
+// The numbers of the trip and the stop of the row at hand, where both are known, by numbers that are tried first.
+fn known_ids(
+    trips: &Ids,
+    stops: &Ids,
+    sheet: &Sheet<'_>,
+    trip: u32,
+    stop: u32,
+) -> Option<(u32, u32)>
+    ensures trip { IfSome result (λ known. slice_get trips.now known.0 ≡ Some (nth 0 sheet.now.row)) }
+    ensures stop { IfSome result (λ known. slice_get stops.now known.1 ≡ Some (nth 2 sheet.now.row)) }
+    ensures trips { IsTrue (are_ids trips.now) }
+    ensures stops { IsTrue (are_ids stops.now) }
+{
+    let _ = (trips.len(), stops.len());
+    let (Some(trip), Some(stop)) = (
+        find_from(trips, sheet, 0, trip),
+        find_from(stops, sheet, 2, stop),
+    ) else {
+        return None;
+    };
+    Some((trip, stop))
+}
+
+// The arrival and the departure of the row at hand, where both fields have a time.
+fn known_times(sheet: &Sheet<'_>) -> Option<(u32, u32)>
+    ensures arrival { IfSome result (λ known. forms_of.seconds (nth 3 sheet.now.row) ≡ Some known.0) }
+    ensures departure { IfSome result (λ known. forms_of.seconds (nth 4 sheet.now.row) ≡ Some known.1) }
+{
+    match (seconds(sheet.field(3)), seconds(sheet.field(4))) {
+        (Some(arrival), Some(departure)) => Some((arrival, departure)),
+        _ => None,
+    }
+}
+
+// The stop of the row at hand by its number, where its fields have their forms and it has both times.
+fn known_stop(sheet: &Sheet<'_>, number: u64, stop: u32) -> Option<LoadedStop>
+    ensures sequence { IfSome result (λ known. forms_of.sequence (nth 1 sheet.now.row) ≡ Some known.sequence) }
+    ensures arrival { IfSome result (λ _. is_some (forms_of.seconds (nth 3 sheet.now.row)) ≡ true) }
+    ensures departure { IfSome result (λ _. is_some (forms_of.seconds (nth 4 sheet.now.row)) ≡ true) }
+    ensures times { IfSome result (λ known. known.times ≡ spec.times sheet.now.row) }
+    ensures counted { IfSome result (λ known. (number ≤ 4000000) × (known.row ≡ number) × (known.stop.0 ≡ stop)) }
+{
+    if number > row_limit(TableFile::StopTimes) {
+        return None;
+    }
+    let (Some(sequence), Some(times)) = (sequence(sheet.field(1)), known_times(sheet)) else {
+        return None;
+    };
+    Some(LoadedStop {
+        row: number as u32,
+        sequence,
+        stop: StopNo(stop),
+        times: Some(times),
+    })
+}
+
+// The trip and the stop of the row at hand, where it is seen at once that it has no fault by its fields.
+fn known_row(
+    trips: &Ids,
+    stops: &Ids,
+    sheet: &Sheet<'_>,
+    number: u64,
+    trip: u32,
+    stop: u32,
+) -> Option<(u32, LoadedStop)>
+    ensures { IfSome result (λ known. IsKnown trips.now stops.now number sheet.now.row known.0 known.1) }
+{
+    let (trip, stop) = known_ids(trips, stops, sheet, trip, stop)?;
+    match known_stop(sheet, number, stop) {
+        Some(loaded) => Some((trip, loaded)),
+        None => None,
+    }
+}
+
+// The stop that came after that one the last time.
+fn follower(followers: &[u32], stop: u32) -> u32 {
+    followers.get(stop as usize).copied().unwrap_or(0)
+}
+
+// Notes that a stop came after that one.
+fn note_follower(followers: &mut Vec<u32>, stop: u32, next: u32) {
+    if let Some(follower) = followers.get_mut(stop as usize) {
+        *follower = next;
+    }
+}
+
 impl<'a> TakesRows for StopTimeRows<'a> {
     ghost use Rattle.std.specs.Prelude.{map};
     ghost use Rattle.stop_schedule.specs.Causes.{stop_time_fault};
     ghost use Rattle.stop_schedule.specs.Holding.{HoldsStops};
+    ghost use Rattle.stop_schedule.specs.TripStops.{stops_kept};
     ghost use Rattle.stop_schedule.specs.declared.table_file.TableFile.TheVariants.{StopTimes};
 
     ghost file_of = { λ _. StopTimes };
 
     ghost fault = { λ taker. stop_time_fault taker.trips.now taker.stops.now };
 
-    ghost Holds = { λ start taker rows. (taker.trips.now ≡ start.trips.now) × (taker.stops.now ≡ start.stops.now) × HoldsStops taker.trips.now taker.stops.now (map (λ held. held.items) taker.by_trip.items) rows };
+    ghost Holds = { λ start taker rows. (taker.trips.now ≡ start.trips.now) × (taker.stops.now ≡ start.stops.now) × HoldsStops taker.trips.now taker.stops.now (map stops_kept taker.by_trip.items) rows };
 
     fn file(&self) -> TableFile {
         TableFile::StopTimes
     }
 
-    fn take(&mut self, _alloc: Global, sheet: &Sheet<'_>, number: u64) -> Result<(), TableFault> {
+    fn take(&mut self, alloc: Global, sheet: &Sheet<'_>, number: u64) -> Result<(), TableFault> {
         let Some(trip) = find_from(self.trips, sheet, 0, self.last) else {
             return Err(TableFault::Unknown(TableFile::StopTimes, number, Column::TripId));
         };
         self.last = begin_trip(&mut self.by_trip, self.last, trip);
-        let Some(held) = self.by_trip.get_mut(trip as usize) else {
-            return Err(TableFault::Unknown(TableFile::StopTimes, number, Column::TripId));
-        };
-        if held.len() >= MAX_STOPS {
+        if is_full(self.by_trip.as_slice(), trip) {
             return Err(TableFault::Limit(TableFile::StopTimes, number));
         }
         let Some(stop) = find_in(self.stops, sheet, 2) else {
@@ -110,18 +243,32 @@ impl<'a> TakesRows for StopTimeRows<'a> {
         let Some(sequence) = sequence(sheet.field(1)) else {
             return Err(TableFault::Unknown(TableFile::StopTimes, number, Column::StopSequence));
         };
-        let Some(place) = place_of(held.as_slice(), sequence) else {
-            return Err(TableFault::Duplicate(TableFile::StopTimes, number));
-        };
         let loaded = LoadedStop {
             row: number as u32,
             sequence,
             stop: StopNo(stop),
             times: times(sheet),
         };
-        match held.insert(place, loaded) {
-            Ok(()) => Ok(()),
-            Err(_) => Err(TableFault::Memory),
+        put(alloc, &mut self.by_trip, trip, loaded, number)
+    }
+
+    fn take_known(
+        &mut self,
+        alloc: Global,
+        sheet: &Sheet<'_>,
+        number: u64,
+    ) -> Result<bool, TableFault> {
+        let next = follower(self.followers.as_slice(), self.stop);
+        let Some((trip, loaded)) = known_row(self.trips, self.stops, sheet, number, self.last, next)
+        else {
+            return Ok(false);
+        };
+        note_follower(&mut self.followers, self.stop, loaded.stop.0);
+        self.stop = loaded.stop.0;
+        self.last = begin_trip(&mut self.by_trip, self.last, trip);
+        match put(alloc, &mut self.by_trip, trip, loaded, number) {
+            Ok(()) => Ok(true),
+            Err(fault) => Err(fault),
         }
     }
 }

@@ -1,10 +1,10 @@
 //! The rows of a file, taken one after the other by what is made of them.
-ghost use Rattle.std.specs.Prelude.{◌≡◌, ◌+◌, ◌++◌, ◌∷◌, [], ℕ, None, Some, List, length, OnOk, IfErr, IfSome, IfOk};
+ghost use Rattle.std.specs.Prelude.{◌≡◌, ◌≤◌, ◌+◌, ◌++◌, ◌∷◌, [], ℕ, true, None, Some, List, length, OnOk, IfErr, IfSome, IfOk};
 ghost use Rattle.std.specs.Bool.{MatchBool};
 ghost use Rattle.gw_base.specs.Answers.{UnlessFree};
 ghost use Rattle.gw_base.specs.Count.{Counts};
 ghost use Rattle.gw_base.specs.Directory.{bytes_of};
-ghost use Rattle.stop_schedule.specs.Answers.{Finds, HasFailed, is_free};
+ghost use Rattle.stop_schedule.specs.Answers.{Finds, FindsKnown, HasFailed, is_free};
 ghost use Rattle.stop_schedule.specs.Faults.{Fits, fault_in, first_fault, row_fault as fault_of_row};
 ghost use Rattle.stop_schedule.specs.Rows.{rows};
 ghost use Rattle.stop_schedule.specs.Sheet.{Row, rows_in, sheet_of};
@@ -47,6 +47,51 @@ pub(crate) trait TakesRows {
         ensures same_fault { fault self.new ≡ fault self.old }
         ensures same_file { file_of self.new ≡ file_of self.old }
         ensures no_failure { HasFailed result → ⊥ };
+
+    /// Takes the row at hand where it is seen at once that its fields have their forms, and says whether it was taken, or
+    /// tells its fault.
+    fn take_known(
+        &mut self,
+        _alloc: Global,
+        sheet: &Sheet<'_>,
+        number: u64,
+    ) -> Result<bool, TableFault>
+        ensures takes { (start : Self) (before : List Row) → Holds start self.old before → number ≡ length before + 1
+            → FindsKnown (fault_of_row (file_of self.old) (fault self.old) before sheet.now.row) (Holds start self.new before)
+            (Holds start self.new (before ++ sheet.now.row ∷ [])) result }
+        ensures few { IfOk result (λ taken. taken ≡ true → number ≤ 4000000) }
+        ensures same_fault { fault self.new ≡ fault self.old }
+        ensures same_file { file_of self.new ≡ file_of self.old }
+        ensures no_failure { HasFailed result → ⊥ }
+    {
+        Ok(false)
+    }
+}
+
+// Takes the row at hand, which is the data row of that number, or tells its fault.
+fn take_row<T: TakesRows>(
+    alloc: Global,
+    sheet: &Sheet<'_>,
+    taker: &mut T,
+    number: u64,
+) -> Result<(), TableFault>
+    ensures takes { (start : T) (before : List Row) → T.Holds start taker.old before → number ≡ length before + 1
+        → Finds (fault_of_row (T.file_of taker.old) (T.fault taker.old) before sheet.now.row)
+        (λ _. T.Holds start taker.new (before ++ sheet.now.row ∷ [])) result }
+    ensures few { OnOk result (number ≤ 4000000) }
+    ensures same_fault { T.fault taker.new ≡ T.fault taker.old }
+    ensures same_file { T.file_of taker.new ≡ T.file_of taker.old }
+    ensures no_failure { HasFailed result → ⊥ }
+{
+    match taker.take_known(alloc, sheet, number) {
+        Ok(true) => return Ok(()),
+        Ok(false) => {}
+        Err(fault) => return Err(fault),
+    }
+    if let Some(fault) = row_fault(sheet, taker.file(), number) {
+        return Err(fault);
+    }
+    taker.take(alloc, sheet, number)
 }
 
 // Takes all rows that are left, up to the first fault.
@@ -65,10 +110,7 @@ fn take_rows<T: TakesRows>(
     let mut number = 0u64;
     while sheet.advance()? {
         number += 1;
-        if let Some(fault) = row_fault(sheet, taker.file(), number) {
-            return Err(fault);
-        }
-        if let Err(fault) = taker.take(alloc, sheet, number) {
+        if let Err(fault) = take_row(alloc, sheet, taker, number) {
             return Err(fault);
         }
     }

@@ -1,5 +1,6 @@
 -- what is made so far is made of the trips of the places so far
 use Rattle.std.proofs.Common.{map}
+use Rattle.stop_schedule.specs.TripStops.{stops_kept}
 use Rattle.stop_schedule.specs.Carrying.{Carries, carried_to}
 use Rattle.stop_schedule.proofs.assembling.carried_trips.Given as goal
 
@@ -10,5 +11,5 @@ invariant-loop-place l =
       routes = l.trips.routes.items;
       services = l.trips.services.items;
       carried = l.carried;
-      by_trip = map (λ held. held.items) l.by_trip;
+      by_trip = map stops_kept l.by_trip;
     }) l.place)
