@@ -42,7 +42,8 @@ fn add_trip(
     service: u32,
     stops: &[LoadedStop],
 ) -> Result<(), AllocError>
-    ensures { OnOk result ((id : List ℕ) → Adds all.old all.new (record { id = id; route = route; service = service; stops = stops.now })) }
+    ensures { OnOk result ((id : List ℕ)
+        → Adds all.old all.new (record { id = id; route = route; service = service; stops = stops.now })) }
 {
     let first = all.stop_rows.as_slice().len();
     push_filled(stops, &mut all.stop_rows)?;
@@ -134,7 +135,8 @@ fn keep_at(
     place: usize,
 ) -> Result<(), AllocError>
     requires { place < length ids.now }
-    ensures { OnOk result (kept.new ≡ kept.old ++ (if slice_index_or carried.now place false then slice_index_or ids.now place [] ∷ [] else [])) }
+    ensures { OnOk result (kept.new ≡ kept.old
+        ++ (if slice_index_or carried.now place false then slice_index_or ids.now place [] ∷ [] else [])) }
 {
     if !is_carried_at(carried, place) {
         return Ok(());
