@@ -9,8 +9,9 @@ use Rattle.std.proofs.Math.Numerals.{add-one}
 use Rattle.std.proofs.lemmas.List.{append-nil, length-map, take_more}
 use Rattle.std.proofs.lemmas.List.Elements.{filter-append}
 use Rattle.indexmap.proofs.SetLemmas.{AllZip-push}
+use Rattle.stop_schedule.proofs.CarryingLemmas.{carried-ids}
 use Rattle.stop_schedule.specs.TripStops.{stops_kept}
-use Rattle.stop_schedule.specs.Carrying.{Candidate, Lists, candidate, carried_to, IsOf, Carries}
+use Rattle.stop_schedule.specs.Carrying.{Candidate, Lists, candidate, carried_to, IsOf, Carries, ids_to}
 use Rattle.stop_schedule.specs.Folder.{HoldsRest}
 use Rattle.stop_schedule.specs.Held.{route_held, runs_held, stops_held}
 use Rattle.stop_schedule.specs.Answers.{is_free}
@@ -199,9 +200,9 @@ untimed_of sheets folder all held carries =
     carries.untimed_is
     ∙ ap least (untimed_same (ids_in sheets Routes) held.runs.0 (stops_by sheets) (carried_to (listed folder) (length folder.trips.ids)) (trips_in sheets) (rows_are sheets folder held))
 
-abbrev shown : FolderRows → Assembled → Table
-shown folder all = record {
-  trips = all.trips;
+abbrev shown : FolderRows → List (List ℕ) → Assembled → Table
+shown folder trips all = record {
+  trips = trips;
   stops = folder.stops;
   routes = folder.routes;
   route_of = λ trip. route_held folder.routes (slice_get all.carried.items trip);
@@ -209,10 +210,11 @@ shown folder all = record {
   runs = λ trip day. runs_held folder.services.calendars folder.services.exceptions (slice_get all.carried.items trip) day;
 }
 
-pub shown_of : (sheets : Sheets) (folder : FolderRows) (all : Assembled) → Held folder sheets → Carries all (carried_to (listed folder) (length folder.trips.ids))
-    → shown folder all ≡ table_of sheets
-shown_of sheets folder all held carries = λ i. record {
-  trips = (carries.ids ∙ ids_same routes services (stops_by sheets) ones (trips_in sheets) zip) i;
+pub shown_of : (sheets : Sheets) (folder : FolderRows) (trips : List (List ℕ)) (all : Assembled) → Held folder sheets
+    → trips ≡ ids_to folder.trips.ids folder.carried.items (length folder.trips.ids) → Carries all (carried_to (listed folder) (length folder.trips.ids))
+    → shown folder trips all ≡ table_of sheets
+shown_of sheets folder trips all held trips_are carries = λ i. record {
+  trips = (trips_are ∙ sym (carried-ids (listed folder) (length folder.trips.ids)) ∙ ids_same routes services (stops_by sheets) ones (trips_in sheets) zip) i;
   stops = held.stops_are i;
   routes = held.routes_are i;
   route_of = λ k. (ap (λ (named : List (List ℕ)). route_held named (slice_get all.carried.items k)) held.routes_are

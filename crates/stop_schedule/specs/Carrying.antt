@@ -36,6 +36,12 @@ carried_to lists zero = []
 carried_to lists (suc place) =
     carried_to lists place ++ (if slice_index_or lists.carried place false then candidate lists place ∷ [] else [])
 
+-- the ids of the first places that are carried
+abbrev pub ids_to : List (List ℕ) → List Bool → ℕ → List (List ℕ)
+ids_to ids carried zero = []
+ids_to ids carried (suc place) =
+    ids_to ids carried place ++ (if slice_index_or carried place false then slice_index_or ids place [] ∷ [] else [])
+
 -- a trip's numbers, and the place of its stops among all
 pub record IsOf (rows : List StopRow) (trip : CarriedTrip) (made_of : Candidate) : Type 0 where
   pub route_is : trip.route ≡ made_of.route
@@ -43,15 +49,13 @@ pub record IsOf (rows : List StopRow) (trip : CarriedTrip) (made_of : Candidate)
   pub within : trip.end ≤ length rows
   pub stops_are : drop trip.first (take trip.end rows) ≡ filled made_of.stops
 
--- all is made of these trips
+-- all but the ids is made of these trips
 pub record Carries (all : Assembled) (candidates : List Candidate) : Type 0 where
-  pub ids : all.trips ≡ map (λ one. one.id) candidates
   pub trips : AllZip (IsOf all.stop_rows.items) all.carried.items candidates
   pub untimed_is : all.untimed ≡ least (map (λ one. untimed_end one.stops) candidates)
 
 -- one trip was added
 pub record Adds (old new : Assembled) (one : Candidate) : Type 0 where
-  pub trips : new.trips ≡ old.trips ++ one.id ∷ []
   pub rows : new.stop_rows.items ≡ old.stop_rows.items ++ filled one.stops
   pub carried :
       new.carried.items

@@ -1,7 +1,7 @@
 -- What is kept of the stops of a trip while rows are read.
 use Rattle.std.specs.Prelude.{◌≡◌, ◌+◌, ◌*◌, ◌++◌, ℕ, Bool, true, false, min, List, [], ◌∷◌, Some, if◌then◌else◌}
 use Rattle.std.specs.Bool.{MatchBool}
-use Rattle.stop_schedule.specs.Rising.{has_sequence}
+use Rattle.stop_schedule.specs.Rising.{all_less, has_sequence, is_rising}
 use Rattle.stop_schedule.specs.StopTimes.{placed}
 use Rattle.stop_schedule.specs.declared.stop_times.LoadedStop.{LoadedStop}
 use Rattle.stop_schedule.specs.declared.trip_stops.BriefStop.{BriefStop}
@@ -43,3 +43,7 @@ with_stop added stop stops = if added then stops ++ stop ∷ [] else stops
 abbrev pub Places : LoadedStop → List LoadedStop → List LoadedStop → Bool → Type 0
 Places stop old new added =
     MatchBool added ((has_sequence stop.sequence old ≡ false) × (new ≡ placed stop old)) (has_sequence stop.sequence old ≡ true)
+
+-- where the stops rise in sequence, this one is greater than theirs
+abbrev pub IsBehind : List LoadedStop → ℕ → Type 0
+IsBehind stops sequence = is_rising stops ≡ true → all_less sequence stops ≡ true

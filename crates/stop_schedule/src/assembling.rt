@@ -1,10 +1,10 @@
 //! The timetable of what was read of a folder. The functions meet `specs/Timetable.antt`.
-ghost use Rattle.std.specs.Prelude.{◌≡◌, false, [], length, map, slice_index_or, IfErr, IfOk, IfSome, OnOk};
+ghost use Rattle.std.specs.Prelude.{◌≡◌, ◌<◌, ◌++◌, ◌∷◌, if◌then◌else◌, ℕ, List, true, false, [], length, map, slice_index_or, IfErr, IfOk, IfSome, OnOk};
 ghost use Rattle.std.specs.List.{list_all};
 ghost use Rattle.gw_base.specs.Count.{Counts};
 ghost use Rattle.stop_schedule.specs.Answers.{HasFailed};
 ghost use Rattle.stop_schedule.specs.Held.{is_in_range as in_range_of, are_in_range as all_in_range_of};
-ghost use Rattle.stop_schedule.specs.Carrying.{Adds, Carries, carried_to};
+ghost use Rattle.stop_schedule.specs.Carrying.{Adds, Carries, carried_to, ids_to};
 ghost use Rattle.stop_schedule.specs.Folder.{HoldsRest};
 ghost use Rattle.stop_schedule.specs.Reading.{Assembles, IsAssembled, Reads};
 ghost use Rattle.stop_schedule.specs.Timetable.{Sheets, ids_in, timetable as timetable_of};
@@ -30,26 +30,21 @@ const MAX_TRIPS: usize = 200_000;
 // times.
 #[derive(Drop)]
 struct Assembled {
-    trips: Ids,
     carried: Vec<CarriedTrip>,
     stop_rows: Vec<StopRow>,
     untimed: Option<u32>,
 }
 
-// Adds a trip. Its id is one and is new, since each stands in `trips.txt` once.
+// Adds a trip, but for its id.
 fn add_trip(
-    alloc: Global,
     all: &mut Assembled,
-    id: &str,
     route: u32,
     service: u32,
     stops: &[LoadedStop],
 ) -> Result<(), AllocError>
-    ensures { OnOk result (Adds all.old all.new (record { id = id.now; route = route; service = service; stops = stops.now })) }
+    ensures { OnOk result ((id : List ℕ)
+        → Adds all.old all.new (record { id = id; route = route; service = service; stops = stops.now })) }
 {
-    if !all.trips.add(alloc, id.as_bytes())? {
-        return Err(AllocError);
-    }
     let first = all.stop_rows.as_slice().len();
     push_filled(stops, &mut all.stop_rows)?;
     let end = all.stop_rows.as_slice().len();
@@ -108,7 +103,6 @@ fn carried_trips(
     }) (length trips.now.ids))) }
 {
     let mut all = Assembled {
-        trips: Ids::new(alloc),
         carried: Vec::new(alloc),
         stop_rows: Vec::new(alloc),
         untimed: None,
@@ -119,17 +113,53 @@ fn carried_trips(
             let route = number_at(trips.routes.as_slice(), place);
             let service = number_at(trips.services.as_slice(), place);
             put_stops_at(by_trip, place, &mut stops)?;
-            add_trip(
-                alloc,
-                &mut all,
-                trips.ids.at(place as u32),
-                route,
-                service,
-                stops.as_slice(),
-            )?;
+            add_trip(&mut all, route, service, stops.as_slice())?;
         }
     }
     Ok(all)
+}
+
+// Whether all of so many trips are carried.
+fn are_all_carried(carried: &[bool], count: usize) -> bool
+    ensures { result ≡ true → (place : ℕ) → place < count → slice_index_or carried.now place false ≡ true }
+{
+    carried.len() >= count && carried.iter().all(|one| *one)
+}
+
+// Adds the id at a place where its trip is carried. It is an id and is new, since each stands in `trips.txt` once.
+fn keep_at(
+    alloc: Global,
+    kept: &mut Ids,
+    ids: &Ids,
+    carried: &[bool],
+    place: usize,
+) -> Result<(), AllocError>
+    requires { place < length ids.now }
+    ensures { OnOk result (kept.new ≡ kept.old
+        ++ (if slice_index_or carried.now place false then slice_index_or ids.now place [] ∷ [] else [])) }
+{
+    if !is_carried_at(carried, place) {
+        return Ok(());
+    }
+    let _ = ids.len();
+    if !kept.add(alloc, ids.at(place as u32).as_bytes())? {
+        return Err(AllocError);
+    }
+    Ok(())
+}
+
+// The ids of the trips that are carried: where all are, all the ids as they stand.
+fn carried_ids(alloc: Global, ids: Ids, carried: &[bool]) -> Result<Ids, AllocError>
+    ensures { IfOk result (λ kept. kept ≡ ids_to ids carried.now (length ids)) }
+{
+    if are_all_carried(carried, ids.len()) {
+        return Ok(ids);
+    }
+    let mut kept = Ids::new(alloc);
+    for place in 0..ids.len() {
+        keep_at(alloc, &mut kept, &ids, carried, place)?;
+    }
+    Ok(kept)
 }
 
 // Whether a trip's numbers and places are in range, and its stops are those of a trip.
@@ -154,11 +184,11 @@ fn each_in_range(trips: &[CarriedTrip], routes: usize, stops: usize, rows: &[Sto
 }
 
 // Whether each trip's numbers, places and stops are in range, and there are not too many.
-fn are_in_range(all: &Assembled, routes: &Ids, stops: &Ids) -> bool
-    ensures { result ≡ all_in_range_of all.now.trips routes.now stops.now all.now.carried.items all.now.stop_rows.items }
+fn are_in_range(all: &Assembled, trips: &Ids, routes: &Ids, stops: &Ids) -> bool
+    ensures { result ≡ all_in_range_of trips.now routes.now stops.now all.now.carried.items all.now.stop_rows.items }
 {
-    all.carried.as_slice().len() == all.trips.len()
-        && all.trips.len() <= MAX_TRIPS
+    all.carried.as_slice().len() == trips.len()
+        && trips.len() <= MAX_TRIPS
         && each_in_range(
             all.carried.as_slice(),
             routes.len(),
@@ -185,11 +215,16 @@ fn assemble(alloc: Global, folder: FolderRows) -> Result<Timetable, TableFault>
     if let Some(row) = all.untimed {
         return Err(TableFault::UntimedEnd(row as u64));
     }
-    if !are_in_range(&all, &routes, &stops) {
+    let Trips {
+        ids,
+        routes: _,
+        services: _,
+    } = trips;
+    let trips = carried_ids(alloc, ids, carried.as_slice())?;
+    if !are_in_range(&all, &trips, &routes, &stops) {
         return Err(TableFault::Memory);
     }
     let Assembled {
-        trips,
         carried,
         stop_rows,
         untimed: _,

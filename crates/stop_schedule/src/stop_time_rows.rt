@@ -92,7 +92,8 @@ fn times(sheet: &Sheet<'_>) -> Option<(u32, u32)>
 
 // Whether the trip at a place has as many stops as it may have.
 fn is_full(by_trip: &[TripStops], trip: u32) -> bool
-    ensures { (held : List Loaded) → slice_get (map stops_kept by_trip.now) trip ≡ Some held → result ≡ nat_le 250 (length held) }
+    ensures { (held : List Loaded) → slice_get (map stops_kept by_trip.now) trip ≡ Some held
+        → result ≡ nat_le 250 (length held) }
 {
     match by_trip.get(trip as usize) {
         Some(held) => held.len() >= MAX_STOPS,
@@ -108,9 +109,11 @@ fn put(
     loaded: LoadedStop,
     number: u64,
 ) -> Result<(), TableFault>
-    ensures puts { (trips stops : List (List ℕ)) (before : List Row) (row : Row) → IsKnown trips stops number row trip loaded → number ≡ length before + 1
+    ensures puts { (trips stops : List (List ℕ)) (before : List Row) (row : Row)
+        → IsKnown trips stops number row trip loaded → number ≡ length before + 1
         → HoldsStops trips stops (map stops_kept by_trip.old.items) before
-        → Finds (stop_time_fault trips stops before row) (λ _. HoldsStops trips stops (map stops_kept by_trip.new.items) (before ++ row ∷ [])) result }
+        → Finds (stop_time_fault trips stops before row)
+        (λ _. HoldsStops trips stops (map stops_kept by_trip.new.items) (before ++ row ∷ [])) result }
     ensures no_failure { HasFailed result → ⊥ }
 {
     let Some(held) = by_trip.get_mut(trip as usize) else {

@@ -1,9 +1,7 @@
 //! The stops of a trip while rows are read: in few bytes each where the rows follow each other in sequence, as they mostly
 //! do. The functions meet `specs/TripStops.antt`.
-ghost use Rattle.std.specs.Prelude.{◌≡◌, ◌++◌, ◌∷◌, ℕ, [], true, false, length, IfOk, IfSome, OnOk};
-ghost use Rattle.std.specs.Bool.{MatchBool};
-ghost use Rattle.stop_schedule.specs.Rising.{all_less, has_sequence, is_rising};
-ghost use Rattle.stop_schedule.specs.StopTimes.{placed};
+ghost use Rattle.std.specs.Prelude.{◌≡◌, ◌++◌, ℕ, [], true, length, IfOk, IfSome, OnOk};
+ghost use Rattle.stop_schedule.specs.Rising.{is_rising};
 ghost use Rattle.stop_schedule.specs.TripStops as spec;
 
 use crate::numbers::StopNo;
@@ -107,7 +105,7 @@ fn expanded(row: u64, minute: u16, stop: &BriefStop) -> LoadedStop
 
 // Whether a sequence is greater than the last stop's.
 fn is_behind(stops: &[BriefStop], sequence: u32) -> bool
-    ensures { result ≡ true → (row minute : ℕ) → is_rising (spec.all_expanded row minute stops.now) ≡ true → all_less sequence (spec.all_expanded row minute stops.now) ≡ true }
+    ensures { result ≡ true → (row minute : ℕ) → spec.IsBehind (spec.all_expanded row minute stops.now) sequence }
 {
     match stops {
         [.., last] => (last.sequence as u32) < sequence,
@@ -136,7 +134,7 @@ fn begin(held: &mut BriefStops, stop: &LoadedStop)
 // Adds a stop behind the others where it is in sequence and can be kept in few bytes, and says whether it was added.
 fn append(held: &mut BriefStops, stop: &LoadedStop) -> Result<bool, AllocError>
     ensures added { IfOk result (λ added. spec.brief_stops held.new ≡ spec.with_stop added stop.now (spec.brief_stops held.old)) }
-    ensures less { IfOk result (λ added. added ≡ true → is_rising (spec.brief_stops held.old) ≡ true → all_less stop.now.sequence (spec.brief_stops held.old) ≡ true) }
+    ensures less { IfOk result (λ added. added ≡ true → spec.IsBehind (spec.brief_stops held.old) stop.now.sequence) }
 {
     if !is_behind(held.stops.as_slice(), stop.sequence) {
         return Ok(false);
@@ -176,7 +174,8 @@ fn insert(stops: &mut Vec<LoadedStop>, stop: &LoadedStop) -> Result<bool, AllocE
 
 // The same of any trip, whose stops then stand as their rows have them.
 fn insert_wide(alloc: Global, held: &mut TripStops, stop: &LoadedStop) -> Result<bool, AllocError>
-    ensures { is_rising (spec.stops_kept held.old) ≡ true → IfOk result (spec.Places stop.now (spec.stops_kept held.old) (spec.stops_kept held.new)) }
+    ensures { is_rising (spec.stops_kept held.old) ≡ true
+        → IfOk result (spec.Places stop.now (spec.stops_kept held.old) (spec.stops_kept held.new)) }
 {
     match held {
         TripStops::Wide(stops) => insert(stops, stop),
@@ -193,7 +192,7 @@ fn insert_wide(alloc: Global, held: &mut TripStops, stop: &LoadedStop) -> Result
 // Adds a stop behind those in few bytes, where that can be, and says whether it was added.
 fn append_brief(held: &mut TripStops, stop: &LoadedStop) -> Result<bool, AllocError>
     ensures added { IfOk result (λ added. spec.stops_kept held.new ≡ spec.with_stop added stop.now (spec.stops_kept held.old)) }
-    ensures less { IfOk result (λ added. added ≡ true → is_rising (spec.stops_kept held.old) ≡ true → all_less stop.now.sequence (spec.stops_kept held.old) ≡ true) }
+    ensures less { IfOk result (λ added. added ≡ true → spec.IsBehind (spec.stops_kept held.old) stop.now.sequence) }
 {
     match held {
         TripStops::Brief(brief) => append(brief, stop),
@@ -225,7 +224,8 @@ impl TripStops {
 
     /// Adds a stop at its place by sequence, and says whether none had its sequence.
     pub(crate) fn add(&mut self, alloc: Global, stop: &LoadedStop) -> Result<bool, AllocError>
-        ensures { is_rising (spec.stops_kept self.old) ≡ true → IfOk result (spec.Places stop.now (spec.stops_kept self.old) (spec.stops_kept self.new)) }
+        ensures { is_rising (spec.stops_kept self.old) ≡ true
+            → IfOk result (spec.Places stop.now (spec.stops_kept self.old) (spec.stops_kept self.new)) }
     {
         if append_brief(self, stop)? {
             return Ok(true);
