@@ -124,6 +124,35 @@ impl Ids {
     }
 }
 
+impl Ids {
+    // Whether the number is that of an id.
+    fn is_at(&self, id: &[u8], number: u32) -> bool
+        ensures { result ≡ true → slice_get self.now number ≡ Some id.now }
+    {
+        (number as usize) < self.len() && self.at(number).as_bytes() == id
+    }
+
+    /// The same, by a number that is tried first.
+    pub(crate) fn number_from(
+        &mut self,
+        alloc: Global,
+        id: &str,
+        number: u32,
+    ) -> Result<u32, AllocError>
+        requires { is_id id.now ≡ true }
+        ensures ids { IfOk result (λ _. self.new ≡ with_id id.now self.old) }
+        ensures number { IfOk result (λ number. slice_get self.new number ≡ Some id.now) }
+        ensures sound { OnOk result (IsTrue (are_ids self.new)) }
+        ensures kept { OnErr result (self.new ≡ self.old) }
+    {
+        let _ = self.len();
+        if self.is_at(id.as_bytes(), number) {
+            return Ok(number);
+        }
+        self.number_of(alloc, id)
+    }
+}
+
 /// The number of the id in a column of the row at hand.
 pub(crate) fn find_in(ids: &Ids, sheet: &Sheet<'_>, column: usize) -> Option<u32>
     ensures place { is_utf8 (nth column sheet.now.row) ≡ true → result ≡ position (bytes_eq (nth column sheet.now.row)) ids.now }
@@ -139,13 +168,6 @@ pub(crate) fn find_in(ids: &Ids, sheet: &Sheet<'_>, column: usize) -> Option<u32
     }
 }
 
-// Whether the number is that of the id in a column of the row at hand.
-fn is_at(ids: &Ids, sheet: &Sheet<'_>, column: usize, number: u32) -> bool
-    ensures { result ≡ true → slice_get ids.now number ≡ Some (nth column sheet.now.row) }
-{
-    (number as usize) < ids.len() && ids.at(number).as_bytes() == sheet.field(column)
-}
-
 /// The same, by a number that is tried first.
 pub(crate) fn find_from(ids: &Ids, sheet: &Sheet<'_>, column: usize, number: u32) -> Option<u32>
     ensures place { is_utf8 (nth column sheet.now.row) ≡ true → result ≡ position (bytes_eq (nth column sheet.now.row)) ids.now }
@@ -155,7 +177,7 @@ pub(crate) fn find_from(ids: &Ids, sheet: &Sheet<'_>, column: usize, number: u32
     ensures ids { IsTrue (are_ids ids.now) }
 {
     let _ = ids.len();
-    if is_at(ids, sheet, column, number) {
+    if ids.is_at(sheet.field(column), number) {
         return Some(number);
     }
     find_in(ids, sheet, column)

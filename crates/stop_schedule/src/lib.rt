@@ -11,6 +11,7 @@ mod folder;
 mod folder_rows;
 mod forms;
 mod frequency_rows;
+mod guesses;
 mod id_rows;
 mod ids;
 mod layout;

@@ -15,6 +15,7 @@ ghost use Rattle.stop_schedule.specs.Trips.{is_carried};
 ghost use Rattle.stop_schedule.specs.declared.table_file.TableFile.TheVariants as File;
 
 use crate::frequency_rows::FrequencyRows;
+use crate::guesses::Guesses;
 use crate::id_rows::IdRows;
 use crate::ids::Ids;
 use crate::service_rows::{Calendar, CalendarRows, DateRows};
@@ -116,12 +117,15 @@ pub(crate) fn read_trips<F: Files>(
     ensures counts { Counts (HasFailed result) (F.faults files.old) (F.faults files.new) }
     ensures same { F.told files.new ≡ F.told files.old }
 {
+    let next_route = Guesses::among(alloc, routes)?;
     let mut rows = TripRows {
         known_routes: routes,
         services: Ids::new(alloc),
         trips: Ids::new(alloc),
         trip_routes: Vec::new(alloc),
         trip_services: Vec::new(alloc),
+        next_route,
+        last_service: 0,
     };
     if let Err(fault) = read_needed(alloc, files, dir, buffer, &mut rows) {
         return Err(fault);
@@ -132,6 +136,8 @@ pub(crate) fn read_trips<F: Files>(
         trips,
         trip_routes,
         trip_services,
+        next_route: _,
+        last_service: _,
     } = rows;
     let trips = Trips {
         ids: trips,
@@ -244,15 +250,6 @@ fn no_stops(alloc: Global, trips: &Ids, stops: &Ids) -> Result<Vec<TripStops>, A
     Ok(by_trip)
 }
 
-// Of each stop the first one came after it.
-fn no_followers(alloc: Global, stops: &Ids) -> Result<Vec<u32>, AllocError> {
-    let mut followers = Vec::new(alloc);
-    for _ in 0..stops.len() {
-        followers.push(0)?;
-    }
-    Ok(followers)
-}
-
 /// Reads `frequencies.txt`, and answers of each trip whether it is carried.
 pub(crate) fn read_frequencies<F: Files>(
     alloc: Global,
@@ -290,14 +287,13 @@ pub(crate) fn read_stop_times<F: Files>(
     ensures same { F.told files.new ≡ F.told files.old }
 {
     let by_trip = no_stops(alloc, trips, stops)?;
-    let followers = no_followers(alloc, stops)?;
+    let next_stop = Guesses::among(alloc, stops)?;
     let mut rows = StopTimeRows {
         trips,
         stops,
         by_trip,
         last: 0,
-        stop: 0,
-        followers,
+        next_stop,
     };
     if let Err(fault) = read_needed(alloc, files, dir, buffer, &mut rows) {
         return Err(fault);
@@ -307,8 +303,7 @@ pub(crate) fn read_stop_times<F: Files>(
         stops: _,
         by_trip,
         last: _,
-        stop: _,
-        followers: _,
+        next_stop: _,
     } = rows;
     Ok(by_trip)
 }

@@ -12,6 +12,7 @@ ghost use Rattle.stop_schedule.specs.declared.stop_times.LoadedStop.{LoadedStop 
 
 use crate::column::Column;
 use crate::forms::{seconds, sequence};
+use crate::guesses::Guesses;
 use crate::ids::{Ids, find_from, find_in};
 use crate::layout::row_limit;
 use crate::numbers::StopNo;
@@ -23,16 +24,15 @@ use crate::taking::TakesRows;
 use crate::trip_stops::TripStops;
 use std::alloc::Global;
 
-/// The stops of each trip of `trips.txt`, in rising sequence. Besides, what the next row is looked for at first: the number
-/// of the trip that began last, the stop of the row before, and the stop that came after each stop the last time.
+/// The stops of each trip of `trips.txt`, in rising sequence. Besides, where the next row's ids are looked for at first: at
+/// the trip that began last, and at a guess of its stop.
 #[derive(Drop)]
 pub(crate) struct StopTimeRows<'a> {
     pub(crate) trips: &'a Ids,
     pub(crate) stops: &'a Ids,
     pub(crate) by_trip: Vec<TripStops>,
     pub(crate) last: u32,
-    pub(crate) stop: u32,
-    pub(crate) followers: Vec<u32>,
+    pub(crate) next_stop: Guesses,
 }
 
 // Whether a trip has no stops so far.
@@ -203,18 +203,6 @@ fn known_row(
     }
 }
 
-// The stop that came after that one the last time.
-fn follower(followers: &[u32], stop: u32) -> u32 {
-    followers.get(stop as usize).copied().unwrap_or(0)
-}
-
-// Notes that a stop came after that one.
-fn note_follower(followers: &mut Vec<u32>, stop: u32, next: u32) {
-    if let Some(follower) = followers.get_mut(stop as usize) {
-        *follower = next;
-    }
-}
-
 impl<'a> TakesRows for StopTimeRows<'a> {
     ghost use Rattle.std.specs.Prelude.{map};
     ghost use Rattle.stop_schedule.specs.Causes.{stop_time_fault};
@@ -261,13 +249,12 @@ impl<'a> TakesRows for StopTimeRows<'a> {
         sheet: &Sheet<'_>,
         number: u64,
     ) -> Result<bool, TableFault> {
-        let next = follower(self.followers.as_slice(), self.stop);
-        let Some((trip, loaded)) = known_row(self.trips, self.stops, sheet, number, self.last, next)
+        let stop = self.next_stop.next();
+        let Some((trip, loaded)) = known_row(self.trips, self.stops, sheet, number, self.last, stop)
         else {
             return Ok(false);
         };
-        note_follower(&mut self.followers, self.stop, loaded.stop.0);
-        self.stop = loaded.stop.0;
+        self.next_stop.note(loaded.stop.0);
         self.last = begin_trip(&mut self.by_trip, self.last, trip);
         match put(alloc, &mut self.by_trip, trip, loaded, number) {
             Ok(()) => Ok(true),

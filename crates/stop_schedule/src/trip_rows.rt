@@ -2,14 +2,16 @@
 ghost use Rattle.std.specs.Prelude.{◌≡◌};
 
 use crate::column::Column;
-use crate::ids::{Ids, find_in};
+use crate::guesses::Guesses;
+use crate::ids::{Ids, find_from};
 use crate::sheet::Sheet;
 use crate::table_fault::TableFault;
 use crate::table_file::TableFile;
 use crate::taking::TakesRows;
 use std::alloc::Global;
 
-/// The trips of the rows, each with the number of its route and of its service.
+/// The trips of the rows, each with the number of its route and of its service. Besides, where the next row's ids are looked
+/// for at first: at a guess of its route, and at the last service.
 #[derive(Drop)]
 pub(crate) struct TripRows<'a> {
     pub(crate) known_routes: &'a Ids,
@@ -17,6 +19,8 @@ pub(crate) struct TripRows<'a> {
     pub(crate) trips: Ids,
     pub(crate) trip_routes: Vec<u32>,
     pub(crate) trip_services: Vec<u32>,
+    pub(crate) next_route: Guesses,
+    pub(crate) last_service: u32,
 }
 
 impl<'a> TakesRows for TripRows<'a> {
@@ -36,7 +40,7 @@ impl<'a> TakesRows for TripRows<'a> {
     }
 
     fn take(&mut self, alloc: Global, sheet: &Sheet<'_>, number: u64) -> Result<(), TableFault> {
-        let Some(route) = find_in(self.known_routes, sheet, 1) else {
+        let Some(route) = find_from(self.known_routes, sheet, 1, self.next_route.next()) else {
             return Err(TableFault::Unknown(TableFile::Trips, number, Column::RouteId));
         };
         let added = self.trips.add(alloc, sheet.field(0))?;
@@ -46,9 +50,13 @@ impl<'a> TakesRows for TripRows<'a> {
         let Some(service) = sheet.text(2) else {
             return Err(TableFault::NotUtf8(TableFile::Trips, number));
         };
-        let service = self.services.number_of(alloc, service)?;
+        let service = self
+            .services
+            .number_from(alloc, service, self.last_service)?;
         self.trip_routes.push(route)?;
         self.trip_services.push(service)?;
+        self.next_route.note(route);
+        self.last_service = service;
         Ok(())
     }
 }

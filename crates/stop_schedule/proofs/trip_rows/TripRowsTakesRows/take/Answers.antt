@@ -24,7 +24,7 @@ returns-clause-takes c = λ start before kept counted.
       no-trip-fault routes trips before row (sym (c.in-Some.ensures.found on_route)) holds.ids new,
       (
         kept.0,
-        trip-held routes services trips c.number_of.new.self c.add.new.self c.args.self.now.trip_routes.items c.args.self.now.trip_services.items c.push.new.self.items c.push-2.new.self.items
+        trip-held routes services trips c.number_from.new.self c.add.new.self c.args.self.now.trip_routes.items c.args.self.now.trip_services.items c.push.new.self.items c.push-2.new.self.items
             c.in-Some.route c.in_ok-service.service before row holds route_at grown on_service all c.in_ok-push.ensures.items c.in_ok-push-2.ensures.items,
       ),
     )
