@@ -9,6 +9,7 @@ mod nested;
 
 use fields::bytes_size;
 use gw_base::{Buf, Bytes, Entity};
+use messages::MeasuredEntity;
 use nested::{WrittenMessage, put_sized};
 use std::alloc::{AllocError, Global};
 
@@ -18,12 +19,13 @@ pub fn entity_bytes(alloc: Global, entity: &Entity) -> Result<Bytes, AllocError>
     ensures written { IfOk result (λ bytes. bytes ≡ written entity.now) }
     ensures means { IfOk result (λ bytes. MeansEntity bytes entity.now) }
 {
-    let fields = entity.size();
+    let measured = MeasuredEntity::of(entity);
+    let fields = measured.size();
     let size = bytes_size(2, fields);
     if size == u64::MAX {
         return Err(AllocError);
     }
     let mut buf = Buf::with_room(alloc, size as usize)?;
-    put_sized(&mut buf, 2, fields, entity);
+    put_sized(&mut buf, 2, fields, &measured);
     Ok(buf.into_bytes())
 }

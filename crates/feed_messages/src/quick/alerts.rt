@@ -86,10 +86,16 @@ impl<'a> Parts<'a> for SelectorParts<'a> {
 
     #[inline(always)]
     fn take(&mut self, alloc: Global, field: &Field<'a>) -> Result<(), PlainFault> {
+        if field.number == 4 {
+            add_body(alloc, 4, field, &mut self.trip)?;
+            return Ok(());
+        }
+        if field.number == 5 {
+            self.stop_id = text_after(5, field, self.stop_id)?;
+            return Ok(());
+        }
         self.agency_id = text_after(1, field, self.agency_id)?;
         self.route_id = text_after(2, field, self.route_id)?;
-        add_body(alloc, 4, field, &mut self.trip)?;
-        self.stop_id = text_after(5, field, self.stop_id)?;
         Ok(())
     }
 

@@ -1,6 +1,7 @@
 //! The messages of GTFS Realtime, each by `specs/Written.antt`: fields in rising number.
+ghost use Rattle.std.specs.Prelude.{◌≡◌, ◌-◌, ◌^◌, length, min};
 ghost use Rattle.std.specs.List.{AllByRecursion};
-ghost use Rattle.feed_messages.specs.Written.{trip_descriptor, stop_time_event, stop_time_update, trip_update, time_range, entity_selector, translation, translated_string, alert, feed_entity};
+ghost use Rattle.feed_messages.specs.Written.{if_there, trip_descriptor, stop_time_event, stop_time_update, trip_update, time_range, entity_selector, translation, translated_string, alert, alert as alert_of, feed_entity};
 ghost use Rattle.feed_messages.specs.Sound.{IsSoundTrip, IsSoundEvent, IsSoundStop, IsSoundUpdate, IsSoundPeriod, IsSoundSelector, IsSoundTranslation, IsSoundAlert, IsSoundEntity};
 
 use crate::writing::fields::{
@@ -9,8 +10,9 @@ use crate::writing::fields::{
     put_relation, put_text, relation_size, text_size, wide, wide_unsigned,
 };
 use crate::writing::nested::{
-    WrittenMessage, message_size, messages_size, optional_message_size, put_message, put_messages,
-    put_optional_message, put_translations, translations_size,
+    WrittenMessage, message_size, messages_size, optional_message_size, optional_sized_size,
+    put_message, put_messages, put_optional_message, put_optional_sized, put_translations,
+    size_if_there, translations_size,
 };
 use gw_base::{
     Alert, Buf, Entity, Event, List, Period, Selector, StopUpdate, Translation, TripDescriptor,
@@ -192,22 +194,50 @@ impl WrittenMessage for Alert {
     }
 }
 
-impl WrittenMessage for Entity {
-    ghost written = { feed_entity };
+/// An entity with the sizes of its messages, which are measured once.
+#[derive(Clone, Copy)]
+pub struct MeasuredEntity<'a> {
+    entity: &'a Entity,
+    update: u64,
+    alert: u64,
+    ghost update_is: { update ≡ min (length (if_there trip_update entity.now.trip_update)) (2 ^ 64 - 1) },
+    ghost alert_is: { alert ≡ min (length (if_there alert_of entity.now.alert)) (2 ^ 64 - 1) },
+}
 
-    ghost sound = { IsSoundEntity };
+impl<'a> MeasuredEntity<'a> {
+    /// The entity, measured.
+    pub fn of(entity: &'a Entity) -> MeasuredEntity<'a>
+        ensures { result.entity.now ≡ entity.now }
+    {
+        MeasuredEntity {
+            entity,
+            update: size_if_there(&entity.trip_update),
+            alert: size_if_there(&entity.alert),
+        }
+    }
+}
+
+impl<'a> WrittenMessage for MeasuredEntity<'a> {
+    ghost written = { λ m. feed_entity m.entity.now };
+
+    ghost sound = { λ m. IsSoundEntity m.entity.now };
 
     fn size(&self) -> u64 {
-        let id = text_size(1, &self.id);
-        let deleted = plus(id, deleted_size(self.deleted));
-        let update = plus(deleted, optional_message_size(3, &self.trip_update));
-        plus(update, optional_message_size(5, &self.alert))
+        let entity = self.entity;
+        let id = text_size(1, &entity.id);
+        let deleted = plus(id, deleted_size(entity.deleted));
+        let update = plus(
+            deleted,
+            optional_sized_size(3, self.update, &entity.trip_update),
+        );
+        plus(update, optional_sized_size(5, self.alert, &entity.alert))
     }
 
     fn put(&self, buf: &mut Buf) {
-        put_text(buf, 1, &self.id);
-        put_deleted(buf, self.deleted);
-        put_optional_message(buf, 3, &self.trip_update);
-        put_optional_message(buf, 5, &self.alert);
+        let entity = self.entity;
+        put_text(buf, 1, &entity.id);
+        put_deleted(buf, entity.deleted);
+        put_optional_sized(buf, 3, self.update, &entity.trip_update);
+        put_optional_sized(buf, 5, self.alert, &entity.alert);
     }
 }

@@ -41,6 +41,29 @@ pub fn message_size<M: WrittenMessage>(number: u32, message: &M) -> u64
     bytes_size(number, message.size())
 }
 
+// How long a message is, if there is one.
+#[inline(always)]
+pub fn size_if_there<M: WrittenMessage>(message: &Option<M>) -> u64
+    ensures { Counts result (if_there M.written message.now) }
+{
+    match message {
+        Some(message) => message.size(),
+        None => 0,
+    }
+}
+
+// How long a field of a message is whose size is known.
+#[inline(always)]
+pub fn optional_sized_size<M: WrittenMessage>(number: u32, size: u64, message: &Option<M>) -> u64
+    requires { Counts size (if_there M.written message.now) }
+    ensures { Counts result (if_there (λ m. bytes_field number (M.written m)) message.now) }
+{
+    match message {
+        Some(_) => bytes_size(number, size),
+        None => 0,
+    }
+}
+
 #[inline(always)]
 pub fn optional_message_size<M: WrittenMessage>(number: u32, message: &Option<M>) -> u64
     ensures { Counts result (if_there (λ m. bytes_field number (M.written m)) message.now) }
@@ -100,6 +123,26 @@ pub fn put_optional_message<M: WrittenMessage>(buf: &mut Buf, number: u32, messa
 {
     if let Some(message) = message {
         put_message(buf, number, message);
+    }
+}
+
+// The same of a message whose size is known.
+#[inline(always)]
+pub fn put_optional_sized<M: WrittenMessage>(
+    buf: &mut Buf,
+    number: u32,
+    size: u64,
+    message: &Option<M>,
+)
+    requires first { 1 ≤ number }
+    requires last { number ≤ 536870911 }
+    requires size { Counts size (if_there M.written message.now) }
+    requires room { length (if_there (λ m. bytes_field number (M.written m)) message.now) ≤ buf.old.spare }
+    ensures appends { Appends buf.old buf.new (if_there (λ m. bytes_field number (M.written m)) message.now) }
+    ensures sound { IfSome message.now M.sound }
+{
+    if let Some(message) = message {
+        put_sized(buf, number, size, message);
     }
 }
 
