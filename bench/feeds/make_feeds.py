@@ -27,16 +27,21 @@ def bytes_field(number, body):
 HEADER = bytes_field(1, bytes_field(1, b"2.0") + number_field(2, 0) + number_field(3, 1714543200))
 
 
-def journey(index, rand):
+def journey(index, rand, stops=30, ids=False):
     name = b"trip%d" % index
     trip = bytes_field(1, name) + bytes_field(3, b"20240501") + number_field(4, 0)
     update = bytes_field(1, trip)
-    for stop in range(1, 31):
+    for stop in range(1, stops + 1):
         delay = rand.randrange(-60, 600) % (1 << 64)
         event = number_field(1, delay) + number_field(2, 1714543200 + rand.randrange(9999))
-        update += bytes_field(2, number_field(1, stop) + bytes_field(2, event) + bytes_field(3, event))
+        stop_id = bytes_field(4, b"de:stop:%d" % rand.randrange(90000)) if ids else b""
+        update += bytes_field(2, number_field(1, stop) + bytes_field(2, event) + bytes_field(3, event) + stop_id)
     update += number_field(4, 1714543200)
     return bytes_field(2, bytes_field(1, b"20240501:" + name) + bytes_field(3, update))
+
+
+def sparse(index, rand):
+    return journey(index, rand, rand.randrange(1, 6), True)
 
 
 def alert(index, rand):
@@ -70,6 +75,7 @@ def main():
     journeys = filled(journey)
     feeds = {
         "journeys": journeys,
+        "sparse": filled(sparse),
         "alerts": filled(alert),
         "journeys_cut": journeys[:-1],
         "small_entities": HEADER + repeated(bytes_field(2, bytes_field(1, b""))),
