@@ -1,6 +1,7 @@
 -- What is known of each message after some of its fields, as the quick reader keeps it: of a number the last one, before
 -- it is read by its type.
-use Rattle.std.specs.Prelude.{List}
+use Rattle.std.specs.Prelude.{◌≡◌, List, [], ◌∷◌, ◌++◌}
+use Rattle.gw_base.specs.declared.messages.Entity.{Entity}
 use Rattle.wire_fields.specs.Grammar.{WireField}
 use Rattle.feed_messages.specs.declared.quick.alerts.AlertParts.{AlertParts}
 use Rattle.feed_messages.specs.declared.quick.feeds.EntityParts.{EntityParts}
@@ -15,7 +16,7 @@ use Rattle.feed_messages.specs.declared.quick.alerts.TranslationParts.{Translati
 use Rattle.feed_messages.specs.declared.quick.trips.TripParts.{TripParts}
 use Rattle.feed_messages.specs.declared.quick.trips.UpdateParts.{UpdateParts}
 use Rattle.feed_messages.specs.Meaning.{IsUint64, IsText, AreMessages}
-use Rattle.feed_messages.specs.Tables.{OfStopTimeUpdate, OfTimeRange, OfEntitySelector, OfTranslation}
+use Rattle.feed_messages.specs.Tables.{OfStopTimeUpdate, OfTimeRange, OfEntitySelector, OfTranslation, OfFeedEntity}
 use Rattle.feed_messages.specs.Partly.{seen, IsFound, AreShortEntities}
 
 pub record AfterEvent (fields : List WireField) (parts : EventParts) : Type 0 where
@@ -70,6 +71,11 @@ pub record AfterEntity (fields : List WireField) (parts : EntityParts) : Type 0 
   pub deleted : IsUint64 2 fields parts.deleted
   pub trip_update : IsFound 3 fields parts.trip_update
   pub alert : IsFound 5 fields parts.alert
+
+-- the entity of the parts behind others
+abbrev pub AddsEntity : EntityParts → List Entity → List Entity → Type 0
+AddsEntity parts old new =
+    (entity : Entity) × (new ≡ old ++ entity ∷ []) × ((fields : List WireField) → AfterEntity fields parts → OfFeedEntity fields entity)
 
 pub record AfterHeader (fields : List WireField) (parts : HeaderParts) : Type 0 where
   pub version : IsText 1 fields (seen parts.version)

@@ -8,6 +8,7 @@ mod feeds;
 mod fields;
 mod found;
 mod nested;
+mod room;
 mod trips;
 
 use crate::plain_fault::PlainFault;

@@ -3,6 +3,7 @@
 #![tactic(auto)]
 
 mod absent;
+mod boxed;
 mod buffer;
 mod clock;
 mod door;
@@ -22,6 +23,7 @@ mod uses;
 mod wire_kind;
 
 pub use absent::{NoClock, NoDoor};
+pub use boxed::Boxed;
 pub use buffer::Buf;
 pub use clock::Clock;
 pub use door::{Door, Entry, Mark};

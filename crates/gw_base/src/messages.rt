@@ -1,5 +1,6 @@
 //! The messages of GTFS Realtime 2.0 that are read and written, field by field. A field that is missing
 //! is None or has the default of `gtfs-realtime.proto`; numbers of enums are kept as they are.
+use crate::boxed::Boxed;
 use crate::list::List;
 use crate::text::Text;
 
@@ -25,8 +26,8 @@ pub struct Entity {
     pub deleted: bool,
     /// What is known of one trip.
     pub trip_update: Option<TripUpdate>,
-    /// An alert.
-    pub alert: Option<Alert>,
+    /// An alert. It stands apart, since most entities have none.
+    pub alert: Option<Boxed<Alert>>,
 }
 
 /// The progress of a trip (GTFS Realtime, TripUpdate).
@@ -110,8 +111,8 @@ pub struct Selector {
     pub agency_id: Option<Text>,
     /// The `route_id` of the schedule.
     pub route_id: Option<Text>,
-    /// The trip.
-    pub trip: Option<TripDescriptor>,
+    /// The trip. It stands apart, since most selectors name none.
+    pub trip: Option<Boxed<TripDescriptor>>,
     /// The `stop_id` of the schedule.
     pub stop_id: Option<Text>,
 }

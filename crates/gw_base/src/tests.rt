@@ -54,6 +54,8 @@ fn lists_and_texts_hold_what_they_are_given(rt: HostRuntime) -> Result<(), Fail>
     assert_eq!(rt; text.as_str(), "Zürich");
     let owned = Text::from_string(String::from_str(rt.alloc(), "T1")?);
     assert_eq!(rt; owned.as_str(), "T1");
+    let apart = Boxed::new(rt.alloc(), owned)?;
+    assert_eq!(rt; apart.get().as_str(), "T1");
     Ok(())
 }
 

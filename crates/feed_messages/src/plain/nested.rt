@@ -8,7 +8,7 @@ ghost use Rattle.feed_messages.specs.Plain.{Finds};
 
 use crate::plain::kinds::bodies;
 use crate::plain_fault::PlainFault;
-use gw_base::{Bytes, List};
+use gw_base::{Boxed, Bytes, List};
 use std::alloc::{AllocError, Global};
 use wire_fields::{Field, list_fields};
 
@@ -23,6 +23,14 @@ pub trait Message: Drop {
     // The message of these fields.
     fn of_fields(alloc: Global, fields: &[Field<'_>]) -> Result<Self, PlainFault>
         ensures { Finds (table (map field_of fields.now)) result };
+}
+
+impl<M: Message> Message for Boxed<M> {
+    ghost table = { M.table };
+
+    fn of_fields(alloc: Global, fields: &[Field<'_>]) -> Result<Boxed<M>, PlainFault> {
+        Ok(Boxed::new(alloc, M::of_fields(alloc, fields)?)?)
+    }
 }
 
 // The message that bytes mean.

@@ -10,8 +10,9 @@ use crate::plain_fault::PlainFault;
 use crate::quick::fields::{as_enum, number_after, required_text, text_after};
 use crate::quick::found::{Found, add_body};
 use crate::quick::nested::{Parts, QuickMessage, add_message, read_found, read_parts};
+use crate::quick::room::with_room;
 use gw_base::{Alert, List, Period, Selector, Translation};
-use std::alloc::Global;
+use std::alloc::{AllocError, Global};
 use wire_fields::Field;
 
 #[derive(Drop)]
@@ -28,11 +29,11 @@ impl<'a> Parts<'a> for PeriodParts {
     ghost table = { OfTimeRange };
 
     #[inline(always)]
-    fn start(_alloc: Global) -> PeriodParts {
-        PeriodParts {
+    fn start(_alloc: Global, _bytes: &[u8]) -> Result<PeriodParts, AllocError> {
+        Ok(PeriodParts {
             start: None,
             end: None,
-        }
+        })
     }
 
     #[inline(always)]
@@ -75,13 +76,13 @@ impl<'a> Parts<'a> for SelectorParts<'a> {
     ghost table = { OfEntitySelector };
 
     #[inline(always)]
-    fn start(_alloc: Global) -> SelectorParts<'a> {
-        SelectorParts {
+    fn start(_alloc: Global, _bytes: &[u8]) -> Result<SelectorParts<'a>, AllocError> {
+        Ok(SelectorParts {
             agency_id: None,
             route_id: None,
             trip: Found::Nothing,
             stop_id: None,
-        }
+        })
     }
 
     #[inline(always)]
@@ -132,11 +133,11 @@ impl<'a> Parts<'a> for TranslationParts<'a> {
     ghost table = { OfTranslation };
 
     #[inline(always)]
-    fn start(_alloc: Global) -> TranslationParts<'a> {
-        TranslationParts {
+    fn start(_alloc: Global, _bytes: &[u8]) -> Result<TranslationParts<'a>, AllocError> {
+        Ok(TranslationParts {
             text: None,
             language: None,
-        }
+        })
     }
 
     #[inline(always)]
@@ -176,10 +177,10 @@ impl<'a> Parts<'a> for StringParts {
     ghost table = { OfTranslatedString };
 
     #[inline(always)]
-    fn start(alloc: Global) -> StringParts {
-        StringParts {
-            translations: List::new(alloc),
-        }
+    fn start(alloc: Global, bytes: &[u8]) -> Result<StringParts, AllocError> {
+        Ok(StringParts {
+            translations: with_room(alloc, bytes, 1)?,
+        })
     }
 
     #[inline(always)]
@@ -230,15 +231,15 @@ impl<'a> Parts<'a> for AlertParts<'a> {
     ghost table = { OfAlert };
 
     #[inline(always)]
-    fn start(alloc: Global) -> AlertParts<'a> {
-        AlertParts {
-            periods: List::new(alloc),
-            selectors: List::new(alloc),
+    fn start(alloc: Global, bytes: &[u8]) -> Result<AlertParts<'a>, AllocError> {
+        Ok(AlertParts {
+            periods: with_room(alloc, bytes, 1)?,
+            selectors: with_room(alloc, bytes, 5)?,
             cause: None,
             effect: None,
             header: Found::Nothing,
             description: Found::Nothing,
-        }
+        })
     }
 
     #[inline(always)]

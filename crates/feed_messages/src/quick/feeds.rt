@@ -1,9 +1,9 @@
 //! A feed with its header and entities, each by its table of `specs/Tables.antt`.
 ghost use Rattle.std.specs.Prelude.{OnOk};
 ghost use Rattle.wire_fields.specs.Seen.{field_of};
-ghost use Rattle.feed_messages.specs.Tables.{OfFeedEntity, OfFeedHeader};
+ghost use Rattle.feed_messages.specs.Tables.{OfFeedHeader};
 ghost use Rattle.feed_messages.specs.Partly.{Goes, OfShortFeed, AreShortEntities};
-ghost use Rattle.feed_messages.specs.Parts.{AfterEntity, AfterHeader, AfterFeed};
+ghost use Rattle.feed_messages.specs.Parts.{AfterEntity, AddsEntity, AfterHeader, AfterFeed};
 
 use crate::finder::lengths::LIMIT;
 use crate::plain::kinds::body_in;
@@ -13,7 +13,7 @@ use crate::quick::fields::{as_bool, as_enum, number_after, required_text, text_a
 use crate::quick::found::{Found, add_body};
 use crate::quick::nested::{Parts, QuickMessage, read_found, read_parts, read_required};
 use gw_base::{Entity, Feed, List};
-use std::alloc::Global;
+use std::alloc::{AllocError, Global};
 use wire_fields::Field;
 
 #[derive(Drop)]
@@ -25,20 +25,20 @@ pub struct EntityParts<'a> {
 }
 
 impl<'a> Parts<'a> for EntityParts<'a> {
-    type Whole = Entity;
+    type Whole = EntityParts<'a>;
 
     ghost after = { AfterEntity };
 
-    ghost table = { OfFeedEntity };
+    ghost table = { AfterEntity };
 
     #[inline(always)]
-    fn start(_alloc: Global) -> EntityParts<'a> {
-        EntityParts {
+    fn start(_alloc: Global, _bytes: &[u8]) -> Result<EntityParts<'a>, AllocError> {
+        Ok(EntityParts {
             id: None,
             deleted: None,
             trip_update: Found::Nothing,
             alert: Found::Nothing,
-        }
+        })
     }
 
     #[inline(always)]
@@ -51,21 +51,24 @@ impl<'a> Parts<'a> for EntityParts<'a> {
     }
 
     #[inline(always)]
-    fn finish(self, alloc: Global) -> Result<Entity, PlainFault> {
-        Ok(Entity {
+    fn finish(self, _alloc: Global) -> Result<EntityParts<'a>, PlainFault> {
+        Ok(self)
+    }
+}
+
+impl<'a> EntityParts<'a> {
+    // Adds the entity of the fields. It is made where it stands: moving it takes longer than reading a small one.
+    #[inline(always)]
+    fn add_to(self, alloc: Global, entities: &mut List<Entity>) -> Result<(), PlainFault>
+        ensures { OnOk result (AddsEntity self.entry entities.old entities.new) }
+    {
+        entities.push(Entity {
             id: required_text(alloc, self.id)?,
             deleted: as_bool(self.deleted),
             trip_update: read_found(alloc, &self.trip_update)?,
             alert: read_found(alloc, &self.alert)?,
-        })
-    }
-}
-
-impl QuickMessage for Entity {
-    ghost table = { OfFeedEntity };
-
-    fn read(alloc: Global, bytes: &[u8]) -> Result<Entity, PlainFault> {
-        read_parts::<EntityParts<'_>>(alloc, bytes)
+        })?;
+        Ok(())
     }
 }
 
@@ -84,12 +87,12 @@ impl<'a> Parts<'a> for HeaderParts<'a> {
     ghost table = { λ fields m. OfFeedHeader fields (record { version = m.version; incrementality = m.incrementality; timestamp = m.timestamp }) };
 
     #[inline(always)]
-    fn start(_alloc: Global) -> HeaderParts<'a> {
-        HeaderParts {
+    fn start(_alloc: Global, _bytes: &[u8]) -> Result<HeaderParts<'a>, AllocError> {
+        Ok(HeaderParts {
             version: None,
             incrementality: None,
             timestamp: None,
-        }
+        })
     }
 
     #[inline(always)]
@@ -131,8 +134,8 @@ fn add_entity(
             if body.len() as u64 > LIMIT {
                 return Err(PlainFault::Meaningless);
             }
-            let entity = Entity::read(alloc, body)?;
-            entities.push(entity)?;
+            let parts = read_parts::<EntityParts<'_>>(alloc, body)?;
+            parts.add_to(alloc, entities)?;
             Ok(())
         }
         None => Ok(()),
@@ -153,11 +156,11 @@ impl<'a> Parts<'a> for FeedParts<'a> {
     ghost table = { OfShortFeed };
 
     #[inline(always)]
-    fn start(alloc: Global) -> FeedParts<'a> {
-        FeedParts {
+    fn start(alloc: Global, _bytes: &[u8]) -> Result<FeedParts<'a>, AllocError> {
+        Ok(FeedParts {
             header: Found::Nothing,
             entities: List::new(alloc),
-        }
+        })
     }
 
     #[inline(always)]

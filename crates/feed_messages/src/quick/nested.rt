@@ -8,8 +8,8 @@ ghost use Rattle.feed_messages.specs.Partly.{Goes, IsFound};
 use crate::plain::kinds::body_in;
 use crate::plain_fault::PlainFault;
 use crate::quick::found::Found;
-use gw_base::List;
-use std::alloc::Global;
+use gw_base::{Boxed, List};
+use std::alloc::{AllocError, Global};
 use wire_fields::{Field, next_field};
 
 // What is known of a message after some of its fields.
@@ -28,9 +28,9 @@ pub trait Parts<'a>: Drop {
     // The message's table.
     ghost table: { List WireField → Self.Whole → Type 0 };
 
-    // Before the first field.
-    fn start(alloc: Global) -> Self
-        ensures { after [] result };
+    // Before the first field of these bytes.
+    fn start(alloc: Global, bytes: &[u8]) -> Result<Self, AllocError>
+        ensures { IfOk result (λ parts. after [] parts) };
 
     // One field further.
     fn take(&mut self, alloc: Global, field: &Field<'a>) -> Result<(), PlainFault>
@@ -53,6 +53,17 @@ pub trait QuickMessage: Drop {
     // The message that bytes mean.
     fn read(alloc: Global, bytes: &[u8]) -> Result<Self, PlainFault>
         ensures { IfOk result (λ message. Means table bytes.now message) };
+}
+
+// A message that stands apart is rare.
+impl<M: QuickMessage> QuickMessage for Boxed<M> {
+    ghost table = { M.table };
+
+    #[cold]
+    #[inline(never)]
+    fn read(alloc: Global, bytes: &[u8]) -> Result<Boxed<M>, PlainFault> {
+        Ok(Boxed::new(alloc, M::read(alloc, bytes)?)?)
+    }
 }
 
 // Adds the message that the body of a field means, if the field has this number.
@@ -106,7 +117,7 @@ pub fn read_required<M: QuickMessage>(alloc: Global, found: &Found<'_>) -> Resul
 pub fn read_parts<'a, P: Parts<'a>>(alloc: Global, bytes: &'a [u8]) -> Result<P::Whole, PlainFault>
     ensures { IfOk result (λ whole. Means P.table bytes.now whole) }
 {
-    let mut parts = P::start(alloc);
+    let mut parts = P::start(alloc, bytes)?;
     let mut at = 0;
     while let Some((field, next)) = next_field(bytes, at)? {
         parts.take(alloc, &field)?;

@@ -10,8 +10,9 @@ use crate::quick::found::{Found, add_body};
 use crate::quick::nested::{
     Parts, QuickMessage, add_message, read_found, read_parts, read_required,
 };
+use crate::quick::room::with_room;
 use gw_base::{Event, List, StopUpdate, TripDescriptor, TripUpdate};
-use std::alloc::Global;
+use std::alloc::{AllocError, Global};
 use wire_fields::Field;
 
 #[derive(Drop)]
@@ -28,11 +29,11 @@ impl<'a> Parts<'a> for EventParts {
     ghost table = { OfStopTimeEvent };
 
     #[inline(always)]
-    fn start(_alloc: Global) -> EventParts {
-        EventParts {
+    fn start(_alloc: Global, _bytes: &[u8]) -> Result<EventParts, AllocError> {
+        Ok(EventParts {
             delay: None,
             time: None,
-        }
+        })
     }
 
     #[inline(always)]
@@ -82,13 +83,13 @@ impl<'a> Parts<'a> for TripParts<'a> {
     ghost table = { OfTripDescriptor };
 
     #[inline(always)]
-    fn start(_alloc: Global) -> TripParts<'a> {
-        TripParts {
+    fn start(_alloc: Global, _bytes: &[u8]) -> Result<TripParts<'a>, AllocError> {
+        Ok(TripParts {
             trip_id: None,
             start_date: None,
             relation: None,
             route_id: None,
-        }
+        })
     }
 
     #[inline(always)]
@@ -136,14 +137,14 @@ impl<'a> Parts<'a> for StopParts<'a> {
     ghost table = { OfStopTimeUpdate };
 
     #[inline(always)]
-    fn start(_alloc: Global) -> StopParts<'a> {
-        StopParts {
+    fn start(_alloc: Global, _bytes: &[u8]) -> Result<StopParts<'a>, AllocError> {
+        Ok(StopParts {
             sequence: None,
             arrival: Found::Nothing,
             departure: Found::Nothing,
             stop_id: None,
             relation: None,
-        }
+        })
     }
 
     #[inline(always)]
@@ -200,12 +201,12 @@ impl<'a> Parts<'a> for UpdateParts<'a> {
     ghost table = { OfTripUpdate };
 
     #[inline(always)]
-    fn start(alloc: Global) -> UpdateParts<'a> {
-        UpdateParts {
+    fn start(alloc: Global, bytes: &[u8]) -> Result<UpdateParts<'a>, AllocError> {
+        Ok(UpdateParts {
             trip: Found::Nothing,
-            updates: List::new(alloc),
+            updates: with_room(alloc, bytes, 2)?,
             timestamp: None,
-        }
+        })
     }
 
     #[inline(always)]

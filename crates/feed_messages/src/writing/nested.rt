@@ -8,7 +8,7 @@ ghost use Rattle.feed_messages.specs.Sound.{IsSoundTranslation};
 ghost use Rattle.feed_messages.specs.Sizes.{Counts, Appends};
 
 use crate::writing::fields::{bytes_size, plus};
-use gw_base::{Buf, List, Translation};
+use gw_base::{Boxed, Buf, List, Translation};
 use wire_fields::put_bytes_head;
 
 // A message that knows its length and writes itself.
@@ -31,6 +31,20 @@ pub trait WrittenMessage {
         requires { length (written self.now) ≤ buf.old.spare }
         ensures appends { Appends buf.old buf.new (written self.now) }
         ensures sound { sound self.now };
+}
+
+impl<M: WrittenMessage> WrittenMessage for Boxed<M> {
+    ghost written = { M.written };
+
+    ghost sound = { M.sound };
+
+    fn size(&self) -> u64 {
+        self.get().size()
+    }
+
+    fn put(&self, buf: &mut Buf) {
+        self.get().put(buf);
+    }
 }
 
 // How long a field of a message is.
