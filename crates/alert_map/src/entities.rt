@@ -10,7 +10,7 @@ ghost use Rattle.alert_map.specs.Alerts as spec;
 
 use crate::alerts::alert_of;
 use feed_messages::entity_bytes;
-use gw_base::{Bytes, Entity, Text};
+use gw_base::{Boxed, Bytes, Entity, Text};
 use journey_model::Situation;
 use std::alloc::{AllocError, Global};
 use stop_schedule::Timetable;
@@ -36,7 +36,7 @@ fn message(alloc: Global, table: &Timetable, situation: &Situation) -> Result<En
         id,
         deleted: false,
         trip_update: None,
-        alert: Some(alert),
+        alert: Some(Boxed::new(alloc, alert)?),
     })
 }
 

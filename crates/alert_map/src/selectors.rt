@@ -6,7 +6,7 @@ ghost use Rattle.service_day.specs.DayTexts.{compact_text};
 ghost use Rattle.alert_map.specs.Known.{IsEachKnown, IsKnown};
 ghost use Rattle.alert_map.specs.Alerts as spec;
 
-use gw_base::{List, Selector, Text, TripDescriptor};
+use gw_base::{Boxed, List, Selector, Text, TripDescriptor};
 use journey_model::Ref;
 use service_day::{Day, day_compact};
 use std::alloc::{AllocError, Global};
@@ -72,7 +72,7 @@ fn trip_selector(alloc: Global, trip_id: &str, day: Day) -> Result<Selector, All
     Ok(Selector {
         agency_id: None,
         route_id: None,
-        trip: Some(trip_on(alloc, trip_id, day)?),
+        trip: Some(Boxed::new(alloc, trip_on(alloc, trip_id, day)?)?),
         stop_id: None,
     })
 }

@@ -102,6 +102,9 @@ text_other number fields field last differs = text_same number fields field last
 pub found_other : (number : ℕ) (fields : List WireField) (field : WireField) (old : Found) → field.number ≢ number → IsFound number fields old → IsFound number (fields ++ field ∷ []) old
 found_other number fields field old differs = found_same number fields field old (other body_in number field differs)
 
+pub messages_other : {M : Type 0} (Table : List WireField → M → Type 0) (number : ℕ) (fields : List WireField) (field : WireField) (messages : List M) → field.number ≢ number → AreMessages Table number fields messages → AreMessages Table number (fields ++ field ∷ []) messages
+messages_other Table number fields field messages differs = messages_same Table number fields field messages (other body_in number field differs)
+
 -- what they mean
 
 abbrev IsRead : {M : Type 0} → (List WireField → M → Type 0) → List (List ℕ) → Option M → Type 0

@@ -1,5 +1,5 @@
 -- What a door shows of its connections, beside the output that it takes as a sink.
-use Rattle.std.specs.Prelude.{◌≡◌, ◌↔◌, ℕ, ℤ, Bool, true, false, List, [], ◌∷◌, ◌++◌, Option, Some, None, IfSome, MatchOption, ⊤}
+use Rattle.std.specs.Prelude.{◌≡◌, ◌↔◌, ℕ, ℤ, Bool, true, false, List, [], ◌∷◌, ◌++◌, Option, Some, None, IfSome, MatchOption}
 use Rattle.gw_base.specs.declared.door.Entry.{Entry}
 use Rattle.gw_base.specs.declared.door.Mark.{Mark}
 

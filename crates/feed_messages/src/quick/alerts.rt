@@ -244,12 +244,24 @@ impl<'a> Parts<'a> for AlertParts<'a> {
 
     #[inline(always)]
     fn take(&mut self, alloc: Global, field: &Field<'a>) -> Result<(), PlainFault> {
-        add_message(alloc, 1, field, &mut self.periods)?;
-        add_message(alloc, 5, field, &mut self.selectors)?;
+        if field.number == 1 {
+            add_message(alloc, 1, field, &mut self.periods)?;
+            return Ok(());
+        }
+        if field.number == 5 {
+            add_message(alloc, 5, field, &mut self.selectors)?;
+            return Ok(());
+        }
+        if field.number == 10 {
+            add_body(alloc, 10, field, &mut self.header)?;
+            return Ok(());
+        }
+        if field.number == 11 {
+            add_body(alloc, 11, field, &mut self.description)?;
+            return Ok(());
+        }
         self.cause = number_after(6, field, self.cause);
         self.effect = number_after(7, field, self.effect);
-        add_body(alloc, 10, field, &mut self.header)?;
-        add_body(alloc, 11, field, &mut self.description)?;
         Ok(())
     }
 

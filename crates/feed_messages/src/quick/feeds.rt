@@ -43,10 +43,19 @@ impl<'a> Parts<'a> for EntityParts<'a> {
 
     #[inline(always)]
     fn take(&mut self, alloc: Global, field: &Field<'a>) -> Result<(), PlainFault> {
-        self.id = text_after(1, field, self.id)?;
+        if field.number == 1 {
+            self.id = text_after(1, field, self.id)?;
+            return Ok(());
+        }
+        if field.number == 3 {
+            add_body(alloc, 3, field, &mut self.trip_update)?;
+            return Ok(());
+        }
+        if field.number == 5 {
+            add_body(alloc, 5, field, &mut self.alert)?;
+            return Ok(());
+        }
         self.deleted = number_after(2, field, self.deleted);
-        add_body(alloc, 3, field, &mut self.trip_update)?;
-        add_body(alloc, 5, field, &mut self.alert)?;
         Ok(())
     }
 

@@ -94,9 +94,18 @@ impl<'a> Parts<'a> for TripParts<'a> {
 
     #[inline(always)]
     fn take(&mut self, _alloc: Global, field: &Field<'a>) -> Result<(), PlainFault> {
-        self.trip_id = text_after(1, field, self.trip_id)?;
-        self.start_date = text_after(3, field, self.start_date)?;
-        self.relation = number_after(4, field, self.relation);
+        if field.number == 1 {
+            self.trip_id = text_after(1, field, self.trip_id)?;
+            return Ok(());
+        }
+        if field.number == 3 {
+            self.start_date = text_after(3, field, self.start_date)?;
+            return Ok(());
+        }
+        if field.number == 4 {
+            self.relation = number_after(4, field, self.relation);
+            return Ok(());
+        }
         self.route_id = text_after(5, field, self.route_id)?;
         Ok(())
     }
@@ -211,8 +220,14 @@ impl<'a> Parts<'a> for UpdateParts<'a> {
 
     #[inline(always)]
     fn take(&mut self, alloc: Global, field: &Field<'a>) -> Result<(), PlainFault> {
-        add_body(alloc, 1, field, &mut self.trip)?;
-        add_message(alloc, 2, field, &mut self.updates)?;
+        if field.number == 1 {
+            add_body(alloc, 1, field, &mut self.trip)?;
+            return Ok(());
+        }
+        if field.number == 2 {
+            add_message(alloc, 2, field, &mut self.updates)?;
+            return Ok(());
+        }
         self.timestamp = number_after(4, field, self.timestamp);
         Ok(())
     }

@@ -1,5 +1,5 @@
 -- What was there is still there.
-use Rattle.std.proofs.Common.{◌≡◌, ◌++◌, ◌∙◌, sym, ap, length, drop, take, List, ℕ}
+use Rattle.std.proofs.Common.{◌++◌, ◌∙◌, sym, ap, length, drop, List, ℕ}
 use Rattle.std.proofs.lemmas.List.{take-append-drop}
 use Rattle.gw_base.proofs.list.List+u8.read_to_end.Goals as goal
 
