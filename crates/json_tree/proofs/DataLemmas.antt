@@ -1,9 +1,9 @@
 -- The data of a tree whose numbers are in range.
-use Rattle.std.proofs.Common.{◌≡◌, ◌∙◌, ℕ, List, Bool, true, false, ◌&&◌, Option, Some, None, option_map, option_and_then, is_some, pos, unwrap_or, refl, sym, ap}
+use Rattle.std.proofs.Common.{◌≡◌, ◌∙◌, true, Option, Some, None, option_map, option_and_then, is_some, pos, unwrap_or, refl, sym, ap}
 use Rattle.json.specs.Json as json
 use Rattle.serde_json.specs.Data.{Num, negative, Data, number, array, object, item, Items, Members, no_members, put}
 use Rattle.serde_json.specs.Read.{number_of, of_json, of_items, of_members}
-use Rattle.json_tree.specs.Trees.{num, data_of, items_data, members_data}
+use Rattle.json_tree.specs.Trees.{data_of, items_data, members_data}
 
 ranged : (found : Option Num) → is_some (option_map number found) ≡ true → option_map number found ≡ Some (number (unwrap_or found (negative (pos 0))))
 ranged None h = absurd (cc)

@@ -1,8 +1,8 @@
 -- The texts of numbers, with and without a minus.
-use Rattle.std.proofs.Common.{◌≡◌, ◌∙◌, ◌==◌, ◌&&◌, ◌<◌, ◌^◌, ℕ, List, Bool, true, false, drop, get_or, nat_lt, nat_le, length, Option, Some, None, option_and_then, pos, unwrap_or, refl, sym, ap, if◌then◌else◌, arith, rules}
+use Rattle.std.proofs.Common.{◌≡◌, ◌==◌, ◌&&◌, ◌^◌, ℕ, List, Bool, true, false, drop, get_or, nat_lt, nat_le, Option, Some, None, option_and_then, pos, unwrap_or, refl, if◌then◌else◌}
 use Rattle.std.specs.Float.{binary64, float_is_finite}
-use Rattle.fast_float.specs.Text.{Parts, scan, digits_of, nearest, with_sign, minus}
-use Rattle.serde_json.specs.Data.{Num, unsigned, negative, float}
+use Rattle.fast_float.specs.Text.{Parts, scan, digits_of, nearest, with_sign}
+use Rattle.serde_json.specs.Data.{Num, negative, float}
 use Rattle.serde_json.specs.Find.{as_u64}
 use Rattle.serde_json.specs.Read.{number_of, number_from, float_of, is_integer}
 

@@ -1,8 +1,8 @@
 -- Whether all numbers of a tree are in range, item by item.
-use Rattle.std.proofs.Common.{◌≡◌, ◌∙◌, ℕ, List, [], ◌∷◌, Bool, true, false, ◌&&◌, Option, Some, None, option_map, option_and_then, is_some, refl, sym, ap, map, Bor}
+use Rattle.std.proofs.Common.{◌≡◌, ℕ, List, ◌∷◌, Bool, ◌&&◌, Option, Some, None, option_map, option_and_then, is_some, refl, map, Bor}
 use Rattle.json.specs.Json as json
 use Rattle.json.specs.Value.{value_view, items_of, members_of}
-use Rattle.serde_json.specs.Data.{Data, Items, Members, no_members, item, put, array, object}
+use Rattle.serde_json.specs.Data.{Data, Items, Members, no_members, item, put}
 use Rattle.serde_json.specs.Read.{of_json, of_items, of_members}
 use Rattle.json_tree.specs.Trees.{Tree}
 
@@ -43,9 +43,3 @@ pub members_fit-more : (first : Bor (List ℕ) × Tree) (others : List (Bor (Lis
 members_fit-more first others =
     let rest = members_of (map (λ m. (m.0, value_view m.1)) others) in
     one_member (of_json (value_view first.1)) (λ d. of_members rest (put first.0.now d no_members)) (members_fit others) (λ d. whatever rest (put first.0.now d no_members) no_members)
-
-pub array_fits : (trees : List Tree) → is_some (of_json (json.array (items_of (map value_view trees)))) ≡ items_fit trees
-array_fits trees = is_some-map array _
-
-pub object_fits : (members : List (Bor (List ℕ) × Tree)) → is_some (of_json (json.object (members_of (map (λ m. (m.0, value_view m.1)) members)))) ≡ members_fit members
-object_fits members = is_some-map object _

@@ -100,9 +100,7 @@ impl Ids {
         let added = self.ids.insert(String::from_str(alloc, text)?)?;
         Ok(added)
     }
-}
 
-impl Ids {
     /// The number of an id, which is added at the end where it is new. Want of memory leaves the ids as they
     /// were.
     pub(crate) fn number_of(&mut self, alloc: Global, id: &str) -> Result<u32, AllocError>
@@ -117,14 +115,13 @@ impl Ids {
             None => {
                 let number = self.len() as u32;
                 self.add(alloc, id.as_bytes())?;
+                // the call shows that these are ids
                 let _ = self.len();
                 Ok(number)
             }
         }
     }
-}
 
-impl Ids {
     // Whether the number is that of an id.
     fn is_at(&self, id: &[u8], number: u32) -> bool
         ensures { result ≡ true → slice_get self.now number ≡ Some id.now }
@@ -145,6 +142,7 @@ impl Ids {
         ensures sound { OnOk result (IsTrue (are_ids self.new)) }
         ensures kept { OnErr result (self.new ≡ self.old) }
     {
+        // the call shows that these are ids
         let _ = self.len();
         if self.is_at(id.as_bytes(), number) {
             return Ok(number);
@@ -161,6 +159,7 @@ pub(crate) fn find_in(ids: &Ids, sheet: &Sheet<'_>, column: usize) -> Option<u32
     ensures at { IfSome result (λ place. slice_get ids.now place ≡ Some (nth column sheet.now.row)) }
     ensures ids { IsTrue (are_ids ids.now) }
 {
+    // the call shows that these are ids
     let _ = ids.len();
     match sheet.text(column) {
         Some(id) => ids.find(id),
@@ -176,6 +175,7 @@ pub(crate) fn find_from(ids: &Ids, sheet: &Sheet<'_>, column: usize, number: u32
     ensures at { IfSome result (λ place. slice_get ids.now place ≡ Some (nth column sheet.now.row)) }
     ensures ids { IsTrue (are_ids ids.now) }
 {
+    // the call shows that these are ids
     let _ = ids.len();
     if ids.is_at(sheet.field(column), number) {
         return Some(number);

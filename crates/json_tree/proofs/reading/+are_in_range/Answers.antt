@@ -1,4 +1,4 @@
-use Rattle.std.proofs.Common.{◌≡◌, ◌∙◌, ◌+◌, ◌∷◌, ◌&&◌, is_some, drop, true, false, sym, ap}
+use Rattle.std.proofs.Common.{◌≡◌, ◌∙◌, ◌+◌, ◌∷◌, ◌&&◌, is_some, drop, true, sym, ap}
 use Rattle.std.proofs.lemmas.List.{drop_more}
 use Rattle.json.specs.Value.{value_view}
 use Rattle.serde_json.specs.Read.{of_json}
