@@ -148,7 +148,7 @@ fn stops_and_alerts_are_read(rt: HostRuntime) -> Result<(), Fail> {
             is_early(&rt, entity, update);
         }
         if let Some(alert) = &entity.alert {
-            is_late(&rt, entity, alert);
+            is_late(&rt, entity, alert.get());
         }
     }
     Ok(())

@@ -161,10 +161,23 @@ fn read_rare_payload(
     read_payload_apart(number, wire_type, bytes)
 }
 
-#[tactic(auto, unfolding(crate::specs::Reading::payload_at))]
 #[cold]
 #[inline(never)]
 fn read_payload_apart(
+    number: u32,
+    wire_type: u64,
+    bytes: &[u8],
+) -> Result<(Item<'_>, &[u8]), WireKind>
+    requires no_number { wire_type ≢ 0 }
+    requires no_bytes { wire_type ≢ 2 }
+    ensures { Gives (λ x. (item_of x.0, x.1.now)) result (payload_at number wire_type bytes.now) }
+{
+    read_other_payload(number, wire_type, bytes)
+}
+
+#[tactic(auto, unfolding(crate::specs::Reading::payload_at))]
+#[inline(always)]
+fn read_other_payload(
     number: u32,
     wire_type: u64,
     bytes: &[u8],
@@ -199,4 +212,22 @@ pub fn read_item(bytes: &[u8]) -> Result<(Item<'_>, &[u8]), WireKind>
         return Err(WireKind::BadTag);
     }
     read_payload((tag / 8) as u32, tag % 8, rest)
+}
+
+/// The same where no wire type is rare, as in a group.
+#[tactic(auto, unfolding(crate::specs::Reading::item_at))]
+#[inline(always)]
+pub fn read_group_item(bytes: &[u8]) -> Result<(Item<'_>, &[u8]), WireKind>
+    ensures { Gives (λ x. (item_of x.0, x.1.now)) result (item_at bytes.now) }
+{
+    let (tag, rest) = read_varint(bytes)?;
+    if tag >= 1 << 32 || tag < 8 {
+        return Err(WireKind::BadTag);
+    }
+    let number = (tag / 8) as u32;
+    match tag % 8 {
+        0 => read_payload(number, 0, rest),
+        2 => read_payload(number, 2, rest),
+        wire_type => read_other_payload(number, wire_type, rest),
+    }
 }

@@ -8,7 +8,7 @@ ghost use Rattle.gw_base.specs.declared.wire_kind.WireKind.{WireKind};
 
 use crate::field::{Field, Value, WireFault};
 use crate::groups::OpenGroups;
-use crate::item::{Item, read_item, read_varint};
+use crate::item::{Item, read_group_item, read_item, read_varint};
 use gw_base::WireKind;
 
 /// The bytes behind the end of a group of this number, whose start stands before these bytes.
@@ -29,7 +29,7 @@ fn skip_group_apart(number: u32, bytes: &[u8]) -> Result<&[u8], WireKind>
     let mut open = OpenGroups::with_first(number);
     let mut rest = bytes;
     while !open.is_empty() {
-        let (item, after) = read_item(rest)?;
+        let (item, after) = read_group_item(rest)?;
         open.follow(item)?;
         rest = after;
     }

@@ -176,6 +176,30 @@ fn a_split_feed_is_read(rt: HostRuntime) {
     }
 }
 
+/// A relation of -1, and behind it the same field with four bytes, which is no number.
+static NEGATIVE: [u8; 32] =
+    *b"\x0a\x05\x0a\x032.0\x12\x17\x0a\x01x\x1a\x12\x0a\x10\x20\xff\xff\xff\xff\xff\xff\xff\xff\xff\x01\x25\x00\x00\x00\x00";
+
+/// The relation of the trip of the first entity.
+fn first_relation(entities: &[Entity]) -> Option<i32> {
+    match &entities.first()?.trip_update {
+        Some(update) => Some(update.trip.relation),
+        None => None,
+    }
+}
+
+#[test]
+fn a_negative_enum_is_kept(rt: HostRuntime) {
+    let read = read_feed(rt.alloc(), &NEGATIVE).ok();
+    let plain = plain_feed(rt.alloc(), &NEGATIVE).ok();
+    for feed in [read, plain] {
+        assert!(rt; feed.is_some());
+        if let Some(feed) = feed {
+            assert_eq!(rt; first_relation(feed.entities.as_slice()), Some(-1));
+        }
+    }
+}
+
 /// Both readers agree on a front of the bytes, which is no feed where it ends inside a field.
 fn agree(rt: &impl Abort, alloc: Global, bytes: &[u8]) {
     assert_eq!(rt;

@@ -1,8 +1,8 @@
 //! Entities as they are written.
 use crate::{entity_bytes, header_bytes, plain_feed, read_feed};
 use gw_base::{
-    Alert, Bytes, Entity, Event, List, Moment, Period, Selector, StopUpdate, Text, Translation,
-    TripDescriptor, TripUpdate,
+    Alert, Boxed, Bytes, Entity, Event, List, Moment, Period, Selector, StopUpdate, Text,
+    Translation, TripDescriptor, TripUpdate,
 };
 use std::alloc::{AllocError, Global};
 use std::process::Abort;
@@ -71,18 +71,19 @@ fn alert(alloc: Global) -> Result<Entity, AllocError> {
         text: Text::copied(alloc, "Late")?,
         language: None,
     };
+    let alert = Alert {
+        periods: one(alloc, period)?,
+        selectors: one(alloc, selector)?,
+        cause: 3,
+        effect: 3,
+        header: one(alloc, late)?,
+        description: List::new(alloc),
+    };
     Ok(Entity {
         id: Text::copied(alloc, "alert:S1")?,
         deleted: false,
         trip_update: None,
-        alert: Some(Alert {
-            periods: one(alloc, period)?,
-            selectors: one(alloc, selector)?,
-            cause: 3,
-            effect: 3,
-            header: one(alloc, late)?,
-            description: List::new(alloc),
-        }),
+        alert: Some(Boxed::new(alloc, alert)?),
     })
 }
 
@@ -186,10 +187,14 @@ fn is_given_back(rt: &impl Abort, alloc: Global, moment: Moment, entity: &[u8]) 
     }
 }
 
+/// An alert for the trip T1.
+static OF_A_TRIP: [u8; 21] =
+    *b"\x12\x13\x0a\x01x\x2a\x0e\x2a\x08\x22\x06\x0a\x02T1\x20\x00\x30\x01\x38\x08";
+
 #[test]
 fn what_is_written_is_read(rt: HostRuntime) -> Result<(), Fail> {
     let moment = Moment::new(1_714_543_200).ok_or("a moment")?;
-    for entity in [CANCELLED.as_slice(), &LATE, &ALERT, &EARLY] {
+    for entity in [CANCELLED.as_slice(), &LATE, &ALERT, &EARLY, &OF_A_TRIP] {
         is_given_back(&rt, rt.alloc(), moment, entity);
     }
     Ok(())
