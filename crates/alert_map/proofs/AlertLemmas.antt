@@ -1,5 +1,5 @@
 -- The texts of days, and how long the bodies of entities are.
-use Rattle.std.proofs.Common.{◌≡◌, ◌∙◌, ◌<◌, ◌≤◌, ◌-◌, ◌^◌, ◌++◌, ◌∷◌, ◌&&◌, Bool, true, false, ℕ, List, [], length, length-append, take, drop, Result, Ok, Err, refl, sym, subst, ap, inl, inr, arith}
+use Rattle.std.proofs.Common.{◌≡◌, ◌∙◌, ◌<◌, ◌≤◌, ◌-◌, ◌^◌, ◌++◌, ◌∷◌, ◌&&◌, Bool, true, false, ℕ, List, [], length, length-append, take, drop, Result, Ok, Err, refl, ap, inl, inr, arith}
 use Rattle.std.proofs.lemmas.Bool.{cases_lt, false≢true, lt-ltb, ltb-true}
 use Rattle.std.proofs.lemmas.List.{get_or_past, take_all}
 use Rattle.std.proofs.lemmas.List.Elements.{All-from_recursion}
