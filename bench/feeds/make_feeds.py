@@ -44,15 +44,25 @@ def sparse(index, rand):
     return journey(index, rand, rand.randrange(1, 6), True)
 
 
-def alert(index, rand):
-    selectors = b"".join(
-        bytes_field(5, bytes_field(2, b"route%d" % rand.randrange(500)) + bytes_field(5, b"stop%d" % stop))
-        for stop in range(10)
-    )
+def stop_selector(rand, stop):
+    return bytes_field(5, bytes_field(2, b"route%d" % rand.randrange(500)) + bytes_field(5, b"stop%d" % stop))
+
+
+def trip_selector(rand, _stop):
+    trip = bytes_field(1, b"trip%d" % rand.randrange(90000)) + bytes_field(3, b"20240501") + number_field(4, 0)
+    return bytes_field(5, bytes_field(4, trip))
+
+
+def alert(index, rand, selector=stop_selector):
+    selectors = b"".join(selector(rand, stop) for stop in range(10))
     text = bytes_field(1, bytes_field(1, b"The line is late because of works at the bridge.") + bytes_field(2, b"en"))
     body = bytes_field(1, number_field(1, 1714521600)) + selectors + number_field(6, 3) + number_field(7, 3)
     body += bytes_field(10, text) + bytes_field(11, text + text)
     return bytes_field(2, bytes_field(1, b"alert:%d" % index) + bytes_field(5, body))
+
+
+def trip_alert(index, rand):
+    return alert(index, rand, trip_selector)
 
 
 def filled(entity):
@@ -77,6 +87,7 @@ def main():
         "journeys": journeys,
         "sparse": filled(sparse),
         "alerts": filled(alert),
+        "trip_alerts": filled(trip_alert),
         "journeys_cut": journeys[:-1],
         "small_entities": HEADER + repeated(bytes_field(2, bytes_field(1, b""))),
         "empty_entities": HEADER + repeated(bytes_field(2, b"")),
