@@ -53,7 +53,7 @@ fn broken_bytes_are_told(rt: HostRuntime) {
 
 #[test]
 fn missing_fields_are_told(rt: HostRuntime) {
-    let cases: [(&[u8], FeedFault); 9] = [
+    let cases: [(&[u8], FeedFault); 14] = [
         (b"", FeedFault::MissingField(0, Required::Header)),
         (
             b"\x0a\x00",
@@ -90,6 +90,26 @@ fn missing_fields_are_told(rt: HostRuntime) {
         ),
         // of a header that is missing and an entity without an id the entity
         (b"\x12\x00", FeedFault::MissingField(0, Required::Id)),
+        // a header, at the end
+        (
+            b"\x12\x03\x0a\x01a",
+            FeedFault::MissingField(5, Required::Header),
+        ),
+        // a version, at the end, and an entity that breaks before it
+        (b"\x0a\x00\x12\x01\x0a", wire(4, WireKind::Truncated)),
+        // an id, a trip and a text, and behind each a message in the same one that breaks
+        (
+            b"\x0a\x05\x0a\x032.0\x12\x04\x1a\x02\x0a\x05",
+            FeedFault::MissingField(7, Required::Id),
+        ),
+        (
+            b"\x0a\x05\x0a\x032.0\x12\x09\x0a\x01a\x1a\x04\x12\x02\x0a\x05",
+            FeedFault::MissingField(12, Required::Trip),
+        ),
+        (
+            b"\x0a\x05\x0a\x032.0\x12\x0d\x0a\x01a\x2a\x08\x52\x06\x0a\x02\x12\x00\x0a\x05",
+            FeedFault::MissingField(16, Required::Text),
+        ),
     ];
     for (bytes, fault) in cases {
         is_told(&rt, rt.alloc(), bytes, fault);
@@ -123,18 +143,13 @@ fn texts_and_lengths_are_told(rt: HostRuntime) {
     }
 }
 
-/// The fault of a feed with an entity of so many bytes, at least four, behind a header.
-fn of_length(alloc: Global, length: u64) -> Option<FeedFault> {
-    let id: &[u8] = if length % 2 == 0 {
-        b"\x0a\x02ab"
-    } else {
-        b"\x0a\x01a"
-    };
+/// The fault of a feed with an entity of so many bytes, which begin with these, behind a header.
+fn of_length(alloc: Global, front: &[u8], length: u64) -> Option<FeedFault> {
     let mut bytes = List::new(alloc);
     bytes.extend(b"\x0a\x05\x0a\x032.0\x12").ok()?;
     bytes.extend(spell_varint(length).as_slice()).ok()?;
-    bytes.extend(id).ok()?;
-    for _ in 0..length.saturating_sub(id.len() as u64) / 2 {
+    bytes.extend(front).ok()?;
+    for _ in 0..length.saturating_sub(front.len() as u64) / 2 {
         bytes.extend(b"\x10\x00").ok()?;
     }
     told(alloc, bytes.as_slice())
@@ -142,11 +157,18 @@ fn of_length(alloc: Global, length: u64) -> Option<FeedFault> {
 
 #[test]
 fn the_limit_of_an_entity(rt: HostRuntime) {
-    assert_eq!(rt; of_length(rt.alloc(), 1_048_576), None);
-    assert_eq!(rt;
-        of_length(rt.alloc(), 1_048_577),
-        Some(FeedFault::EntityTooLong(7))
-    );
+    let missing = FeedFault::MissingField(7, Required::Id);
+    let too_long = FeedFault::EntityTooLong(7);
+    let cases: [(&[u8], u64, Option<FeedFault>); 4] = [
+        (b"\x0a\x02ab", 1_048_576, None),
+        (b"\x0a\x01a", 1_048_577, Some(too_long)),
+        // without an id, which is missing at the same place
+        (b"\x12\x02ab", 1_048_576, Some(missing)),
+        (b"\x12\x01a", 1_048_577, Some(too_long)),
+    ];
+    for (front, length, fault) in cases {
+        assert_eq!(rt; of_length(rt.alloc(), front, length), fault);
+    }
 }
 
 /// The trip descriptor in two fields, and between them an unknown number and an unknown group.
@@ -209,10 +231,17 @@ fn agree(rt: &impl Abort, alloc: Global, bytes: &[u8]) {
     );
 }
 
+/// A period, a selector of a trip, and two texts in an alert.
+static ALERT: [u8; 61] =
+    *b"\x0a\x05\x0a\x032.0\x12\x34\x0a\x01b\x2a\x2f\x0a\x04\x08\x09\x10\x0a\x2a\x0f\x12\x02R1\x22\x06\x0a\x02T1\x20\x00\x2a\x01S\x52\x0c\x0a\x0a\x0a\x04late\x12\x02en\x5a\x08\x0a\x06\x0a\x04late";
+
 #[test]
 fn fronts_of_a_feed(rt: HostRuntime) {
-    for length in 0..SPLIT.len() {
-        agree(&rt, rt.alloc(), &SPLIT[..length]);
+    for feed in [SPLIT.as_slice(), &ALERT] {
+        for length in 0..feed.len() {
+            agree(&rt, rt.alloc(), &feed[..length]);
+        }
+        agree(&rt, rt.alloc(), feed);
     }
 }
 
