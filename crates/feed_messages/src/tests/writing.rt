@@ -120,8 +120,8 @@ fn an_alert_is_written(rt: HostRuntime) -> Result<(), Fail> {
 }
 
 /// An event one second early, in the update of a stop with no number and in the entity of a deleted trip.
-static EARLY: [u8; 31] =
-    *b"\x12\x1d\x0a\x01x\x10\x01\x1a\x16\x0a\x02\x20\x00\x12\x10\x12\x0e\x08\xff\xff\xff\xff\xff\xff\xff\xff\xff\x01\x10\xdf\x01";
+static EARLY: [u8; 34] =
+    *b"\x12\x20\x0a\x01x\x10\x01\x1a\x19\x0a\x02\x20\x00\x12\x13\x12\x11\x08\xff\xff\xff\xff\xff\xff\xff\xff\xff\x01\x10\xdf\xb4\xc7\xb1\x06";
 
 #[test]
 fn an_early_event_is_written(rt: HostRuntime) -> Result<(), Fail> {
@@ -130,7 +130,7 @@ fn an_early_event_is_written(rt: HostRuntime) -> Result<(), Fail> {
         sequence: None,
         arrival: Some(Event {
             delay: Some(-1),
-            time: Some(223),
+            time: Some(1_714_543_199),
         }),
         departure: None,
         stop_id: None,
