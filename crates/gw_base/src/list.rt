@@ -1,5 +1,7 @@
 //! A list of values, and bytes as a list of them. Contracts see the list alone, and not its room.
-ghost use Rattle.std.specs.Prelude.{◌≡◌, ◌==◌, ◌++◌, ◌∷◌, [], ℕ, List as Values, take, length, OnOk, OnErr, IfOk};
+ghost use Rattle.std.specs.Prelude.{◌≡◌, ◌==◌, ◌+◌, ◌++◌, ◌∷◌, [], ℕ, List as Values, take, length, OnOk, OnErr, IfOk, IfSome};
+ghost use Rattle.std.specs.Io.{appended_bytes};
+ghost use Rattle.std.specs.Io.KnownBytes.{Consumes, IsAtEnd};
 
 use std::alloc::{AllocError, Global};
 use std::io::{self, Read};
@@ -113,9 +115,13 @@ impl List<u8> {
     }
 
     /// Reads to the end of what the reader gives, behind the bytes that are there: after a fault too they
-    /// are still there. Answers how many bytes came.
+    /// are still there. Answers how many bytes came. What has come is what the reader no longer has.
     pub fn read_to_end<R: Read>(&mut self, reader: &mut R) -> io::Result<usize>
         ensures behind { (bytes : Values ℕ) × (self.new ≡ self.old ++ bytes) }
+        ensures count { IfOk result (λ n. length self.new ≡ length self.old + n) }
+        ensures whole { OnOk result (IfSome (R.remaining reader.old) (λ bytes. self.new ≡ self.old ++ bytes)) }
+        ensures end { OnOk result (IsAtEnd (R.remaining reader.new)) }
+        ensures left { Consumes (R.remaining reader.old) (R.remaining reader.new) (appended_bytes self.old self.new) }
     {
         reader.read_to_end(&mut self.items)
     }
