@@ -14,6 +14,7 @@ pub mod Meant
 pub mod Parts
 pub mod PieceSets
 pub mod PieceWalks
+mod ReadAgain
 pub mod ShortEntities
 mod SizeLemmas
 pub mod Told

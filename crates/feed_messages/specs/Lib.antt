@@ -9,4 +9,5 @@ pub mod Plain
 pub mod Sizes
 pub mod Sound
 pub mod Tables
+pub mod Writable
 pub mod Written

@@ -6,6 +6,7 @@ ghost use Rattle.gw_base.specs.Moments.{IsMoment};
 ghost use Rattle.gw_base.specs.declared.messages.Entity.{Entity};
 ghost use Rattle.gw_base.specs.declared.messages.Feed.{Feed};
 ghost use Rattle.feed_messages.specs.Tables.{MeansFeed, MeansEntity, with_entity, full_dataset};
+ghost use Rattle.feed_messages.specs.Writable.{IsWritable};
 ghost use Rattle.feed_messages.specs.Written.{written, written_feed};
 ghost use Rattle.feed_messages.specs.declared.fault.FeedFault.{FeedFault};
 ghost use Rattle.feed_messages.specs.Faults.{HasFault, IsFeedFault, IsLongAt};
@@ -20,10 +21,17 @@ pub fn an_entity_is_added()
     ensures { (front back : List ℕ) (feed : Feed) (entity : Entity) → MeansFeed front feed → MeansEntity back entity → MeansFeed (front ++ back) (with_entity feed entity) }
 {}
 
-/// A header followed by written entities means the full dataset of just these, where the bytes of each mean it, as
-/// `entity_bytes` ensures.
+/// A header followed by written entities means the full dataset of just these, where each can be written, as
+/// `entity_bytes` ensures of those that it writes.
 pub fn a_written_feed_is_meant()
-    ensures { (moment : ℤ) (entities : List Entity) → IsMoment moment → AllByRecursion (λ entity. MeansEntity (written entity) entity) entities
+    ensures { (moment : ℤ) (entities : List Entity) → IsMoment moment → AllByRecursion IsWritable entities
+        → MeansFeed (written_feed moment entities) (full_dataset moment entities) }
+{}
+
+/// The same of all entities whose bytes mean them.
+pub fn meant_entities_make_a_feed()
+    ensures { (moment : ℤ) (entities : List Entity) → IsMoment moment
+        → AllByRecursion (λ entity. MeansEntity (written entity) entity) entities
         → MeansFeed (written_feed moment entities) (full_dataset moment entities) }
 {}
 

@@ -18,8 +18,8 @@ mod writing;
 pub use fault::FeedFault;
 pub use header::{HeaderBytes, header_bytes};
 pub use laws::{
-    a_fault_or_a_feed, a_written_feed_is_meant, an_entity_is_added, no_fault_where_a_feed_is_meant,
-    the_feed_is_one,
+    a_fault_or_a_feed, a_written_feed_is_meant, an_entity_is_added, meant_entities_make_a_feed,
+    no_fault_where_a_feed_is_meant, the_feed_is_one,
 };
 pub use plain::plain_feed;
 pub use plain_fault::PlainFault;

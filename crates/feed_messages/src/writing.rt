@@ -1,5 +1,6 @@
 //! Entities as they are written: `specs/Written.antt`.
-ghost use Rattle.std.specs.Prelude.{◌≡◌, IfOk};
+ghost use Rattle.std.specs.Prelude.{◌≡◌, IfOk, OnOk};
+ghost use Rattle.feed_messages.specs.Writable.{IsWritable};
 ghost use Rattle.feed_messages.specs.Written.{written};
 ghost use Rattle.feed_messages.specs.Tables.{MeansEntity};
 
@@ -18,6 +19,7 @@ use std::alloc::{AllocError, Global};
 pub fn entity_bytes(alloc: Global, entity: &Entity) -> Result<Bytes, AllocError>
     ensures written { IfOk result (λ bytes. bytes ≡ written entity.now) }
     ensures means { IfOk result (λ bytes. MeansEntity bytes entity.now) }
+    ensures writable { OnOk result (IsWritable entity.now) }
 {
     let measured = MeasuredEntity::of(entity);
     let fields = measured.size();

@@ -1,4 +1,4 @@
--- What is written means the entity.
+-- What is written can be written, and means the entity.
 use Rattle.std.proofs.Common.{◌≡◌, ℕ, ◌<◌, ◌^◌, List, ◌++◌, length, arith, ap, subst, ◌∙◌}
 use Rattle.feed_messages.specs.Sound.{IsSoundEntity}
 use Rattle.feed_messages.specs.Written.{feed_entity, written}
@@ -15,3 +15,13 @@ returns-clause-means c =
     rw (same ∙ ap written c.of-measured.ensures)
     (means_written c.args.entity.now (subst IsSoundEntity c.of-measured.ensures c.put_sized.ensures.sound)
     (subst (λ entity. length (written entity) < 2 ^ 64) c.of-measured.ensures short))
+
+pub returns-clause-writable : goal.returns-clause-writable
+returns-clause-writable c =
+    let one = c.of-measured.result.entity.now in
+    let short : length (written one) < 2 ^ 64 =
+    omega (arith, (c.bytes_size-size.ensures (feed_entity one) c.size-fields.ensures).same, c.put_sized.ensures.appends.room, c.in_ok-buf.ensures.room) in
+    record {
+      sound = subst IsSoundEntity c.of-measured.ensures c.put_sized.ensures.sound;
+      counted = subst (λ entity. length (written entity) < 2 ^ 64) c.of-measured.ensures short;
+    }
