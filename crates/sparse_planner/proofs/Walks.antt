@@ -1,6 +1,5 @@
 -- What placed updates say of stops, in one walk: behind an update the delay that it supplies is kept.
 use Rattle.std.proofs.Common.{append_assoc, length-append, ◌≡◌, ◌∙◌, ◌+◌, ◌<◌, ◌≤◌, ◌==◌, ◌++◌, ◌-ℤ◌, ℕ, ℤ, pos, Bool, true, false, not, List, [], ◌∷◌, map, length, slice_get, Option, Some, None, IfSome, option_map, if◌then◌else◌, refl, ap, ap₂, sym, subst, arith, eqb-true, ne_eqb, le-leb, eq-eqb}
-use Rattle.std.specs.Prelude.{⊤}
 use Rattle.std.specs.List.{range_with_len}
 use Rattle.std.specs.Option.{option_map_or, option_or}
 use Rattle.std.proofs.lemmas.Bool.{eqb-false, lt-leb}
