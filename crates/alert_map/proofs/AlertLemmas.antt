@@ -14,6 +14,7 @@ use Rattle.journey_model.specs.Situations.{AreKnown, is_known}
 use Rattle.journey_model.specs.declared.situation.Ref.{Ref}
 use Rattle.journey_model.specs.declared.situation.Ref.TheVariants.{Route, Stop, Journey}
 use Rattle.stop_schedule.specs.declared.numbers.RouteNo.{RouteNo}
+use Rattle.alert_map.specs.Alerts.{IsOfEntity}
 use Rattle.alert_map.specs.Known.{IsEachKnown, IsKnown}
 use Rattle.wire_fields.specs.Grammar.{BeginsNumber}
 use Rattle.wire_fields.specs.Reading.{varint_at}
@@ -68,6 +69,12 @@ body_begins bytes body is few =
 pub begins_len : (bytes : List ℕ) (entity : Entity) → bytes ≡ written entity → length bytes < 2 ^ 64
     → BeginsNumber (take (length bytes - 1) (drop 1 bytes)) (length (feed_entity entity)) (feed_entity entity)
 begins_len bytes entity is few = body_begins bytes (feed_entity entity) is few
+
+-- an entity has bytes
+pub some_bytes : (bytes : List ℕ) → IsOfEntity bytes → 0 < length bytes
+some_bytes bytes h =
+    let tag : length (varint 18) ≡ 1 = ap length tag_is in
+    rw h.1 (simp length-append (omega arith))
 
 -- where the bytes of a message were made, they are its bytes and mean it
 pub made : {E : Type 0} (result : Result (List ℕ) E) (entity message : Entity) → entity ≡ message → IfOk result (λ bytes. bytes ≡ written entity)

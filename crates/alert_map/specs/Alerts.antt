@@ -1,5 +1,5 @@
 -- The alert of a situation (GTFS Realtime reference, Alert, EntitySelector, TimeRange, TranslatedString), and its entity.
-use Rattle.std.specs.Prelude.{ℕ, pos, false, List, [], ◌∷◌, ◌++◌, codes, length, map, slice_get, unwrap_or, Option, Some, None}
+use Rattle.std.specs.Prelude.{◌≡◌, ℕ, pos, false, List, [], ◌∷◌, ◌++◌, codes, length, map, slice_get, unwrap_or, Option, Some, None}
 use Rattle.gw_base.specs.declared.messages.Alert.{Alert}
 use Rattle.gw_base.specs.declared.messages.Entity.{Entity}
 use Rattle.gw_base.specs.declared.messages.Period.{Period}
@@ -12,7 +12,7 @@ use Rattle.journey_model.specs.declared.situation.Ref.{Ref}
 use Rattle.journey_model.specs.declared.situation.Ref.TheVariants.{Route, Stop, Journey}
 use Rattle.journey_model.specs.declared.situation.Situation.{Situation}
 use Rattle.journey_model.specs.declared.situation.ValidPeriod.{ValidPeriod}
-use Rattle.feed_messages.specs.Written.{feed_entity}
+use Rattle.feed_messages.specs.Written.{feed_entity, written}
 
 -- the id of that number
 abbrev pub id_of : List (List ℕ) → ℕ → List ℕ
@@ -68,3 +68,7 @@ alert_message table one = record { id = alert_id one.number; deleted = false; tr
 -- how many bytes the body of an entity has: what is written of it without its tag and its length in the feed
 abbrev pub entity_body_len : Entity → ℕ
 entity_body_len entity = length (feed_entity entity)
+
+-- bytes are those of an entity as a field of its feed
+abbrev pub IsOfEntity : List ℕ → Type 0
+IsOfEntity bytes = (entity : Entity) × (bytes ≡ written entity)

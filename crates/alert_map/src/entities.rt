@@ -61,16 +61,17 @@ pub fn alert_entity(
 }
 
 /// How many bytes the body of an entity has, by the bytes that stand for it in a feed: the number behind its tag (protobuf
-/// encoding, "Message Structure"). 0 where they are no entity's. Takes no memory.
+/// encoding, "Message Structure"). The condition is that they are a written entity's. Takes no memory.
 pub fn entity_body_len(bytes: &[u8]) -> u64
+    requires { spec.IsOfEntity bytes.now }
     ensures { (entity : Entity) → bytes.now ≡ written entity
         → result ≡ spec.entity_body_len entity }
 {
     let [_, rest @ ..] = bytes else {
-        return 0;
+        unreachable!();
     };
     match first_number(rest) {
         Some((len, _)) => len,
-        None => 0,
+        None => unreachable!(),
     }
 }

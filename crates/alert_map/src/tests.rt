@@ -1,5 +1,6 @@
 //! The bytes of an alert's entity.
 ghost use Rattle.std.specs.Prelude.{◌≡◌, ◌<◌, ◌∷◌, [], length, IfOk};
+ghost use Rattle.alert_map.specs.Alerts.{IsOfEntity};
 
 use crate::{alert_entity, entity_body_len};
 use gw_base::{Bytes, List, MemoryFiles, Text};
@@ -84,6 +85,7 @@ fn situation(alloc: Global, route: RouteNo) -> Result<Situation, AllocError>
 // Its entity.
 fn entity_of(alloc: Global, table: &Timetable, route: RouteNo) -> Result<Bytes, AllocError>
     requires { route.0 < length table.now.routes }
+    ensures { IfOk result IsOfEntity }
 {
     let situation = situation(alloc, route)?;
     alert_entity(alloc, table, &situation)

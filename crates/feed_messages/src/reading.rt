@@ -46,7 +46,7 @@ pub fn read_feed(alloc: Global, bytes: &[u8]) -> Result<Feed, FeedFault>
     ensures again { (moment : ℤ) (entities : List Entity) → IsMoment moment
         → AllByRecursion IsReadable entities → bytes.now ≡ written_feed moment entities
         → MatchResult result (λ feed. feed ≡ full_dataset moment entities)
-            (λ fault. fault ≡ FeedFault.Memory) }
+        (λ fault. fault ≡ FeedFault.Memory) }
 {
     match quick_feed(alloc, bytes) {
         Ok(feed) => Ok(feed),

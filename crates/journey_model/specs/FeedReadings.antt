@@ -1,6 +1,6 @@
 -- What a feed says of journeys (GTFS Realtime reference, FeedEntity, TripUpdate, TripDescriptor).
-use Rattle.std.specs.Prelude.{◌&&◌, ◌||◌, ◌==◌, ◌+◌, ℕ, ℤ, pos, ◌-ℤ◌, nat_le, Bool, List, [], ◌∷◌, length, map, position, replicate, Option, Some, None, option_map, option_and_then, Result, Ok, Err, if◌then◌else◌}
-use Rattle.std.specs.List.{list_any, filter_map}
+use Rattle.std.specs.Prelude.{◌&&◌, ◌||◌, ◌==◌, ◌+◌, ℕ, ℤ, pos, ◌-ℤ◌, nat_le, Bool, List, [], ◌∷◌, length, map, position, replicate, Option, Some, None, is_none, option_map, option_and_then, Result, Ok, Err, if◌then◌else◌}
+use Rattle.std.specs.List.{filter_map}
 use Rattle.std.specs.Option.{option_or}
 use Rattle.std.specs.Ordering.{int_eq}
 use Rattle.std.specs.Str.{bytes_eq}
@@ -122,15 +122,6 @@ aside_from number (None ∷ said) = aside_from (number + 1) said
 aside_from number (Some (Ok reading) ∷ said) = aside_from (number + 1) said
 aside_from number (Some (Err fault) ∷ said) = (number, fault) ∷ aside_from (number + 1) said
 
--- two readings are of one trip on one day
-abbrev pub same_journey : DatedReading → DatedReading → Bool
-same_journey a b = int_eq a.day b.day && (a.trip.0 == b.trip.0)
-
--- of the readings of one journey the last one
-abbrev pub last_of_each : List DatedReading → List DatedReading
-last_of_each [] = []
-last_of_each (one ∷ others) = if list_any (same_journey one) others then last_of_each others else one ∷ last_of_each others
-
 -- the last reading of a trip on a day
 abbrev pub is_of : ℕ → ℤ → DatedReading → Bool
 is_of trip day one = (one.trip.0 == trip) && int_eq one.day day
@@ -139,6 +130,14 @@ abbrev pub last_reading : ℕ → ℤ → List DatedReading → Option JourneyRe
 last_reading trip day [] = None
 last_reading trip day (one ∷ others) =
     option_or (last_reading trip day others) (if is_of trip day one then Some one.reading else None)
+
+-- of the readings of one journey the last one: behind it there is none of its trip on its day
+abbrev pub is_last : DatedReading → List DatedReading → Bool
+is_last one others = is_none (last_reading one.trip.0 one.day others)
+
+abbrev pub last_of_each : List DatedReading → List DatedReading
+last_of_each [] = []
+last_of_each (one ∷ others) = if is_last one others then one ∷ last_of_each others else last_of_each others
 
 -- nothing is known of any stop of a trip
 abbrev pub nothing_known : Schedule → ℕ → JourneyReading

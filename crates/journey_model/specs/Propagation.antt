@@ -2,7 +2,6 @@
 -- behind; SKIPPED; NO_DATA).
 use Rattle.std.specs.Prelude.{◌==◌, ◌&&◌, ℕ, ℤ, ◌+ℤ◌, ◌-ℤ◌, nat_le, Bool, not, List, [], ◌∷◌, length, map, Option, Some, None, if◌then◌else◌}
 use Rattle.std.specs.List.{list_any, range_with_len, zip}
-use Rattle.std.specs.Option.{option_or}
 use Rattle.gw_base.specs.declared.messages.StopUpdate.{StopUpdate}
 use Rattle.journey_model.specs.Runs.{Run, planned_at}
 use Rattle.journey_model.specs.Updates.{is_no_data, is_skipped, times}
@@ -17,10 +16,16 @@ skips_at place placed = list_any (λ one. (one.0 == place) && is_skipped one.1) 
 abbrev pub supplies : ℕ → ℕ × StopUpdate → Bool
 supplies place one = nat_le one.0 place && not (is_skipped one.1)
 
--- of the updates that aren't SKIPPED, the one of the greatest place at or before the stop: places rise, so it is the last
+-- of two updates the one of the greater place
+abbrev pub greater : Option (ℕ × StopUpdate) → Option (ℕ × StopUpdate) → Option (ℕ × StopUpdate)
+greater None other = other
+greater (Some one) None = Some one
+greater (Some one) (Some other) = if nat_le one.0 other.0 then Some other else Some one
+
+-- of the updates that aren't SKIPPED, the one of the greatest place at or before the stop
 abbrev pub supplier : ℕ → List (ℕ × StopUpdate) → Option (ℕ × StopUpdate)
 supplier place [] = None
-supplier place (one ∷ others) = option_or (supplier place others) (if supplies place one then Some one else None)
+supplier place (one ∷ others) = greater (if supplies place one then Some one else None) (supplier place others)
 
 -- a stop at the times, if there are any
 abbrev pub timed : Option (ℤ × ℤ) → StopReading

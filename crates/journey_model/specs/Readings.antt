@@ -1,6 +1,5 @@
 -- Readings that can be served over a trip.
-use Rattle.std.specs.Prelude.{◌≡◌, ◌&&◌, ◌==◌, ℕ, ℤ, ◌-ℤ◌, Bool, true, false, List, [], ◌∷◌, length}
-use Rattle.journey_model.specs.Runs.{Run, planned_at}
+use Rattle.std.specs.Prelude.{◌&&◌, ℤ, ◌-ℤ◌, Bool, true, false, List, [], ◌∷◌}
 use Rattle.journey_model.specs.Times.{is_delay}
 use Rattle.stop_schedule.specs.Planned.{planned}
 use Rattle.stop_schedule.specs.declared.stop_times.StopRow.{StopRow}

@@ -1,5 +1,5 @@
 -- The updates of a trip: their places, and their times there (GTFS Realtime reference, StopTimeUpdate, StopTimeEvent).
-use Rattle.std.specs.Prelude.{◌||◌, ◌+◌, ℕ, ℤ, pos, ◌+ℤ◌, Bool, List, [], ◌∷◌, position, Option, Some, None, option_map, option_and_then, Result, Ok, Err, if◌then◌else◌}
+use Rattle.std.specs.Prelude.{◌||◌, ◌+◌, ℕ, ℤ, pos, ◌+ℤ◌, Bool, List, [], ◌∷◌, position, Option, Some, None, option_map, Result, Ok, Err, if◌then◌else◌}
 use Rattle.std.specs.Option.{option_or}
 use Rattle.std.specs.Ordering.{int_eq}
 use Rattle.std.specs.Str.{bytes_eq}

@@ -1,18 +1,20 @@
 -- The entities of a feed are sorted out one by one, and of the readings of one journey the last is kept.
-use Rattle.std.proofs.Common.{◌≡◌, ◌∙◌, ◌+◌, ◌<◌, ◌≤◌, ◌==◌, ◌&&◌, ◌||◌, ◌++◌, ◌∷◌, [], ℕ, zero, suc, ℤ, not, Bool, true, false, List, map, take, reverse, length, get_or, Option, Some, None, Result, Ok, Err, refl, sym, ap, arith}
+use Rattle.std.proofs.Common.{◌≡◌, ◌∙◌, ◌+◌, ◌<◌, ◌≤◌, ◌==◌, ◌&&◌, ◌||◌, ◌++◌, ◌∷◌, [], ℕ, zero, suc, ℤ, not, Bool, true, false, List, map, take, reverse, length, get_or, Option, Some, None, is_some, Result, Ok, Err, if◌then◌else◌, refl, sym, ap, arith}
 use Rattle.std.proofs.lemmas.Bool.{eqb-true, false≢true}
 use Rattle.std.proofs.lemmas.List.{append-nil, append_assoc, map-append, take_more, reverse-append}
 use Rattle.std.proofs.lemmas.List.Sorted.{list_any-IsPermutation}
-use Rattle.std.specs.Cmp.{signed_Decides}
+use Rattle.std.specs.Cmp.{int_eq_equiv, nat_eq_equiv, signed_Decides}
 use Rattle.std.specs.List.{list_any}
 use Rattle.std.specs.List.Sorted.{IsPermutation}
+use Rattle.std.specs.Option.{option_or}
 use Rattle.std.specs.Ordering.{int_eq}
 use Rattle.gw_base.specs.declared.messages.Entity.{Entity}
 use Rattle.gw_base.specs.declared.messages.Feed.{Feed}
-use Rattle.journey_model.specs.FeedReadings.{aside_from, entity_said, given, given_all, last_of_each, passed_count, readings, same_journey}
+use Rattle.journey_model.specs.FeedReadings.{aside_from, entity_said, given, given_all, is_of, last_of_each, last_reading, passed_count, readings}
 use Rattle.journey_model.specs.Schedules.{Schedule}
 use Rattle.journey_model.specs.declared.fault.Fault.{Fault}
 use Rattle.journey_model.specs.declared.readings.DatedReading.{DatedReading}
+use Rattle.journey_model.specs.declared.readings.JourneyReading.{JourneyReading}
 
 -- what an entity says
 abbrev pub Said : Type 0
@@ -95,7 +97,7 @@ key_of one = (one.day, one.trip.0)
 pub record LastTo (given left : List DatedReading) (keys : List (ℤ × ℕ)) (last : List DatedReading) : Type 0 where
   pub behind : List DatedReading
   pub split : given ≡ left ++ behind
-  pub saw : (one : DatedReading) → list_any (same_key (key_of one)) keys ≡ list_any (same_journey one) behind
+  pub saw : (one : DatedReading) → list_any (same_key (key_of one)) keys ≡ is_some (last_reading one.trip.0 one.day behind)
   pub last_is : last ≡ reverse (last_of_each behind)
 
 pub last_none : (given left : List DatedReading) (keys : List (ℤ × ℕ)) (last : List DatedReading) → left ≡ given → keys ≡ [] → last ≡ [] → LastTo given left keys last
@@ -114,11 +116,39 @@ and-right : (a b : Bool) → (a && b) ≡ true → b ≡ true
 and-right true b e = e
 and-right false b e = absurd (false≢true e)
 
-same_journey-keys : (a b : DatedReading) → same_journey a b ≡ true → key_of a ≡ key_of b
-same_journey-keys a b e =
-    let day : a.day ≡ b.day = (signed_Decides a.day b.day).0 (and-left (int_eq a.day b.day) (a.trip.0 == b.trip.0) e) in
-    let trip : a.trip.0 ≡ b.trip.0 = eqb-true a.trip.0 b.trip.0 (and-right (int_eq a.day b.day) (a.trip.0 == b.trip.0) e) in
-    rw (day, trip) refl
+-- a reading of a trip on a day has its numbers
+of-trip : (trip : ℕ) (day : ℤ) (one : DatedReading) → is_of trip day one ≡ true → one.trip.0 ≡ trip
+of-trip trip day one e = eqb-true one.trip.0 trip (and-left (one.trip.0 == trip) (int_eq one.day day) e)
+
+of-day : (trip : ℕ) (day : ℤ) (one : DatedReading) → is_of trip day one ≡ true → one.day ≡ day
+of-day trip day one e = (signed_Decides one.day day).0 (and-right (one.trip.0 == trip) (int_eq one.day day) e)
+
+-- so readings of one journey have the same behind them
+pub same-behind : (trip : ℕ) (day : ℤ) (one : DatedReading) (others : List DatedReading) → is_of trip day one ≡ true
+    → last_reading trip day others ≡ last_reading one.trip.0 one.day others
+same-behind trip day one others e = rw (of-trip trip day one e, of-day trip day one e) refl
+
+and-turned : (a b : Bool) → (a && b) ≡ (b && a)
+and-turned true true = refl
+and-turned true false = refl
+and-turned false true = refl
+and-turned false false = refl
+
+key_is : (other one : DatedReading) → same_key (key_of other) (key_of one) ≡ is_of other.trip.0 other.day one
+key_is other one =
+    and-turned (int_eq other.day one.day) (other.trip.0 == one.trip.0)
+    ∙ ap (λ (trips : Bool). trips && int_eq other.day one.day) (nat_eq_equiv.symm other.trip.0 one.trip.0)
+    ∙ ap (λ (days : Bool). (one.trip.0 == other.trip.0) && days) (int_eq_equiv.symm other.day one.day)
+
+or-some : (own : Bool) (found : Option JourneyReading) (reading : JourneyReading) → (own || is_some found) ≡ is_some (option_or found (if own then Some reading else None))
+or-some true None reading = refl
+or-some true (Some last) reading = refl
+or-some false None reading = refl
+or-some false (Some last) reading = refl
+
+or-kept : (found other : Option JourneyReading) → is_some found ≡ true → is_some found ≡ is_some (option_or found other)
+or-kept None other e = absurd (false≢true e)
+or-kept (Some last) other e = refl
 
 not_true : (b : Bool) → true ≡ not b → b ≡ false
 not_true true e = e
@@ -133,32 +163,33 @@ pub last_new : (given left left' : List DatedReading) (keys keys' : List (ℤ ×
     → LastTo given left keys last → left ≡ left' ++ one ∷ [] → key ≡ key_of one → true ≡ not (list_any (same_key key) keys)
     → IsPermutation (key ∷ keys) keys' → last' ≡ last ++ one ∷ [] → LastTo given left' keys' last'
 last_new given left left' keys keys' last last' one key h popped same new puts pushed =
-    let none : list_any (same_journey one) h.behind ≡ false = sym (h.saw one) ∙ (rw (← same) (not_true _ new)) in
+    let none : is_some (last_reading one.trip.0 one.day h.behind) ≡ false = sym (h.saw one) ∙ (rw (← same) (not_true _ new)) in
     record {
       behind = one ∷ h.behind;
       split = h.split ∙ (rw popped (append_assoc left' (one ∷ []) h.behind));
       saw = λ other. sym (list_any-IsPermutation (same_key (key_of other)) (key ∷ keys) keys' puts)
-          ∙ (rw same (ap (λ rest. same_journey other one || rest) (h.saw other)));
+          ∙ (rw same (ap (λ rest. same_key (key_of other) (key_of one) || rest) (h.saw other)))
+          ∙ ap (λ own. own || is_some (last_reading other.trip.0 other.day h.behind)) (key_is other one)
+          ∙ or-some (is_of other.trip.0 other.day one) (last_reading other.trip.0 other.day h.behind) one.reading;
       last_is = pushed ∙ (rw (h.last_is, none) (sym (reverse-append (one ∷ []) (last_of_each h.behind))));
     }
 
 pub last_seen : (given left left' : List DatedReading) (keys keys' : List (ℤ × ℕ)) (last : List DatedReading) (one : DatedReading) (key : ℤ × ℕ)
     → LastTo given left keys last → left ≡ left' ++ one ∷ [] → key ≡ key_of one → false ≡ not (list_any (same_key key) keys) → keys' ≡ keys → LastTo given left' keys' last
 last_seen given left left' keys keys' last one key h popped same old kept =
-    let seen : list_any (same_journey one) h.behind ≡ true = sym (h.saw one) ∙ (rw (← same) (not_false _ old)) in
+    let seen : is_some (last_reading one.trip.0 one.day h.behind) ≡ true = sym (h.saw one) ∙ (rw (← same) (not_false _ old)) in
     record {
       behind = one ∷ h.behind;
       split = h.split ∙ (rw popped (append_assoc left' (one ∷ []) h.behind));
-      saw = λ other. rw kept (h.saw other ∙ repeated other (same_journey other one) refl seen);
+      saw = λ other. rw kept (h.saw other ∙ repeated other (is_of other.trip.0 other.day one) refl seen);
       last_is = h.last_is ∙ (rw seen refl);
     }
   where
-    repeated : (other : DatedReading) (b : Bool) → same_journey other one ≡ b → list_any (same_journey one) h.behind ≡ true
-        → list_any (same_journey other) h.behind ≡ (same_journey other one || list_any (same_journey other) h.behind)
+    repeated : (other : DatedReading) (own : Bool) → is_of other.trip.0 other.day one ≡ own → is_some (last_reading one.trip.0 one.day h.behind) ≡ true
+        → is_some (last_reading other.trip.0 other.day h.behind) ≡ is_some (option_or (last_reading other.trip.0 other.day h.behind) (if is_of other.trip.0 other.day one then Some one.reading else None))
     repeated other true e seen =
-        let same : list_any (same_journey other) h.behind ≡ list_any (same_journey one) h.behind = sym (h.saw other) ∙ (rw (same_journey-keys other one e) (h.saw one)) in
-        rw e (same ∙ seen)
-    repeated other false e seen = rw e refl
+        or-kept (last_reading other.trip.0 other.day h.behind) _ (ap (λ (found : Option JourneyReading). is_some found) (same-behind other.trip.0 other.day one h.behind e) ∙ seen)
+    repeated other false e seen = rw e (or-some false (last_reading other.trip.0 other.day h.behind) one.reading)
 
 pub last_done : (given left : List DatedReading) (keys : List (ℤ × ℕ)) (last : List DatedReading) → LastTo given left keys last → length left ≡ 0
     → last ≡ reverse (last_of_each given)

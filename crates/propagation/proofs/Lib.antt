@@ -2,6 +2,7 @@ pub mod DayLemmas
 pub mod EntityLemmas
 pub mod FeedLemmas
 pub mod KnownLemmas
+pub mod LastLemmas
 pub mod PlaceLemmas
 pub mod ServableLemmas
 pub mod SpreadLemmas

@@ -1,15 +1,15 @@
 -- What a feed says of a journey can be served: its stops read at most a week from their planned times.
 use Rattle.std.proofs.Common.{◌≡◌, ◌+◌, ◌<◌, ◌==◌, ◌&&◌, ◌||◌, ◌∷◌, [], ℕ, suc, ℤ, pos, ◌+ℤ◌, ◌-ℤ◌, Bool, true, false, List, map, length, position, Option, Some, None, option_map, option_and_then, not, Result, Ok, Err, if◌then◌else◌, refl, subst, ap, arith}
-use Rattle.std.specs.Prelude.{All, slice_get}
+use Rattle.std.specs.Prelude.{All, nat_le, slice_get}
 use Rattle.std.proofs.lemmas.Bool.{eqb-true, false≢true}
 use Rattle.std.proofs.lemmas.Int.{ints}
 use Rattle.std.proofs.lemmas.List.Elements.{All-from_recursion}
 use Rattle.std.proofs.lemmas.List.Quantifiers.{position-Some}
 use Rattle.std.proofs.lemmas.List.Sorted.{All-permutation}
 use Rattle.std.proofs.lemmas.Option.{none-some}
-use Rattle.std.specs.List.{AllByRecursion, list_any, range_with_len, zip}
+use Rattle.std.specs.List.{AllByRecursion, range_with_len, zip}
 use Rattle.std.specs.List.Sorted.{IsPermutation}
-use Rattle.std.specs.Option.{option_map_or, option_or}
+use Rattle.std.specs.Option.{option_map_or}
 use Rattle.std.specs.Str.{bytes_eq}
 use Rattle.gw_base.specs.declared.messages.Entity.{Entity}
 use Rattle.gw_base.specs.declared.messages.Feed.{Feed}
@@ -20,8 +20,8 @@ use Rattle.stop_schedule.specs.Planned.{planned}
 use Rattle.stop_schedule.specs.declared.stop_times.StopRow.{StopRow}
 use Rattle.journey_model.specs.Chains.{◌>>=◌}
 use Rattle.journey_model.specs.FeedReadings as feeds
-use Rattle.journey_model.specs.FeedReadings.{day_named, entity_said, given_all, last_of_each, reading_said, readings, recorded_in, said_of_day, said_of_trip, said_on, same_journey, stops_said, trip_named, update_said, with_reading}
-use Rattle.journey_model.specs.Propagation.{carried, later_by, prop, propagated, skips_at, supplied, supplier, supplies, timed}
+use Rattle.journey_model.specs.FeedReadings.{day_named, entity_said, given_all, is_last, last_of_each, reading_said, readings, recorded_in, said_of_day, said_of_trip, said_on, stops_said, trip_named, update_said, with_reading}
+use Rattle.journey_model.specs.Propagation.{carried, greater, later_by, prop, propagated, skips_at, supplied, supplier, supplies, timed}
 use Rattle.journey_model.specs.Readings.{are_near, fits_trip, is_near}
 use Rattle.journey_model.specs.Runs.{Run, planned_at}
 use Rattle.journey_model.specs.Schedules.{Schedule, run_from}
@@ -85,21 +85,26 @@ record Supplies (run : Run) (one : ℕ × StopUpdate) : Type 0 where
 
 supplier-whole : (run : Run) (place : ℕ) (updates : List (ℕ × StopUpdate)) (one : ℕ × StopUpdate) → AllByRecursion (IsWhole run) updates → supplier place updates ≡ Some one → Supplies run one
 supplier-whole run place [] one h e = absurd (none-some one e)
-supplier-whole run place (first ∷ others) one h e = by (supplier place others) (λ same. supplier-whole run place others one h.1 same) e
+supplier-whole run place (first ∷ others) one h e = by (supplies place first) refl (supplier place others) (λ same. supplier-whole run place others one h.1 same) e
   where
     kept-first : (a b : Bool) → (a && not b) ≡ true → b ≡ false
     kept-first true true e = absurd (false≢true e)
     kept-first true false e = refl
     kept-first false b e = absurd (false≢true e)
 
-    here : (b : Bool) → supplies place first ≡ b → ◌≡◌ {A = Option (ℕ × StopUpdate)} (if b then Some first else None) (Some one) → Supplies run one
-    here true taken same = let is : first ≡ one = cc in rw (← is) (record { whole = h.0; kept = kept-first _ (is_skipped first.1) taken })
-    here false taken same = absurd (none-some one same)
+    here : supplies place first ≡ true → ◌≡◌ {A = Option (ℕ × StopUpdate)} (Some first) (Some one) → Supplies run one
+    here taken same = let is : first ≡ one = cc in rw (← is) (record { whole = h.0; kept = kept-first _ (is_skipped first.1) taken })
 
-    by : (found : Option (ℕ × StopUpdate)) → (found ≡ Some one → Supplies run one)
-        → option_or found (if supplies place first then Some first else None) ≡ Some one → Supplies run one
-    by (Some found) rest same = rest same
-    by None rest same = here (supplies place first) refl same
+    greater-one : (b : Bool) (later : ℕ × StopUpdate) → supplies place first ≡ true → (Some later ≡ Some one → Supplies run one)
+        → ◌≡◌ {A = Option (ℕ × StopUpdate)} (if b then Some later else Some first) (Some one) → Supplies run one
+    greater-one true later taken rest same = rest same
+    greater-one false later taken rest same = here taken same
+
+    by : (own : Bool) → supplies place first ≡ own → (found : Option (ℕ × StopUpdate)) → (found ≡ Some one → Supplies run one)
+        → greater (if own then Some first else None) found ≡ Some one → Supplies run one
+    by true taken (Some later) rest same = greater-one (nat_le first.0 later.0) later taken rest same
+    by true taken None rest same = here taken same
+    by false taken found rest same = rest same
 
 and_both : (a b : Bool) → a ≡ true → b ≡ true → (a && b) ≡ true
 and_both a b p q = rw (p, q) refl
@@ -251,11 +256,11 @@ given-servable schedule feed (entity ∷ entities) = by (entity_said schedule fe
 
 last-all : (P : DatedReading → Type 0) (given : List DatedReading) → AllByRecursion P given → AllByRecursion P (last_of_each given)
 last-all P [] h = tt
-last-all P (one ∷ others) h = by (list_any (same_journey one) others) (last-all P others h.1)
+last-all P (one ∷ others) h = by (is_last one others) (last-all P others h.1)
   where
-    by : (b : Bool) → AllByRecursion P (last_of_each others) → AllByRecursion P (if b then last_of_each others else one ∷ last_of_each others)
-    by true rest = rest
-    by false rest = (h.0, rest)
+    by : (b : Bool) → AllByRecursion P (last_of_each others) → AllByRecursion P (if b then one ∷ last_of_each others else last_of_each others)
+    by true rest = (h.0, rest)
+    by false rest = rest
 
 -- the readings of a feed can be served, in any order
 pub all-servable : (schedule : Schedule) (feed : Feed) (journeys : List DatedReading) → IsPermutation (last_of_each (given_all (readings schedule feed))) journeys

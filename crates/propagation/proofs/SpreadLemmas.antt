@@ -1,6 +1,6 @@
 -- The walk along the stops of a trip: what is carried from stop to stop is what the last update that isn't SKIPPED supplies.
 use Rattle.std.proofs.Common.{◌≡◌, ◌∙◌, ◌+◌, ◌==◌, ◌&&◌, ◌||◌, ◌++◌, ◌∷◌, ◌<◌, [], ℕ, zero, suc, ℤ, pos, ◌-ℤ◌, get_or, slice_get, nat_le, nat_lt, not, Bool, true, false, List, map, drop, length, Option, Some, None, option_map, is_some, if◌then◌else◌, refl, sym, ap, arith}
-use Rattle.std.proofs.lemmas.Bool.{eqb-true, false≢true}
+use Rattle.std.proofs.lemmas.Bool.{eqb-true, false≢true, leb-true}
 use Rattle.std.proofs.lemmas.Bool.Decides.{nat_tests}
 use Rattle.std.proofs.lemmas.List.{append_assoc}
 use Rattle.std.proofs.lemmas.List.Folds.{list_any-append}
@@ -10,6 +10,7 @@ use Rattle.std.proofs.lemmas.List.FromFn.{map-range_with_len_more}
 use Rattle.stop_schedule.specs.Planned.{planned}
 use Rattle.stop_schedule.specs.declared.stop_times.StopRow.{StopRow}
 use Rattle.gw_base.specs.declared.messages.StopUpdate.{StopUpdate}
+use Rattle.journey_model.proofs.Suppliers.{Rise, last_supplier, supplier-last}
 use Rattle.journey_model.specs.Propagation.{carried, prop, skips_at, supplied, supplier, supplies, timed}
 use Rattle.journey_model.specs.Runs.{Run, planned_at}
 use Rattle.journey_model.specs.Updates.{is_no_data, is_skipped, times}
@@ -71,12 +72,18 @@ unless-not : (one : ℕ × StopUpdate) (skips : Bool)
 unless-not one true = refl
 unless-not one false = refl
 
-supplier-before : (place : ℕ) (before : List (ℕ × StopUpdate)) → all_before place before ≡ true → supplier place before ≡ last_supply before
+supplier-before : (place : ℕ) (before : List (ℕ × StopUpdate)) → all_before place before ≡ true → last_supplier place before ≡ last_supply before
 supplier-before place [] e = refl
 supplier-before place (one ∷ others) e =
     let here = supplies-before place one (and-left (nat_lt one.0 place) (all_before place others) e) in
     rw (here, supplier-before place others (and-right (nat_lt one.0 place) (all_before place others) e))
     (ap (λ (last : Option (ℕ × StopUpdate)). option_or (last_supply others) last) (unless-not one (is_skipped one.1)))
+
+-- places that rise
+rises : (from : ℕ) (updates : List (ℕ × StopUpdate)) → are_rising_from from updates ≡ true → Rise from updates
+rises from [] e = tt
+rises from (one ∷ others) e =
+    (leb-true from one.0 (and-left (nat_le from one.0) (are_rising_from (one.0 + 1) others) e), rises (one.0 + 1) others (and-right (nat_le from one.0) (are_rising_from (one.0 + 1) others) e))
 
 -- updates behind a place neither skip nor supply it
 rising-lower : (from low : ℕ) (updates : List (ℕ × StopUpdate)) → nat_le low from ≡ true → are_rising_from from updates ≡ true → are_rising_from low updates ≡ true
@@ -96,7 +103,7 @@ skips-behind place (one ∷ others) e =
     let more = and-right (nat_le (place + 1) one.0) (are_rising_from (one.0 + 1) others) e in
     or_both _ _ (other_place one.0 place (is_skipped one.1) at) (skips-behind place others (rest-rising place one.0 others at more))
 
-supplier-behind : (place : ℕ) (behind : List (ℕ × StopUpdate)) → are_rising_from (place + 1) behind ≡ true → supplier place behind ≡ None
+supplier-behind : (place : ℕ) (behind : List (ℕ × StopUpdate)) → are_rising_from (place + 1) behind ≡ true → last_supplier place behind ≡ None
 supplier-behind place [] e = refl
 supplier-behind place (one ∷ others) e =
     let at = and-left (nat_le (place + 1) one.0) (are_rising_from (one.0 + 1) others) e in
@@ -112,10 +119,10 @@ option_or-none : {A : Type 0} (a : Option A) → option_or a None ≡ a
 option_or-none None = refl
 option_or-none (Some x) = refl
 
-supplier-append : (place : ℕ) (xs ys : List (ℕ × StopUpdate)) → supplier place (xs ++ ys) ≡ option_or (supplier place ys) (supplier place xs)
-supplier-append place [] ys = sym (option_or-none (supplier place ys))
+supplier-append : (place : ℕ) (xs ys : List (ℕ × StopUpdate)) → last_supplier place (xs ++ ys) ≡ option_or (last_supplier place ys) (last_supplier place xs)
+supplier-append place [] ys = sym (option_or-none (last_supplier place ys))
 supplier-append place (one ∷ xs) ys =
-    rw (supplier-append place xs ys) (option_or-assoc (supplier place ys) (supplier place xs) (if supplies place one then Some one else None))
+    rw (supplier-append place xs ys) (option_or-assoc (last_supplier place ys) (last_supplier place xs) (if supplies place one then Some one else None))
 
 last_supply-push : (xs : List (ℕ × StopUpdate)) (one : ℕ × StopUpdate) → last_supply (xs ++ one ∷ []) ≡ option_or (unless_skipped one) (last_supply xs)
 last_supply-push [] one = sym (option_or-none (unless_skipped one))
@@ -151,6 +158,7 @@ pub record Reached (run : Run) (updates : List (ℕ × StopUpdate)) (place : ℕ
   pub before : List (ℕ × StopUpdate)
   pub behind : List (ℕ × StopUpdate)
   pub split : updates ≡ before ++ behind
+  pub rise : Rise 0 updates
   pub earlier : all_before place before ≡ true
   pub rising : are_rising_from place behind ≡ true
   pub left : rest ≡ map (placed_at run) behind
@@ -159,7 +167,7 @@ pub record Reached (run : Run) (updates : List (ℕ × StopUpdate)) (place : ℕ
 pub reached_none : (run : Run) (updates : List (ℕ × StopUpdate)) (rest : List Placed) → are_rising_from 0 updates ≡ true → rest ≡ map (placed_at run) updates
     → Reached run updates 0 None rest
 reached_none run updates rest rising same =
-    record { before = []; behind = updates; split = refl; earlier = refl; rising = rising; left = same; carries = refl }
+    record { before = []; behind = updates; split = refl; rise = rises 0 updates rising; earlier = refl; rising = rising; left = same; carries = refl }
 
 before-more : (place : ℕ) (before : List (ℕ × StopUpdate)) → all_before place before ≡ true → all_before (place + 1) before ≡ true
 before-more place [] e = refl
@@ -174,13 +182,14 @@ before-push place (first ∷ before) one e h =
     rw (and-left (nat_lt first.0 (place + 1)) (all_before (place + 1) before) h) (before-push place before one e (and-right (nat_lt first.0 (place + 1)) (all_before (place + 1) before) h))
 
 -- a stop that no update is of
-prop-behind : (run : Run) (place : ℕ) (before behind : List (ℕ × StopUpdate)) → all_before place before ≡ true → are_rising_from (place + 1) behind ≡ true
-    → prop run (before ++ behind) place ≡ later (planned_at run place) (delay_of run (last_supply before))
-prop-behind run place before behind earlier rising =
+prop-behind : (run : Run) (place : ℕ) (before behind : List (ℕ × StopUpdate)) → Rise 0 (before ++ behind) → all_before place before ≡ true
+    → are_rising_from (place + 1) behind ≡ true → prop run (before ++ behind) place ≡ later (planned_at run place) (delay_of run (last_supply before))
+prop-behind run place before behind rise earlier rising =
     let none : skips_at place (before ++ behind) ≡ false =
     list_any-append (λ one. (one.0 == place) && is_skipped one.1) before behind ∙ or_both _ _ (skips-before place before earlier) (skips-behind place behind rising) in
     let same : supplier place (before ++ behind) ≡ last_supply before =
-    supplier-append place before behind ∙ (rw (supplier-behind place behind rising) (supplier-before place before earlier)) in
+    supplier-last place 0 (before ++ behind) rise ∙ supplier-append place before behind
+    ∙ (rw (supplier-behind place behind rising) (supplier-before place before earlier)) in
     rw (none, same) (supplied-later run place before earlier)
 
 -- a stop that an update is of
@@ -222,17 +231,17 @@ pub record Step (run : Run) (updates : List (ℕ × StopUpdate)) (place : ℕ) (
   pub reads : prop run updates place ≡ reading_at (planned_at run place) delay (first_at rest place)
   pub reached : Reached run updates (place + 1) (delay_behind delay (first_at rest place)) (if is_some (first_at rest place) then drop 1 rest else rest)
 
-step-here : (run : Run) (place : ℕ) (update : StopUpdate) (before others : List (ℕ × StopUpdate)) → all_before place before ≡ true
-    → are_rising_from (place + 1) others ≡ true
+step-here : (run : Run) (place : ℕ) (update : StopUpdate) (before others : List (ℕ × StopUpdate)) → Rise 0 (before ++ (place, update) ∷ others)
+    → all_before place before ≡ true → are_rising_from (place + 1) others ≡ true
     → Step run (before ++ (place, update) ∷ others) place (delay_of run (last_supply before)) (placed_at run (place, update) ∷ map (placed_at run) others)
-step-here run place update before others earlier rising =
+step-here run place update before others rise earlier rising =
     let here : (place == place) ≡ true = grind (arith, nat_tests) in
     let at : nat_le place place ≡ true = grind (arith, nat_tests) in
     let skips : skips_at place (before ++ (place, update) ∷ others) ≡ is_skipped update =
     list_any-append (λ one. (one.0 == place) && is_skipped one.1) before ((place, update) ∷ others)
     ∙ (rw (skips-before place before earlier, here, skips-behind place others rising) (or_false (is_skipped update))) in
     let supply : supplier place (before ++ (place, update) ∷ others) ≡ option_or (unless_skipped (place, update)) (last_supply before) =
-    supplier-append place before ((place, update) ∷ others)
+    supplier-last place 0 (before ++ (place, update) ∷ others) rise ∙ supplier-append place before ((place, update) ∷ others)
     ∙ (rw (supplier-behind place others rising, at, supplier-before place before earlier)
     (ap (λ (last : Option (ℕ × StopUpdate)). option_or last (last_supply before)) (unless-not (place, update) (is_skipped update)))) in
     record {
@@ -241,6 +250,7 @@ step-here run place update before others earlier rising =
         before = before ++ (place, update) ∷ [];
         behind = others;
         split = sym (append_assoc before ((place, update) ∷ []) others);
+        rise = rise;
         earlier = before-push place before (place, update) refl (before-more place before earlier);
         rising = rising;
         left = refl;
@@ -252,15 +262,16 @@ step-here run place update before others earlier rising =
     or_false true = refl
     or_false false = refl
 
-step-past : (run : Run) (place : ℕ) (before behind : List (ℕ × StopUpdate)) → all_before place before ≡ true → are_rising_from (place + 1) behind ≡ true
-    → first_at (map (placed_at run) behind) place ≡ None
+step-past : (run : Run) (place : ℕ) (before behind : List (ℕ × StopUpdate)) → Rise 0 (before ++ behind) → all_before place before ≡ true
+    → are_rising_from (place + 1) behind ≡ true → first_at (map (placed_at run) behind) place ≡ None
     → Step run (before ++ behind) place (delay_of run (last_supply before)) (map (placed_at run) behind)
-step-past run place before behind earlier rising none = record {
-  reads = rw none (prop-behind run place before behind earlier rising);
+step-past run place before behind rise earlier rising none = record {
+  reads = rw none (prop-behind run place before behind rise earlier rising);
   reached = rw none (record {
     before = before;
     behind = behind;
     split = refl;
+    rise = rise;
     earlier = before-more place before earlier;
     rising = rising;
     left = refl;
@@ -268,24 +279,25 @@ step-past run place before behind earlier rising none = record {
   });
 }
 
-step : (run : Run) (place : ℕ) (before behind : List (ℕ × StopUpdate)) → all_before place before ≡ true → are_rising_from place behind ≡ true
-    → Step run (before ++ behind) place (delay_of run (last_supply before)) (map (placed_at run) behind)
-step run place before [] earlier rising = step-past run place before [] earlier refl refl
-step run place before ((at, update) ∷ others) earlier rising = by (at == place) refl
+step : (run : Run) (place : ℕ) (before behind : List (ℕ × StopUpdate)) → Rise 0 (before ++ behind) → all_before place before ≡ true
+    → are_rising_from place behind ≡ true → Step run (before ++ behind) place (delay_of run (last_supply before)) (map (placed_at run) behind)
+step run place before [] rise earlier rising = step-past run place before [] rise earlier refl refl
+step run place before ((at, update) ∷ others) rise earlier rising = by (at == place) refl
   where
     by : (b : Bool) → (at == place) ≡ b → Step run (before ++ (at, update) ∷ others) place (delay_of run (last_supply before)) (placed_at run (at, update) ∷ map (placed_at run) others)
     by true e =
         let same : at ≡ place = eqb-true at place e in
         let more : are_rising_from (place + 1) others ≡ true = rw same at (and-right (nat_le place at) (are_rising_from (at + 1) others) rising) in
-        rw same (step-here run place update before others earlier more)
+        let whole : Rise 0 (before ++ (place, update) ∷ others) = rw same at rise in
+        rw same (step-here run place update before others whole earlier more)
     by false e =
         let low = and-left (nat_le place at) (are_rising_from (at + 1) others) rising in
         let past : nat_le (place + 1) at ≡ true = grind (arith, nat_tests) in
-        step-past run place before ((at, update) ∷ others) earlier (rw past (and-right (nat_le place at) (are_rising_from (at + 1) others) rising)) (rw e refl)
+        step-past run place before ((at, update) ∷ others) rise earlier (rw past (and-right (nat_le place at) (are_rising_from (at + 1) others) rising)) (rw e refl)
 
 pub step-reached : (run : Run) (updates : List (ℕ × StopUpdate)) (place : ℕ) (delay : Option ℤ) (rest : List Placed) → Reached run updates place delay rest
     → Step run updates place delay rest
-step-reached run updates place delay rest h = rw (h.split, h.left, h.carries) (step run place h.before h.behind h.earlier h.rising)
+step-reached run updates place delay rest h = rw (h.split, h.left, h.carries) (step run place h.before h.behind (rw h.split at h.rise) h.earlier h.rising)
 
 -- the stops before a place read like this, and what is carried to it
 pub record SpreadTo (run : Run) (updates : List (ℕ × StopUpdate)) (place : ℕ) (delay : Option ℤ) (rest : List Placed) (all : List StopReading) : Type 0 where

@@ -8,6 +8,7 @@ use Rattle.gw_base.specs.declared.messages.StopUpdate.{StopUpdate}
 use Rattle.stop_schedule.specs.Planned.{planned}
 use Rattle.stop_schedule.specs.Stops.{are_rising}
 use Rattle.stop_schedule.specs.declared.stop_times.StopRow.{StopRow}
+use Rattle.journey_model.proofs.Suppliers.{Rise}
 use Rattle.journey_model.specs.Dated.{run_of}
 use Rattle.journey_model.specs.Propagation.{propagated}
 use Rattle.journey_model.specs.Readings.{are_near, fits_trip, is_near}
@@ -23,7 +24,7 @@ use Rattle.sparse_planner.specs.Means.{HasPlace, IsLeastOf, Says}
 use Rattle.sparse_planner.specs.Shortest.{is_skipped, same_reading, shortest, update}
 use Rattle.sparse_planner.proofs.Placing.{places-plan, places-rise, plan_places}
 use Rattle.sparse_planner.proofs.States.{delay_behind, needs, plan_from, running, updates-plan}
-use Rattle.sparse_planner.proofs.Walks.{Rise, own, prop-walk, rise-lower, walk}
+use Rattle.sparse_planner.proofs.Walks.{own, prop-walk, rise-lower, walk}
 
 -- ---- a stop without an update reads as is supplied to it
 

@@ -6,6 +6,7 @@ use Rattle.gw_base.specs.declared.messages.StopUpdate.{StopUpdate}
 use Rattle.stop_schedule.specs.Planned.{planned}
 use Rattle.stop_schedule.specs.Stops.{are_rising}
 use Rattle.stop_schedule.specs.declared.stop_times.StopRow.{StopRow}
+use Rattle.journey_model.proofs.Suppliers.{Rise}
 use Rattle.journey_model.specs.Chains.{◌>>=◌}
 use Rattle.journey_model.specs.Matching.{agrees, first_place, has_sequence, in_order, is_of_stop, place_behind, place_by_sequence, place_by_stop, stands_at, update_place}
 use Rattle.journey_model.specs.Readings.{are_near, is_near}
@@ -22,7 +23,7 @@ use Rattle.journey_model.specs.declared.readings.StopReading.{StopReading}
 use Rattle.journey_model.specs.declared.readings.StopReading.TheVariants.{Absent, Skipped, Timed}
 use Rattle.sparse_planner.specs.Shortest.{update}
 use Rattle.sparse_planner.proofs.States.{delay_behind, needs, plan_from}
-use Rattle.sparse_planner.proofs.Walks.{Rise, planned-here, stop-here, stops-more, length-more}
+use Rattle.sparse_planner.proofs.Walks.{planned-here, stop-here, stops-more, length-more}
 
 -- the places of the updates of stops from a place on, behind others that supply this delay
 abbrev pub plan_places : ℤ → ℕ → Option ℤ → List (StopRow × StopReading) → List ℕ

@@ -1,6 +1,5 @@
 -- What placed updates say of stops, in one walk: behind an update the delay that it supplies is kept.
 use Rattle.std.proofs.Common.{append_assoc, length-append, ◌≡◌, ◌∙◌, ◌+◌, ◌<◌, ◌≤◌, ◌==◌, ◌++◌, ◌-ℤ◌, ℕ, ℤ, pos, Bool, true, false, not, List, [], ◌∷◌, map, length, slice_get, Option, Some, None, IfSome, option_map, if◌then◌else◌, refl, ap, ap₂, sym, subst, arith, eqb-true, ne_eqb, le-leb, eq-eqb}
-use Rattle.std.specs.Prelude.{⊤}
 use Rattle.std.specs.List.{range_with_len}
 use Rattle.std.specs.Option.{option_map_or, option_or}
 use Rattle.std.proofs.lemmas.Bool.{eqb-false, lt-leb}
@@ -9,6 +8,7 @@ use Rattle.std.proofs.lemmas.Option.{IfSome_then}
 use Rattle.gw_base.specs.declared.messages.StopUpdate.{StopUpdate}
 use Rattle.stop_schedule.specs.Planned.{planned}
 use Rattle.stop_schedule.specs.declared.stop_times.StopRow.{StopRow}
+use Rattle.journey_model.proofs.Suppliers.{Rise, last_supplier, supplier-last}
 use Rattle.journey_model.specs.Propagation.{carried, prop, skips_at, supplied, supplier, supplies, timed}
 use Rattle.journey_model.specs.Runs.{Run, planned_at}
 use Rattle.journey_model.specs.Updates.{is_no_data, is_skipped, times}
@@ -29,11 +29,6 @@ walk start place delay (row ∷ rows) (one ∷ others) =
     then own (planned start row) one.1 ∷ walk start (place + 1) (delay_behind start delay row (own (planned start row) one.1)) rows others
     else running (planned start row) delay ∷ walk start (place + 1) delay rows (one ∷ others)
 
--- the places rise, from a place on
-abbrev pub Rise : ℕ → List (ℕ × StopUpdate) → Type 0
-Rise from [] = ⊤
-Rise from (one ∷ others) = (from ≤ one.0) × Rise (one.0 + 1) others
-
 pub rise-lower : (low high : ℕ) (placed : List (ℕ × StopUpdate)) → low ≤ high → Rise high placed → Rise low placed
 rise-lower low high [] le h = tt
 rise-lower low high (one ∷ others) le h = let first : high ≤ one.0 = h.0 in (omega arith, h.1)
@@ -46,7 +41,7 @@ skips-none place from (one ∷ others) lt h =
     let first : from ≤ one.0 = h.0 in
     rw (ne_eqb one.0 place (λ e. absurd (omega arith))) (skips-none place (one.0 + 1) others (omega arith) h.1)
 
-supplier-none : (place from : ℕ) (placed : List (ℕ × StopUpdate)) → place < from → Rise from placed → supplier place placed ≡ None
+supplier-none : (place from : ℕ) (placed : List (ℕ × StopUpdate)) → place < from → Rise from placed → last_supplier place placed ≡ None
 supplier-none place from [] lt h = refl
 supplier-none place from (one ∷ others) lt h =
     let first : from ≤ one.0 = h.0 in
@@ -78,12 +73,12 @@ supplied-behind run place (Some one) h =
 -- by the last that isn't SKIPPED
 pub record Left (placed : List (ℕ × StopUpdate)) (place : ℕ) (found : Option (ℕ × StopUpdate)) (rest : List (ℕ × StopUpdate)) : Type 0 where
   pub skips : (later : ℕ) → place ≤ later → skips_at later placed ≡ skips_at later rest
-  pub supplier_is : (later : ℕ) → place ≤ later → supplier later placed ≡ option_or (supplier later rest) found
+  pub supplier_is : (later : ℕ) → place ≤ later → supplier later placed ≡ option_or (last_supplier later rest) found
   pub before : IfSome found (λ one. one.0 < place)
   pub rise : Rise place rest
 
 at-first : (placed : List (ℕ × StopUpdate)) → Rise 0 placed → Left placed 0 None placed
-at-first placed h = record { skips = λ later le. refl; supplier_is = λ later le. sym (or-none (supplier later placed)); before = tt; rise = h }
+at-first placed h = record { skips = λ later le. refl; supplier_is = λ later le. supplier-last later 0 placed h ∙ sym (or-none (last_supplier later placed)); before = tt; rise = h }
 
 -- no update stands at the place
 past : (placed : List (ℕ × StopUpdate)) (place : ℕ) (found : Option (ℕ × StopUpdate)) (rest : List (ℕ × StopUpdate))
@@ -103,11 +98,11 @@ skips-passed : (later : ℕ) (one : ℕ × StopUpdate) (others : List (ℕ × St
 skips-passed later one others lt = rw (ne_eqb one.0 later (λ e. absurd (omega arith))) refl
 
 supplier-passed : (later : ℕ) (one : ℕ × StopUpdate) (others : List (ℕ × StopUpdate)) (found : Option (ℕ × StopUpdate)) → one.0 ≤ later
-    → option_or (supplier later (one ∷ others)) found ≡ option_or (supplier later others) (passed found one)
+    → option_or (last_supplier later (one ∷ others)) found ≡ option_or (last_supplier later others) (passed found one)
 unfolding passed
 supplier-passed later one others found le =
-    or-assoc (supplier later others) (if supplies later one then Some one else None) found
-    ∙ ap (option_or (supplier later others)) (rw (le-leb one.0 later le) (by (is_skipped one.1)))
+    or-assoc (last_supplier later others) (if supplies later one then Some one else None) found
+    ∙ ap (option_or (last_supplier later others)) (rw (le-leb one.0 later le) (by (is_skipped one.1)))
   where
     by : (skipped : Bool) → option_or (if not skipped then Some one else None) found ≡ (if skipped then found else Some one)
     by true = refl
@@ -148,7 +143,7 @@ skips-at : (place : ℕ) (one : ℕ × StopUpdate) (others : List (ℕ × StopUp
 skips-at place one others e rise = rw (eq-eqb one.0 place e, skips-none place (place + 1) others (omega arith) rise) (or-false (is_skipped one.1))
 
 supplier-at : (place : ℕ) (found : Option (ℕ × StopUpdate)) (one : ℕ × StopUpdate) (others : List (ℕ × StopUpdate)) → one.0 ≡ place → Rise (place + 1) others
-    → option_or (supplier place (one ∷ others)) found ≡ passed found one
+    → option_or (last_supplier place (one ∷ others)) found ≡ passed found one
 supplier-at place found one others e rise =
     supplier-passed place one others found (omega arith)
     ∙ ap (λ behind. option_or behind (passed found one)) (supplier-none place (place + 1) others (omega arith) rise)

@@ -3,6 +3,7 @@ use Rattle.std.proofs.lemmas.List.Sorted.{IsPermutation-reverse, IsPermutation-t
 use Rattle.std.specs.List.Sorted.{IsPermutation}
 use Rattle.journey_model.specs.FeedReadings.{given_all, last_of_each, readings}
 use Rattle.journey_model.specs.Schedules.{schedule_of}
+use Rattle.propagation.proofs.LastLemmas.{last_there}
 use Rattle.propagation.proofs.ServableLemmas.{all-servable}
 use Rattle.propagation.proofs.feeds.readings_of.Goals as goal
 
@@ -16,6 +17,7 @@ returns c =
     IsPermutation-trans last c.in_ok-last_of_each.field-0.items c.in_ok-journeys.journeys front c.in_ok-journeys.ensures.same in
     record {
       same = same;
+      each_last = λ trip day. last_there trip day (given_all (readings schedule c.args.feed.now)) c.in_ok-journeys.journeys same;
       sorted = c.in_ok-journeys.ensures.sorted;
       servable = all-servable schedule c.args.feed.now c.in_ok-journeys.journeys same;
       taken = c.len-taken.ensures.value ∙ ap length sorted_out.given;
