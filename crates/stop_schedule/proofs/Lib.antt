@@ -7,6 +7,7 @@ pub mod FolderLemmas
 pub mod FormLemmas
 pub mod IdLemmas
 pub mod JoinLemmas
+pub mod KeepingLemmas
 pub mod KnownLemmas
 pub mod ListLemmas
 pub mod NearestLemmas
