@@ -3,6 +3,7 @@ pub mod DigitLemmas
 pub mod FaultLemmas
 pub mod FieldLemmas
 pub mod FillLemmas
+pub mod FitLemmas
 pub mod FolderLemmas
 pub mod FormLemmas
 pub mod IdLemmas
