@@ -6,3 +6,4 @@ pub mod MomentTextLemmas
 pub mod StartLemmas
 pub mod UtcLemmas
 pub mod WindowLemmas
+pub mod ZoneLemmas

@@ -1,10 +1,10 @@
 -- What is written of a moment is read as that moment in every zone, what is written of a day as that day, and both are UTF-8.
-use Rattle.std.proofs.Common.{◌≡◌, ℕ, zero, suc, ◌+◌, ◌*◌, ◌/◌, ◌%◌, ◌<◌, ◌≤◌, take, drop, List, [], ◌∷◌, ◌++◌, length, Bool, true, false, if◌then◌else◌, IsUtf8, IsAscii, slice_index, inl, inr, arith, lit<, lt-ltb, le-leb, refl, sym, ap, ◌∙◌, ℤ, pos, negsuc, ◌+ℤ◌, ◌-ℤ◌, ◌*ℤ◌, ◌<ℤ◌, ◌≤ℤ◌, Some, None}
+use Rattle.std.proofs.Common.{◌≡◌, ℕ, zero, suc, ◌+◌, ◌*◌, ◌/◌, ◌%◌, ◌<◌, ◌≤◌, List, [], ◌∷◌, ◌++◌, length, Bool, true, false, if◌then◌else◌, IsUtf8, IsAscii, inl, inr, arith, lit<, lt-ltb, le-leb, refl, ap, ◌∙◌, ℤ, pos, negsuc, ◌+ℤ◌, ◌-ℤ◌, ◌*ℤ◌, ◌≤ℤ◌, Some, None}
 use Rattle.std.proofs.lemmas.Bool.{cases_lt}
 use Rattle.std.proofs.lemmas.Bool.Decides.{nat_tests}
 use Rattle.std.proofs.lemmas.Int.{ints}
 use Rattle.std.proofs.lemmas.Str.{IsUtf8-append, IsUtf8-nil, IsUtf8-from_ascii}
-use Rattle.jiff_core.specs.Calendar.{IsBetween, IsCivilDate, day_count, days_from_civil, days_in_month}
+use Rattle.jiff_core.specs.Calendar.{IsCivilDate, day_count}
 use Rattle.jiff_core.proofs.SignedLemmas.{signed_arith}
 use Rattle.jiff_core.proofs.CalendarLemmas.{days_from_civil-day_count, days_in_month_bounds, day_count-lt_year, day_count-day_of_year, day_count-last_of_year, day_count-epoch}
 use Rattle.jiff_core.proofs.DateLemmas.{days_from_civil-max}
@@ -18,7 +18,7 @@ use Rattle.service_day.specs.declared.days.DayForm.TheVariants.{Either}
 use Rattle.service_day.specs.declared.moments.Offset.TheVariants.{Ahead}
 use Rattle.service_day.specs.declared.zones.Rules.{Rules}
 use Rattle.service_day.proofs.FormLemmas.{is_digit-written}
-use Rattle.service_day.proofs.DayLemmas.{date_number-parts, days_from_civil-parts, year_low, year_high, month_low, month_high, day_low, day_high}
+use Rattle.service_day.proofs.DayLemmas.{date_number-parts, days_from_civil-parts, year_high, month_low, month_high, day_low, day_high}
 use Rattle.service_day.proofs.DayTextLemmas.{dashed_day-dashed_text}
 use Rattle.service_day.proofs.MomentLemmas.{moment_of-all}
 

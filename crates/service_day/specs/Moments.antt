@@ -1,5 +1,7 @@
 -- Moment texts (ISO 8601): `YYYY-MM-DDThh:mm:ss`, a fraction or none, then `Z`, an offset or nothing.
 use Rattle.std.specs.Prelude.{ℕ, suc, ◌+◌, ◌-◌, ◌*◌, ◌/◌, ◌&&◌, ◌==◌, nat_le, nat_lt, if◌then◌else◌, ℤ, pos, neg_ℤ, ◌+ℤ◌, ◌-ℤ◌, ◌*ℤ◌, Option, Some, None, option_and_then, List, [], ◌∷◌, take, drop, length, slice_index, codes}
+use Rattle.std.specs.Ordering.{int_cmp, nat_cmp, ordering_then}
+use Rattle.std.specs.declared.cmp.Ordering.{Ordering}
 use Rattle.jiff_core.specs.Calendar.{IsWithin}
 use Rattle.service_day.specs.Digits.{is_digit, has_form, two_at, four_at}
 use Rattle.service_day.specs.Days.{date_number}
@@ -100,3 +102,7 @@ moment_of zone text =
     fraction_part (drop 19 text) >>= (λ fraction.
     offset_part (drop fraction.1 (drop 19 text)) >>= (λ offset.
     instant_if (second_at zone offset shown.0 shown.1) fraction.0)))
+
+-- how one instant stands to another, each in seconds and nanoseconds: by the seconds, and where these are equal by the nanoseconds
+abbrev pub instant_order : ℤ × ℕ → ℤ × ℕ → Ordering
+instant_order a b = ordering_then (int_cmp a.0 b.0) (nat_cmp a.1 b.1)

@@ -1,12 +1,14 @@
 //! A service day: a date of the years 0001 to 9999, held as its number of days since 1970-01-01.
 //! The calendar is `jiff`'s.
-ghost use Rattle.std.specs.Prelude.{◌≡◌, ◌↔◌, ◌/◌, ◌<◌, ◌≤ℤ◌, ◌+ℤ◌, pos, unsigned_abs, IsSome, IfSome};
+ghost use Rattle.std.specs.Prelude.{◌≡◌, ◌↔◌, ◌/◌, ◌<◌, ◌≤ℤ◌, ◌+ℤ◌, pos, unsigned_abs, Some, IsSome, IfSome};
+ghost use Rattle.std.specs.Ordering.{int_cmp};
 ghost use Rattle.jiff_core.specs.Calendar.{weekday_number};
 ghost use Rattle.jiff_core.specs.Date.{epoch_day};
 ghost use Rattle.service_day.specs.Days.{IsDay, date_number, year_of, month_of, day_of_month};
 ghost use Rattle.service_day.specs.Utc.{IsMoment};
 
 use jiff_core::civil::Date;
+use std::cmp::Ordering;
 use std::marker::Model;
 
 /// 0001-01-01.
@@ -46,6 +48,15 @@ pub enum DayForm {
 }
 
 impl Day {
+    /// How it stands to another, as all comparisons answer it: by the number.
+    pub fn order(&self, other: &Day) -> Ordering
+        ensures value { result ≡ int_cmp self.now other.now }
+        ensures cmp { ⟦<Day as Ord>⟧.cmp self.now other.now ≡ result }
+        ensures partial_cmp { ⟦<Day as PartialOrd>⟧.partial_cmp self.now other.now ≡ Some result }
+    {
+        self.cmp(other)
+    }
+
     /// Days since 1970-01-01.
     pub fn number(&self) -> i32
         ensures value { result ≡ self.now }

@@ -9,6 +9,7 @@ use crate::digits::{four_at, has_form, is_digit, two_at};
 use crate::starts::local_second;
 use crate::utc::{LAST_MOMENT, is_clock};
 use crate::zones::Zone;
+use std::cmp::Ordering;
 
 /// An instant of the years 1970 to 9998 in UTC: seconds since 1970-01-01T00:00:00Z, and nanoseconds
 /// beyond them.
@@ -20,6 +21,18 @@ pub struct Instant {
     pub nanos: u32,
     pub ghost secs_in: { IsMoment secs },
     pub ghost nanos_in: { nanos < 1000000000 },
+}
+
+impl Instant {
+    /// How it stands to another, as all comparisons answer it: by the seconds, and where these are equal by
+    /// the nanoseconds.
+    pub fn order(&self, other: &Instant) -> Ordering
+        ensures value { result ≡ spec.instant_order (self.now.secs, self.now.nanos) (other.now.secs, other.now.nanos) }
+        ensures cmp { ⟦<Instant as Ord>⟧.cmp self.now other.now ≡ result }
+        ensures partial_cmp { ⟦<Instant as PartialOrd>⟧.partial_cmp self.now other.now ≡ Some result }
+    {
+        self.cmp(other)
+    }
 }
 
 /// Why no instant was read.

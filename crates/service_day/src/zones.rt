@@ -46,6 +46,7 @@ pub enum ZoneFault {
 }
 
 impl Zone {
+    ghost use Rattle.service_day.specs.declared.zones.Rules.{Rules};
     ghost use Rattle.service_day.specs.Zones.{IsRuleZone, IsBadRule, IsTableZone, IsBadTable, offset_at, local_offset};
 
     /// The zone of a POSIX rule such as `CET-1CEST,M3.5.0,M10.5.0/3`. Refused exactly where `jiff`
@@ -65,12 +66,14 @@ impl Zone {
     }
 
     /// The zone of a TZif file (RFC 9636). Refused exactly where `jiff` reads no zone from the bytes for
-    /// another cause than memory: always where they aren't of the format, and else only where the
-    /// footer's rule doesn't agree with the table, which is never taken.
+    /// another cause than memory: they aren't of the format, or the footer's rule doesn't agree with the
+    /// table. No bytes are both: what is refused once is never taken, and what is taken never refused.
     pub fn from_file(alloc: Global, bytes: &[u8]) -> Result<Zone, ZoneFault>
         ensures value { IfOk result (IsTableZone bytes.now) }
         ensures refuses { IsErr (read_tzif bytes.now) → result ≡ Err ZoneFault.Refused }
         ensures refused { result ≡ Err ZoneFault.Refused → IsBadTable bytes.now }
+        ensures never_taken { result ≡ Err ZoneFault.Refused → (rules : Rules) → IsTableZone bytes.now rules → ⊥ }
+        ensures never_refused { IsOk result → IsBadTable bytes.now → ⊥ }
     {
         match Tzif::parse(alloc, None, bytes) {
             Ok(table) => Ok(Zone {

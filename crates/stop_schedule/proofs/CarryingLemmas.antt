@@ -42,6 +42,7 @@ of-more rows more (trip ∷ trips) (one ∷ ones) all =
       record {
         route_is = all.0.route_is;
         service_is = all.0.service_is;
+        ordered = all.0.ordered;
         within = let both : length (rows ++ more) ≡ length rows + length more = length-append rows more in omega arith;
         stops_are = ap (drop trip.first) (take-append-le trip.end rows more within) ∙ all.0.stops_are;
       },
@@ -66,6 +67,7 @@ carries_one old new ones one carries adds = record {
     last = record {
       route_is = refl;
       service_is = refl;
+      ordered = let both : length (old.stop_rows.items ++ filled one.stops) ≡ length old.stop_rows.items + length (filled one.stops) = length-append old.stop_rows.items (filled one.stops) in omega arith;
       within = omega arith;
       stops_are = ap (drop (length old.stop_rows.items)) (take-length (old.stop_rows.items ++ filled one.stops)) ∙ drop-append_seam old.stop_rows.items (filled one.stops);
     }

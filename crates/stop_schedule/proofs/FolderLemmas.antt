@@ -171,7 +171,7 @@ untimed_same routes services stops_of (one ∷ ones) (row ∷ of) all = λ i. un
 
 -- ---- the timetable of what was read
 
-abbrev listed : FolderRows → Lists
+abbrev pub listed : FolderRows → Lists
 listed folder = record {
   ids = folder.trips.ids;
   routes = folder.trips.routes.items;

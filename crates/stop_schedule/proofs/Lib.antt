@@ -3,10 +3,12 @@ pub mod DigitLemmas
 pub mod FaultLemmas
 pub mod FieldLemmas
 pub mod FillLemmas
+pub mod FitLemmas
 pub mod FolderLemmas
 pub mod FormLemmas
 pub mod IdLemmas
 pub mod JoinLemmas
+pub mod KeepingLemmas
 pub mod KnownLemmas
 pub mod ListLemmas
 pub mod NearestLemmas

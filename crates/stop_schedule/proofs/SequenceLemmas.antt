@@ -111,7 +111,7 @@ pub any-in_sequence : (test : LoadedStop → Bool) (stops : List LoadedStop) →
 any-in_sequence test [] = refl
 any-in_sequence test (stop ∷ stops) = any-placed test stop (in_sequence stops) ∙ ap (λ rest. test stop || rest) (any-in_sequence test stops)
 
-length-placed : (stop : LoadedStop) (stops : List LoadedStop) → length (placed stop stops) ≡ suc (length stops)
+pub length-placed : (stop : LoadedStop) (stops : List LoadedStop) → length (placed stop stops) ≡ suc (length stops)
 length-placed stop [] = refl
 length-placed stop (first ∷ stops) = by (length-placed stop stops) (nat_lt stop.sequence first.sequence)
   where

@@ -1,13 +1,26 @@
 -- Rows that are taken one after the other.
-use Rattle.std.proofs.Common.{◌≡◌, ◌∙◌, ◌+◌, ℕ, List, [], ◌∷◌, ◌++◌, length, Option, Some, None, ap, sym, append_assoc}
+use Rattle.std.proofs.Common.{◌≡◌, ◌∙◌, ◌≤◌, ◌+◌, ℕ, List, [], ◌∷◌, ◌++◌, length, Option, Some, None, ap, sym, append_assoc, arith}
 use Rattle.std.specs.Prelude.{⊤}
 use Rattle.std.specs.Bool.{MatchBool}
 use Rattle.stop_schedule.specs.Answers.{is_free}
 use Rattle.stop_schedule.specs.Faults.{first_fault, row_fault}
+use Rattle.stop_schedule.specs.Layout.{row_limit}
 use Rattle.stop_schedule.specs.Sheet.{Row}
 use Rattle.stop_schedule.specs.declared.table_file.TableFile.{TableFile}
+use Rattle.stop_schedule.specs.declared.table_file.TableFile.TheVariants.{Agency, Stops, Routes, Trips, Calendar, CalendarDates, Frequencies, StopTimes}
 use Rattle.stop_schedule.specs.declared.table_fault.TableFault.{TableFault}
 use Rattle.stop_schedule.proofs.FaultLemmas.{fault-here, next-row, said-of}
+
+-- no file has more rows than that
+pub few-rows : (number : ℕ) (file : TableFile) → number ≤ row_limit file → number ≤ 4000000
+few-rows number Agency within = omega (arith, within)
+few-rows number Stops within = omega (arith, within)
+few-rows number Routes within = omega (arith, within)
+few-rows number Trips within = omega (arith, within)
+few-rows number Calendar within = omega (arith, within)
+few-rows number CalendarDates within = omega (arith, within)
+few-rows number Frequencies within = omega (arith, within)
+few-rows number StopTimes within = omega (arith, within)
 
 -- some rows were taken without fault, and these are left
 pub record SoFar {S : Type 0} (Holds : S → S → List Row → Type 0) (file : TableFile) (further : List Row → Row → Option TableFault)

@@ -46,6 +46,7 @@ ids_to ids carried (suc place) =
 pub record IsOf (rows : List StopRow) (trip : CarriedTrip) (made_of : Candidate) : Type 0 where
   pub route_is : trip.route ≡ made_of.route
   pub service_is : trip.service ≡ made_of.service
+  pub ordered : trip.first ≤ trip.end
   pub within : trip.end ≤ length rows
   pub stops_are : drop trip.first (take trip.end rows) ≡ filled made_of.stops
 

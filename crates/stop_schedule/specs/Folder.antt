@@ -1,6 +1,7 @@
 -- What is held of the rows of all files.
-use Rattle.std.specs.Prelude.{◌≡◌, ℕ, List, map}
+use Rattle.std.specs.Prelude.{◌≡◌, ℕ, true, List, map, length}
 use Rattle.stop_schedule.specs.Holding.{Calendars, Exceptions, HoldsServices, HoldsStops, HoldsTrips}
+use Rattle.stop_schedule.specs.Keeping.{HasTrips, all_loaded}
 use Rattle.stop_schedule.specs.Sheet.{rows_in}
 use Rattle.stop_schedule.specs.Timetable.{Sheets}
 use Rattle.stop_schedule.specs.TripStops.{stops_kept}
@@ -21,3 +22,8 @@ pub record HoldsRest (stops routes : List (List ℕ)) (folder : FolderRows) (she
   pub runs : HoldsRuns routes folder.trips.ids folder.trips.routes.items folder.trips.services.items folder.services.calendars folder.services.exceptions sheets
   pub carried : folder.carried.items ≡ map (is_carried (rows_in (sheets Frequencies))) folder.trips.ids
   pub by_trip : HoldsStops folder.trips.ids stops (map stops_kept folder.by_trip.items) (rows_in (sheets StopTimes))
+
+-- what is known of it whatever the files say: its trips have routes, and their stops are known and in order
+pub record IsLoaded (folder : FolderRows) : Type 0 where
+  pub trips : HasTrips (length folder.routes) folder.trips.ids folder.trips.routes.items
+  pub stops : all_loaded (length folder.stops) (map stops_kept folder.by_trip.items) ≡ true

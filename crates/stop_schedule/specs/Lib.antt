@@ -9,6 +9,7 @@ pub mod Forms
 pub mod Held
 pub mod Holding
 pub mod Ids
+pub mod Keeping
 pub mod Layout
 pub mod Planned
 pub mod Reading

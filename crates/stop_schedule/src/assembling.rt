@@ -1,11 +1,10 @@
 //! The timetable of what was read of a folder. The functions meet `specs/Timetable.antt`.
-ghost use Rattle.std.specs.Prelude.{◌≡◌, ◌<◌, ◌++◌, ◌∷◌, if◌then◌else◌, ℕ, List, true, false, [], length, map, slice_index_or, IfErr, IfOk, IfSome, OnOk};
-ghost use Rattle.std.specs.List.{list_all};
+ghost use Rattle.std.specs.Prelude.{◌≡◌, ◌<◌, ◌≤◌, ◌++◌, ◌∷◌, if◌then◌else◌, ℕ, List, true, false, [], length, map, slice_index_or, IfErr, IfOk, IfSome, OnOk};
 ghost use Rattle.gw_base.specs.Count.{Counts};
 ghost use Rattle.stop_schedule.specs.Answers.{HasFailed};
-ghost use Rattle.stop_schedule.specs.Held.{is_in_range as in_range_of, are_in_range as all_in_range_of};
 ghost use Rattle.stop_schedule.specs.Carrying.{Adds, Carries, carried_to, ids_to};
-ghost use Rattle.stop_schedule.specs.Folder.{HoldsRest};
+ghost use Rattle.stop_schedule.specs.Folder.{HoldsRest, IsLoaded};
+ghost use Rattle.stop_schedule.specs.Ids.{has_id};
 ghost use Rattle.stop_schedule.specs.Reading.{Assembles, IsAssembled, Reads};
 ghost use Rattle.stop_schedule.specs.Timetable.{Sheets, ids_in, timetable as timetable_of};
 ghost use Rattle.stop_schedule.specs.TripStops.{stops_kept};
@@ -15,16 +14,12 @@ use crate::carried::CarriedTrip;
 use crate::folder_rows::{FolderRows, read_folder};
 use crate::ids::Ids;
 use crate::loading::Trips;
-use crate::stop_checks::are_stops_of;
 use crate::stop_times::{LoadedStop, StopRow, lesser, push_filled, untimed_end};
 use crate::table_fault::TableFault;
 use crate::timetable::Timetable;
 use crate::trip_stops::TripStops;
 use gw_base::Files;
 use std::alloc::{AllocError, Global};
-
-// The trips that a timetable has at most.
-const MAX_TRIPS: usize = 200_000;
 
 // The trips that are carried so far, with their stops one behind the other, and the least row of an end without
 // times.
@@ -126,7 +121,7 @@ fn are_all_carried(carried: &[bool], count: usize) -> bool
     carried.len() >= count && carried.iter().all(|one| *one)
 }
 
-// Adds the id at a place where its trip is carried. It is an id and is new, since each stands in `trips.txt` once.
+// Adds the id at a place where its trip is carried; it is new there.
 fn keep_at(
     alloc: Global,
     kept: &mut Ids,
@@ -134,7 +129,9 @@ fn keep_at(
     carried: &[bool],
     place: usize,
 ) -> Result<(), AllocError>
-    requires { place < length ids.now }
+    requires within { place < length ids.now }
+    requires new { has_id (slice_index_or ids.now place []) kept.old ≡ false }
+    requires room { length kept.old ≤ place }
     ensures { OnOk result (kept.new ≡ kept.old
         ++ (if slice_index_or carried.now place false then slice_index_or ids.now place [] ∷ [] else [])) }
 {
@@ -142,9 +139,8 @@ fn keep_at(
         return Ok(());
     }
     let _ = ids.len();
-    if !kept.add(alloc, ids.at(place as u32).as_bytes())? {
-        return Err(AllocError);
-    }
+    let added = kept.add(alloc, ids.at(place as u32).as_bytes())?;
+    prove!(added);
     Ok(())
 }
 
@@ -162,43 +158,9 @@ fn carried_ids(alloc: Global, ids: Ids, carried: &[bool]) -> Result<Ids, AllocEr
     Ok(kept)
 }
 
-// Whether a trip's numbers and places are in range, and its stops are those of a trip.
-fn is_in_range(trip: &CarriedTrip, routes: usize, stops: usize, rows: &[StopRow]) -> bool
-    ensures { result ≡ in_range_of routes stops rows.now trip.now }
-{
-    if trip.route as usize >= routes || trip.first > trip.end || trip.end > rows.len() {
-        return false;
-    }
-    let (front, _) = rows.split_at(trip.end);
-    let (_, held) = front.split_at(trip.first);
-    are_stops_of(held, stops)
-}
-
-// Whether that holds of each trip.
-fn each_in_range(trips: &[CarriedTrip], routes: usize, stops: usize, rows: &[StopRow]) -> bool
-    ensures { result ≡ list_all (in_range_of routes stops rows.now) trips.now }
-{
-    trips
-        .iter()
-        .all(|trip| is_in_range(trip, routes, stops, rows))
-}
-
-// Whether each trip's numbers, places and stops are in range, and there are not too many.
-fn are_in_range(all: &Assembled, trips: &Ids, routes: &Ids, stops: &Ids) -> bool
-    ensures { result ≡ all_in_range_of trips.now routes.now stops.now all.now.carried.items all.now.stop_rows.items }
-{
-    all.carried.as_slice().len() == trips.len()
-        && trips.len() <= MAX_TRIPS
-        && each_in_range(
-            all.carried.as_slice(),
-            routes.len(),
-            stops.len(),
-            all.stop_rows.as_slice(),
-        )
-}
-
 // The timetable of what was read.
 fn assemble(alloc: Global, folder: FolderRows) -> Result<Timetable, TableFault>
+    requires { IsLoaded folder }
     ensures exact { (sheets : Sheets) → HoldsRest (ids_in sheets File.Stops) (ids_in sheets File.Routes) folder sheets
         → Assembles sheets result }
     ensures faults { IfErr result IsAssembled }
@@ -221,9 +183,6 @@ fn assemble(alloc: Global, folder: FolderRows) -> Result<Timetable, TableFault>
         services: _,
     } = trips;
     let trips = carried_ids(alloc, ids, carried.as_slice())?;
-    if !are_in_range(&all, &trips, &routes, &stops) {
-        return Err(TableFault::Memory);
-    }
     let Assembled {
         carried,
         stop_rows,

@@ -1,9 +1,10 @@
 //! All files of a folder, read in their order. The functions meet `specs/Timetable.antt`.
-ghost use Rattle.std.specs.Prelude.{◌≡◌, map, IfSome};
+ghost use Rattle.std.specs.Prelude.{◌≡◌, true, map, length, IfOk, IfSome};
 ghost use Rattle.gw_base.specs.Count.{Counts};
 ghost use Rattle.stop_schedule.specs.Answers.{Finds, HasFailed};
-ghost use Rattle.stop_schedule.specs.Folder.{HoldsRest, HoldsRuns};
+ghost use Rattle.stop_schedule.specs.Folder.{HoldsRest, HoldsRuns, IsLoaded};
 ghost use Rattle.stop_schedule.specs.Holding.{HoldsStops};
+ghost use Rattle.stop_schedule.specs.Keeping.{HasTrips, all_loaded};
 ghost use Rattle.stop_schedule.specs.Sheet.{rows_in};
 ghost use Rattle.stop_schedule.specs.TripStops.{stops_kept};
 ghost use Rattle.stop_schedule.specs.Trips.{is_carried};
@@ -60,6 +61,7 @@ fn read_runs<F: Files>(
 ) -> Result<(Trips, Services), TableFault>
     ensures exact { IfSome (F.told files.old) (λ told. Finds (runs_fault routes.now (sheets_in told dir.now))
         (λ found. HoldsRuns routes.now found.0.ids found.0.routes.items found.0.services.items found.1.calendars found.1.exceptions (sheets_in told dir.now)) result) }
+    ensures trips { IfOk result (λ found. HasTrips (length routes.now) found.0.ids found.0.routes.items) }
     ensures counts { Counts (HasFailed result) (F.faults files.old) (F.faults files.new) }
     ensures same { F.told files.new ≡ F.told files.old }
 {
@@ -80,6 +82,7 @@ fn read_stops<F: Files>(
     ensures exact { IfSome (F.told files.old) (λ told. Finds (stops_fault trips.now stops.now (sheets_in told dir.now))
         (λ found. (found.0.items ≡ map (is_carried (rows_in (sheets_in told dir.now File.Frequencies))) trips.now)
         × HoldsStops trips.now stops.now (map stops_kept found.1.items) (rows_in (sheets_in told dir.now File.StopTimes))) result) }
+    ensures loaded { IfOk result (λ found. all_loaded (length stops.now) (map stops_kept found.1.items) ≡ true) }
     ensures counts { Counts (HasFailed result) (F.faults files.old) (F.faults files.new) }
     ensures same { F.told files.new ≡ F.told files.old }
 {
@@ -99,6 +102,7 @@ fn read_rest<F: Files>(
 ) -> Result<FolderRows, TableFault>
     ensures exact { IfSome (F.told files.old) (λ told. Finds (rest_fault routes stops (sheets_in told dir.now))
         (λ folder. HoldsRest stops routes folder (sheets_in told dir.now)) result) }
+    ensures loaded { IfOk result IsLoaded }
     ensures counts { Counts (HasFailed result) (F.faults files.old) (F.faults files.new) }
     ensures same { F.told files.new ≡ F.told files.old }
 {
@@ -127,6 +131,7 @@ pub(crate) fn read_folder<F: Files>(
 ) -> Result<FolderRows, TableFault>
     ensures exact { IfSome (F.told files.old) (λ told. Finds (files_fault (sheets_in told dir.now))
         (λ folder. HoldsRest (ids_in (sheets_in told dir.now) File.Stops) (ids_in (sheets_in told dir.now) File.Routes) folder (sheets_in told dir.now)) result) }
+    ensures loaded { IfOk result IsLoaded }
     ensures counts { Counts (HasFailed result) (F.faults files.old) (F.faults files.new) }
     ensures same { F.told files.new ≡ F.told files.old }
 {

@@ -1,5 +1,5 @@
 //! The forms of fields (GTFS Schedule reference, field types). The functions meet `specs/Forms.antt`.
-ghost use Rattle.std.specs.Prelude.{◌≡◌, ◌≤◌, length};
+ghost use Rattle.std.specs.Prelude.{◌≡◌, ◌≤◌, length, IfSome};
 ghost use Rattle.stop_schedule.specs.Forms as spec;
 
 use service_day::{Day, DayForm, read_day};
@@ -94,7 +94,8 @@ fn number(text: &[u8]) -> Option<u32>
 #[tactic(auto, unfolding(crate::specs::Forms::seconds))]
 #[inline(always)]
 pub(crate) fn seconds(text: &[u8]) -> Option<u32>
-    ensures { result ≡ spec.seconds text.now }
+    ensures value { result ≡ spec.seconds text.now }
+    ensures bound { IfSome result (λ seconds. seconds ≤ 359999) }
 {
     if text.len() == 7 {
         return clock(b'0', text);
@@ -110,7 +111,8 @@ pub(crate) fn seconds(text: &[u8]) -> Option<u32>
 #[inline(always)]
 fn clock(tens: u8, rest: &[u8]) -> Option<u32>
     requires { length rest.now ≡ 7 }
-    ensures { result ≡ spec.clock tens rest.now }
+    ensures value { result ≡ spec.clock tens rest.now }
+    ensures bound { IfSome result (λ seconds. seconds ≤ 359999) }
 {
     if !is_clock(tens, rest) {
         return None;

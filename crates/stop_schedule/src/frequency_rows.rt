@@ -17,7 +17,7 @@ pub(crate) struct FrequencyRows<'a> {
 }
 
 impl<'a> TakesRows for FrequencyRows<'a> {
-    ghost use Rattle.std.specs.Prelude.{◌≡◌, map};
+    ghost use Rattle.std.specs.Prelude.{◌≡◌, ⊤, map};
     ghost use Rattle.stop_schedule.specs.Causes.{frequency_fault};
     ghost use Rattle.stop_schedule.specs.Trips.{is_carried};
     ghost use Rattle.stop_schedule.specs.declared.table_file.TableFile.TheVariants.{Frequencies};
@@ -25,6 +25,10 @@ impl<'a> TakesRows for FrequencyRows<'a> {
     ghost file_of = { λ _. Frequencies };
 
     ghost fault = { λ taker. frequency_fault taker.trips.now };
+
+    ghost given = { λ _. 0 };
+
+    ghost Keeps = { λ _ _. ⊤ };
 
     ghost Holds = { λ start taker rows. (taker.trips.now ≡ start.trips.now) × (taker.carried.items ≡ map (is_carried rows) taker.trips.now) };
 

@@ -18,13 +18,17 @@ pub(crate) struct IdRows {
 }
 
 impl TakesRows for IdRows {
-    ghost use Rattle.std.specs.Prelude.{◌≡◌, map};
+    ghost use Rattle.std.specs.Prelude.{◌≡◌, ◌<◌, map, length};
     ghost use Rattle.stop_schedule.specs.Causes.{duplicate_fault};
     ghost use Rattle.stop_schedule.specs.Sheet.{nth};
 
     ghost file_of = { λ taker. taker.file };
 
     ghost fault = { λ taker. duplicate_fault taker.file };
+
+    ghost given = { λ _. 0 };
+
+    ghost Keeps = { λ taker number. length taker.ids < number };
 
     ghost Holds = { λ _ taker rows. taker.ids ≡ map (nth 0) rows };
 

@@ -12,7 +12,7 @@ use std::marker::Model;
 // The bytes that an id has at most.
 const MAX_ID_LEN: usize = 200;
 
-// The ids that can be numbered.
+// The ids that can be numbered; those of a folder are fewer, by the rows that its files have at most.
 const MAX_IDS: usize = 4_294_967_295;
 
 // Whether bytes are as many as an id has.
@@ -84,16 +84,17 @@ impl Ids {
     /// Adds an id at the end where it is one and is new, and says whether it was added. Want of memory
     /// leaves the ids as they were.
     pub(crate) fn add(&mut self, alloc: Global, id: &[u8]) -> Result<bool, AllocError>
+        requires { length self.old < 4294967295 }
         ensures added { IfOk result (λ added. added ≡ (is_id id.now && not (has_id id.now self.old))) }
         ensures ids { IfOk result (λ added. self.new ≡ (if added then self.old ++ id.now ∷ [] else self.old)) }
+        ensures few { OnOk result (length self.new ≤ length self.old + 1) }
         ensures kept { OnErr result (self.new ≡ self.old) }
     {
         if !has_id_len(id) {
             return Ok(false);
         }
-        if self.ids.len() >= MAX_IDS {
-            return Err(AllocError);
-        }
+        let has_room = self.ids.len() < MAX_IDS;
+        prove!(has_room);
         let Ok(text) = str::from_utf8(id) else {
             return Ok(false);
         };
@@ -104,9 +105,11 @@ impl Ids {
     /// The number of an id, which is added at the end where it is new. Want of memory leaves the ids as they
     /// were.
     pub(crate) fn number_of(&mut self, alloc: Global, id: &str) -> Result<u32, AllocError>
-        requires { is_id id.now ≡ true }
+        requires id { is_id id.now ≡ true }
+        requires room { length self.old < 4294967295 }
         ensures ids { IfOk result (λ _. self.new ≡ with_id id.now self.old) }
         ensures number { IfOk result (λ number. slice_get self.new number ≡ Some id.now) }
+        ensures few { OnOk result (length self.new ≤ length self.old + 1) }
         ensures sound { OnOk result (IsTrue (are_ids self.new)) }
         ensures kept { OnErr result (self.new ≡ self.old) }
     {
@@ -136,9 +139,11 @@ impl Ids {
         id: &str,
         number: u32,
     ) -> Result<u32, AllocError>
-        requires { is_id id.now ≡ true }
+        requires id { is_id id.now ≡ true }
+        requires room { length self.old < 4294967295 }
         ensures ids { IfOk result (λ _. self.new ≡ with_id id.now self.old) }
         ensures number { IfOk result (λ number. slice_get self.new number ≡ Some id.now) }
+        ensures few { OnOk result (length self.new ≤ length self.old + 1) }
         ensures sound { OnOk result (IsTrue (are_ids self.new)) }
         ensures kept { OnErr result (self.new ≡ self.old) }
     {

@@ -20,7 +20,6 @@ mod numbers;
 mod rows;
 mod service_rows;
 mod sheet;
-mod stop_checks;
 mod stop_time_rows;
 mod stop_times;
 mod table_fault;

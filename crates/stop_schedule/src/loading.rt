@@ -1,6 +1,7 @@
 //! The files of a folder, each with what is made of its rows. The functions meet `specs/Timetable.antt`.
-ghost use Rattle.std.specs.Prelude.{◌≡◌, [], ⊤, true, map, is_some, IfOk, IfSome};
-ghost use Rattle.stop_schedule.specs.Layout.{lists_ids};
+ghost use Rattle.std.specs.Prelude.{◌≡◌, ◌≤◌, [], ⊤, true, map, length, is_some, IfOk, IfSome, OnOk};
+ghost use Rattle.stop_schedule.specs.Keeping.{HasTrips, KeepsTo, all_loaded};
+ghost use Rattle.stop_schedule.specs.Layout.{lists_ids, row_limit};
 ghost use Rattle.gw_base.specs.Count.{Counts};
 ghost use Rattle.stop_schedule.specs.Answers.{Finds, HasFailed};
 ghost use Rattle.stop_schedule.specs.Causes.{zone_fault, duplicate_fault, trip_fault, calendar_fault, date_fault, frequency_fault, stop_time_fault};
@@ -54,8 +55,11 @@ fn read_needed<F: Files, T: TakesRows>(
     buffer: &mut Bytes,
     taker: &mut T,
 ) -> Result<(), TableFault>
+    requires { T.Keeps taker.old 1 }
     ensures exact { IfSome (F.told files.old) (λ told. T.Holds taker.old taker.old []
         → ReadsNeeded (T.file_of taker.old) (T.fault taker.old) (λ _. T.Holds taker.old taker.new) (sheets_in told dir.now) result) }
+    ensures keeps { OnOk result (KeepsTo T.Keeps taker.new (row_limit (T.file_of taker.old))) }
+    ensures same_given { T.given taker.new ≡ T.given taker.old }
     ensures counts { Counts (HasFailed result) (F.faults files.old) (F.faults files.new) }
     ensures same { F.told files.new ≡ F.told files.old }
 {
@@ -114,6 +118,8 @@ pub(crate) fn read_trips<F: Files>(
 ) -> Result<(Trips, Ids), TableFault>
     ensures exact { IfSome (F.told files.old) (λ told. ReadsNeeded File.Trips (trip_fault routes.now)
         (λ found. HoldsTrips routes.now found.1 found.0.ids found.0.routes.items found.0.services.items) (sheets_in told dir.now) result) }
+    ensures trips { IfOk result (λ found. HasTrips (length routes.now) found.0.ids found.0.routes.items) }
+    ensures few { IfOk result (λ found. length found.1 ≤ 200000) }
     ensures counts { Counts (HasFailed result) (F.faults files.old) (F.faults files.new) }
     ensures same { F.told files.new ≡ F.told files.old }
 {
@@ -155,9 +161,11 @@ fn read_calendars<F: Files>(
     buffer: &mut Bytes,
     services: Ids,
 ) -> Result<(bool, CalendarRows), TableFault>
+    requires { length services ≤ 200000 }
     ensures exact { IfSome (F.told files.old) (λ told. Finds (optional_fault File.Calendar calendar_fault (sheets_in told dir.now File.Calendar))
         (λ found. (found.0 ≡ is_some (sheets_in told dir.now File.Calendar))
         × HoldsCalendars services found.1.services found.1.calendars (rows_in (sheets_in told dir.now File.Calendar))) result) }
+    ensures few { IfOk result (λ found. length found.1.services ≤ 400000) }
     ensures counts { Counts (HasFailed result) (F.faults files.old) (F.faults files.new) }
     ensures same { F.told files.new ≡ F.told files.old }
 {
@@ -179,6 +187,7 @@ fn read_dates<F: Files>(
     buffer: &mut Bytes,
     services: Ids,
 ) -> Result<(bool, DateRows), TableFault>
+    requires { length services ≤ 400000 }
     ensures exact { IfSome (F.told files.old) (λ told. Finds (optional_fault File.CalendarDates date_fault (sheets_in told dir.now File.CalendarDates))
         (λ found. (found.0 ≡ is_some (sheets_in told dir.now File.CalendarDates))
         × HoldsDates services found.1.services found.1.exceptions (rows_in (sheets_in told dir.now File.CalendarDates))) result) }
@@ -203,6 +212,7 @@ pub(crate) fn read_services<F: Files>(
     buffer: &mut Bytes,
     services: Ids,
 ) -> Result<Services, TableFault>
+    requires { length services ≤ 200000 }
     ensures exact { IfSome (F.told files.old) (λ told. Finds (calendars_fault (sheets_in told dir.now))
         (λ found. HoldsServices services found.calendars found.exceptions (rows_in (sheets_in told dir.now File.Calendar)) (rows_in (sheets_in told dir.now File.CalendarDates))) result) }
     ensures counts { Counts (HasFailed result) (F.faults files.old) (F.faults files.new) }
@@ -240,7 +250,8 @@ fn all_carried(alloc: Global, trips: &Ids) -> Result<Vec<bool>, AllocError>
 
 // No trip has stops.
 fn no_stops(alloc: Global, trips: &Ids, stops: &Ids) -> Result<Vec<TripStops>, AllocError>
-    ensures { IfOk result (λ by_trip. HoldsStops trips.now stops.now (map stops_kept by_trip.items) []) }
+    ensures holds { IfOk result (λ by_trip. HoldsStops trips.now stops.now (map stops_kept by_trip.items) []) }
+    ensures loaded { IfOk result (λ by_trip. all_loaded (length stops.now) (map stops_kept by_trip.items) ≡ true) }
 {
     let _ = stops;
     let mut by_trip = Vec::new(alloc);
@@ -283,6 +294,7 @@ pub(crate) fn read_stop_times<F: Files>(
 ) -> Result<Vec<TripStops>, TableFault>
     ensures exact { IfSome (F.told files.old) (λ told. ReadsNeeded File.StopTimes (stop_time_fault trips.now stops.now)
         (λ by_trip. HoldsStops trips.now stops.now (map stops_kept by_trip.items)) (sheets_in told dir.now) result) }
+    ensures loaded { IfOk result (λ by_trip. all_loaded (length stops.now) (map stops_kept by_trip.items) ≡ true) }
     ensures counts { Counts (HasFailed result) (F.faults files.old) (F.faults files.new) }
     ensures same { F.told files.new ≡ F.told files.old }
 {

@@ -1,11 +1,12 @@
 //! The rows of a table, read one after the other into one record. The functions meet `specs/Rows.antt`.
-ghost use Rattle.std.specs.Prelude.{◌≡◌, ◌∷◌, [], false, IfOk};
+ghost use Rattle.std.specs.Prelude.{◌≡◌, ◌∷◌, [], true, false, IfOk};
 ghost use Rattle.std.specs.Bool.{MatchBool};
+ghost use Rattle.csv.specs.Reading.{error_kind, stops_reader};
 ghost use Rattle.stop_schedule.specs.Fields.{field_of};
 ghost use Rattle.stop_schedule.specs.Rows.{rows, column as column_of};
 
 use crate::fields::trimmed;
-use csv::{ByteRecord, Reader, ReaderBuilder};
+use csv::{ByteRecord, Error, ErrorKind, Reader, ReaderBuilder};
 use std::alloc::{AllocError, Global};
 use std::marker::Model;
 
@@ -25,6 +26,17 @@ impl<'a> Model for Rows<'a> {
     ghost view = { λ r. record { row = fields_of r.row; left = rows_of r.reader } };
 
     ghost invariant = { λ r. IsPlainUnlessFailed r.reader };
+}
+
+// What is told of a read that stopped the reader. Bytes that lie in memory can't fail to be read, but `csv` doesn't say so
+// of the reader that it is given: that too is told as want of memory.
+fn refusal(error: Error) -> AllocError
+    requires { stops_reader (error_kind error) ≡ true }
+{
+    match error.into_kind() {
+        ErrorKind::OutOfMemory | ErrorKind::Io(_) => AllocError,
+        _ => unreachable!(),
+    }
 }
 
 impl<'a> Rows<'a> {
@@ -48,8 +60,9 @@ impl<'a> Rows<'a> {
         ensures none { IfOk result (λ found. found ≡ false → self.new.row ≡ []) }
         ensures reads { IfOk result (λ found. MatchBool found (self.old.left ≡ self.new.row ∷ self.new.left) (self.old.left ≡ [])) }
     {
-        let Ok(found) = self.reader.read_byte_record(&mut self.row) else {
-            return Err(AllocError);
+        let found = match self.reader.read_byte_record(&mut self.row) {
+            Ok(found) => found,
+            Err(error) => return Err(refusal(error)),
         };
         if !found {
             self.row.clear();

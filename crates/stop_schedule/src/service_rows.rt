@@ -70,6 +70,7 @@ fn day(sheet: &Sheet<'_>, column: usize) -> Option<Day>
 }
 
 impl TakesRows for CalendarRows {
+    ghost use Rattle.std.specs.Prelude.{◌<◌, ◌+◌, length};
     ghost use Rattle.stop_schedule.specs.Causes.{calendar_fault};
     ghost use Rattle.stop_schedule.specs.Holding.{HoldsCalendars};
     ghost use Rattle.stop_schedule.specs.declared.table_file.TableFile.TheVariants as TableFile;
@@ -77,6 +78,10 @@ impl TakesRows for CalendarRows {
     ghost file_of = { λ _. TableFile.Calendar };
 
     ghost fault = { λ _. calendar_fault };
+
+    ghost given = { λ _. 0 };
+
+    ghost Keeps = { λ taker number. length taker.services < 200000 + number };
 
     ghost Holds = { λ start taker rows. HoldsCalendars start.services taker.services taker.calendars rows };
 
@@ -106,6 +111,7 @@ impl TakesRows for CalendarRows {
 }
 
 impl TakesRows for DateRows {
+    ghost use Rattle.std.specs.Prelude.{◌<◌, ◌+◌, length};
     ghost use Rattle.stop_schedule.specs.Causes.{date_fault};
     ghost use Rattle.stop_schedule.specs.Holding.{HoldsDates};
     ghost use Rattle.stop_schedule.specs.declared.table_file.TableFile.TheVariants as TableFile;
@@ -113,6 +119,10 @@ impl TakesRows for DateRows {
     ghost file_of = { λ _. TableFile.CalendarDates };
 
     ghost fault = { λ _. date_fault };
+
+    ghost given = { λ _. 0 };
+
+    ghost Keeps = { λ taker number. length taker.services < 400000 + number };
 
     ghost Holds = { λ start taker rows. HoldsDates start.services taker.services taker.exceptions rows };
 

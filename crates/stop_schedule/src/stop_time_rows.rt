@@ -1,10 +1,11 @@
 //! The rows of `stop_times.txt`: the stops of each trip, in rising sequence.
-ghost use Rattle.std.specs.Prelude.{◌≡◌, ◌≤◌, ◌+◌, true, ◌++◌, ◌∷◌, [], ℕ, Some, List, map, length, nat_le, slice_get, is_some, IfSome, IsTrue};
+ghost use Rattle.std.specs.Prelude.{◌≡◌, ◌≤◌, ◌+◌, true, ◌++◌, ◌∷◌, [], ℕ, Some, List, map, length, nat_le, slice_get, is_some, IfSome, IsTrue, OnOk};
 ghost use Rattle.stop_schedule.specs.Answers.{Finds, HasFailed};
 ghost use Rattle.stop_schedule.specs.Causes.{stop_time_fault};
 ghost use Rattle.stop_schedule.specs.Forms as forms_of;
 ghost use Rattle.stop_schedule.specs.Holding.{HoldsStops, IsKnown};
 ghost use Rattle.stop_schedule.specs.Ids.{are_ids};
+ghost use Rattle.stop_schedule.specs.Keeping.{all_loaded, are_times, is_loaded};
 ghost use Rattle.stop_schedule.specs.Sheet.{Row, nth};
 ghost use Rattle.stop_schedule.specs.StopTimes as spec;
 ghost use Rattle.stop_schedule.specs.TripStops.{stops_kept};
@@ -80,7 +81,8 @@ fn begin_trip(by_trip: &mut Vec<TripStops>, last: u32, trip: u32) -> u32
 
 // The times of the row at hand: one time stands for both.
 fn times(sheet: &Sheet<'_>) -> Option<(u32, u32)>
-    ensures { result ≡ spec.times sheet.now.row }
+    ensures value { result ≡ spec.times sheet.now.row }
+    ensures few { are_times result ≡ true }
 {
     match (seconds(sheet.field(3)), seconds(sheet.field(4))) {
         (Some(arrival), Some(departure)) => Some((arrival, departure)),
@@ -114,6 +116,8 @@ fn put(
         → HoldsStops trips stops (map stops_kept by_trip.old.items) before
         → Finds (stop_time_fault trips stops before row)
         (λ _. HoldsStops trips stops (map stops_kept by_trip.new.items) (before ++ row ∷ [])) result }
+    ensures loaded { (stops : ℕ) → is_loaded stops loaded ≡ true → all_loaded stops (map stops_kept by_trip.old.items) ≡ true
+        → OnOk result (all_loaded stops (map stops_kept by_trip.new.items) ≡ true) }
     ensures no_failure { HasFailed result → ⊥ }
 {
     let Some(held) = by_trip.get_mut(trip as usize) else {
@@ -156,6 +160,7 @@ fn known_ids(
 fn known_times(sheet: &Sheet<'_>) -> Option<(u32, u32)>
     ensures arrival { IfSome result (λ known. forms_of.seconds (nth 3 sheet.now.row) ≡ Some known.0) }
     ensures departure { IfSome result (λ known. forms_of.seconds (nth 4 sheet.now.row) ≡ Some known.1) }
+    ensures few { IfSome result (λ known. are_times (Some known) ≡ true) }
 {
     match (seconds(sheet.field(3)), seconds(sheet.field(4))) {
         (Some(arrival), Some(departure)) => Some((arrival, departure)),
@@ -170,6 +175,7 @@ fn known_stop(sheet: &Sheet<'_>, number: u64, stop: u32) -> Option<LoadedStop>
     ensures departure { IfSome result (λ _. is_some (forms_of.seconds (nth 4 sheet.now.row)) ≡ true) }
     ensures times { IfSome result (λ known. known.times ≡ spec.times sheet.now.row) }
     ensures counted { IfSome result (λ known. (number ≤ 4000000) × (known.row ≡ number) × (known.stop.0 ≡ stop)) }
+    ensures few { IfSome result (λ known. are_times known.times ≡ true) }
 {
     if number > row_limit(TableFile::StopTimes) {
         return None;
@@ -194,7 +200,8 @@ fn known_row(
     trip: u32,
     stop: u32,
 ) -> Option<(u32, LoadedStop)>
-    ensures { IfSome result (λ known. IsKnown trips.now stops.now number sheet.now.row known.0 known.1) }
+    ensures known { IfSome result (λ known. IsKnown trips.now stops.now number sheet.now.row known.0 known.1) }
+    ensures loaded { IfSome result (λ known. is_loaded (length stops.now) known.1 ≡ true) }
 {
     let (trip, stop) = known_ids(trips, stops, sheet, trip, stop)?;
     match known_stop(sheet, number, stop) {
@@ -204,15 +211,20 @@ fn known_row(
 }
 
 impl<'a> TakesRows for StopTimeRows<'a> {
-    ghost use Rattle.std.specs.Prelude.{map};
+    ghost use Rattle.std.specs.Prelude.{◌≡◌, true, length, map};
     ghost use Rattle.stop_schedule.specs.Causes.{stop_time_fault};
     ghost use Rattle.stop_schedule.specs.Holding.{HoldsStops};
+    ghost use Rattle.stop_schedule.specs.Keeping.{all_loaded};
     ghost use Rattle.stop_schedule.specs.TripStops.{stops_kept};
     ghost use Rattle.stop_schedule.specs.declared.table_file.TableFile.TheVariants.{StopTimes};
 
     ghost file_of = { λ _. StopTimes };
 
     ghost fault = { λ taker. stop_time_fault taker.trips.now taker.stops.now };
+
+    ghost given = { λ taker. length taker.stops.now };
+
+    ghost Keeps = { λ taker _. all_loaded (length taker.stops.now) (map stops_kept taker.by_trip.items) ≡ true };
 
     ghost Holds = { λ start taker rows. (taker.trips.now ≡ start.trips.now) × (taker.stops.now ≡ start.stops.now) × HoldsStops taker.trips.now taker.stops.now (map stops_kept taker.by_trip.items) rows };
 

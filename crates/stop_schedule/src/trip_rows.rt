@@ -24,14 +24,19 @@ pub(crate) struct TripRows<'a> {
 }
 
 impl<'a> TakesRows for TripRows<'a> {
-    ghost use Rattle.std.specs.Prelude.{◌≡◌, map};
+    ghost use Rattle.std.specs.Prelude.{◌≡◌, length, map};
     ghost use Rattle.stop_schedule.specs.Causes.{trip_fault};
     ghost use Rattle.stop_schedule.specs.Holding.{HoldsTrips};
+    ghost use Rattle.stop_schedule.specs.Keeping.{KeepsTrips};
     ghost use Rattle.stop_schedule.specs.declared.table_file.TableFile.TheVariants.{Trips};
 
     ghost file_of = { λ _. Trips };
 
     ghost fault = { λ taker. trip_fault taker.known_routes.now };
+
+    ghost given = { λ taker. length taker.known_routes.now };
+
+    ghost Keeps = { λ taker number. KeepsTrips (length taker.known_routes.now) taker.trips taker.services taker.trip_routes.items number };
 
     ghost Holds = { λ start taker rows. (taker.known_routes.now ≡ start.known_routes.now) × HoldsTrips taker.known_routes.now taker.services taker.trips taker.trip_routes.items taker.trip_services.items rows };
 

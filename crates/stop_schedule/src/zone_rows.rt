@@ -15,7 +15,7 @@ pub(crate) struct ZoneRows {
 }
 
 impl TakesRows for ZoneRows {
-    ghost use Rattle.std.specs.Prelude.{◌≡◌, option_map};
+    ghost use Rattle.std.specs.Prelude.{◌≡◌, ⊤, option_map};
     ghost use Rattle.stop_schedule.specs.Causes.{zone_fault, first_row};
     ghost use Rattle.stop_schedule.specs.Sheet.{nth};
     ghost use Rattle.stop_schedule.specs.declared.table_file.TableFile.TheVariants.{Agency};
@@ -23,6 +23,10 @@ impl TakesRows for ZoneRows {
     ghost file_of = { λ _. Agency };
 
     ghost fault = { λ _. zone_fault };
+
+    ghost given = { λ _. 0 };
+
+    ghost Keeps = { λ _ _. ⊤ };
 
     ghost Holds = { λ _ taker rows. taker.first ≡ option_map (nth 0) (first_row rows) };
 

@@ -2,7 +2,8 @@
 use Rattle.std.proofs.Common.{◌∙◌, ap, sym}
 use Rattle.std.specs.Prelude.{option_map}
 use Rattle.stop_schedule.specs.declared.table_fault.TableFault.TheVariants.{UntimedEnd}
-use Rattle.stop_schedule.proofs.FolderLemmas.{shown_of, untimed_of}
+use Rattle.stop_schedule.proofs.FitLemmas.{in-range}
+use Rattle.stop_schedule.proofs.FolderLemmas.{listed, shown_of, untimed_of}
 use Rattle.stop_schedule.proofs.assembling.assemble.Goals as goal
 
 pub returns-in-Some-clause-exact : goal.returns-in-Some-clause-exact
@@ -16,3 +17,11 @@ returns-clause-exact c sheets held =
       sym (untimed_of sheets c.args.folder c.in_ok-all.all held carries) ∙ c.in_default.is,
       shown_of sheets c.args.folder c.in_ok-trips.trips c.in_ok-all.all held (rw c.as_slice-3.ensures.value at c.in_ok-trips.ensures) carries,
     )
+
+pub invariant_of-result : goal.invariant_of-result
+invariant_of-result c =
+    let carries = rw (c.as_slice.ensures.value, c.as_slice-2.ensures.value) at c.in_ok-all.ensures in
+    record {
+      in_range = in-range (listed c.args.folder) c.args.folder.routes c.args.folder.stops c.in_ok-trips.trips c.in_ok-all.all c.requires.trips c.requires.stops
+          (rw c.as_slice-3.ensures.value at c.in_ok-trips.ensures) carries;
+    }

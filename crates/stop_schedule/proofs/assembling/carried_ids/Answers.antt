@@ -1,6 +1,14 @@
-use Rattle.std.proofs.Common.{◌∙◌, ◌∷◌, [], ◌++◌, ℕ, List, false, cond, get_or, ap, sym}
+use Rattle.std.proofs.Common.{◌∙◌, ◌∷◌, [], ◌++◌, ℕ, List, false, cond, get_or, ap, sym, arith}
 use Rattle.stop_schedule.proofs.CarryingLemmas.{ids-all, ids_more}
+use Rattle.stop_schedule.proofs.FitLemmas.{few-ids, new-id}
 use Rattle.stop_schedule.proofs.assembling.carried_ids.Goals as goal
+
+pub keep_at-requires-clause-new : goal.keep_at-requires-clause-new
+keep_at-requires-clause-new c =
+    rw c.loop-place.invariant (new-id c.args.ids c.args.carried.now c.loop-place.place c.len.ensures.ids (omega arith))
+
+pub keep_at-requires-clause-room : goal.keep_at-requires-clause-room
+keep_at-requires-clause-room c = rw c.loop-place.invariant (few-ids c.args.ids c.args.carried.now c.loop-place.place)
 
 pub returns-then-are_all_carried : goal.returns-then-are_all_carried
 returns-then-are_all_carried c =

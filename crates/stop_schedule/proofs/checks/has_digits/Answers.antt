@@ -10,5 +10,5 @@ returns-in-Sequence-clause-text c = λ some.
 
 pub returns-in-Time-clause-text : goal.returns-in-Time-clause-text
 returns-in-Time-clause-text c = λ some.
-    let is : is_some (seconds c.args.field.now) ≡ true = ap is_some (sym c.seconds.ensures) ∙ sym c.is_some-in-Time.ensures ∙ some in
+    let is : is_some (seconds c.args.field.now) ≡ true = ap is_some (sym c.seconds.ensures.value) ∙ sym c.is_some-in-Time.ensures ∙ some in
     seconds-is-text c.args.field.now is

@@ -5,8 +5,8 @@ use Rattle.stop_schedule.proofs.KnownLemmas.{known-fits}
 use Rattle.stop_schedule.proofs.StopStep.{loaded-row}
 use Rattle.stop_schedule.proofs.stop_time_rows.known_row.Goals as goal
 
-pub returns-in-Some : goal.returns-in-Some
-returns-in-Some c =
+pub returns-in-Some-clause-known : goal.returns-in-Some-clause-known
+returns-in-Some-clause-known c =
     let trips = c.args.trips.now in
     let stops = c.args.stops.now in
     let row = c.args.sheet.now.row in

@@ -1,5 +1,5 @@
 -- The stop of one more row, or its fault.
-use Rattle.std.proofs.Common.{◌≡◌, ◌∙◌, ◌<◌, ◌≤◌, ◌+◌, true, Some, ℕ, map, length, slice_get, refl, sym, ap, arith, false, List}
+use Rattle.std.proofs.Common.{◌≡◌, ◌∙◌, ◌<◌, ◌≤◌, ◌+◌, true, Some, ℕ, map, length, nat_le, slice_get, refl, sym, ap, arith, false, List}
 use Rattle.std.specs.Option.{option_map}
 use Rattle.std.proofs.lemmas.List.{map-set}
 use Rattle.std.proofs.lemmas.Option.{slice_get-get_or, slice_get-map}
@@ -8,7 +8,10 @@ use Rattle.stop_schedule.specs.Rising.{has_sequence, is_rising}
 use Rattle.stop_schedule.specs.Sheet.{nth}
 use Rattle.stop_schedule.specs.StopTimes.{loaded, placed, sequence_of, stops_in}
 use Rattle.stop_schedule.specs.declared.stop_times.LoadedStop.{LoadedStop}
-use Rattle.stop_schedule.proofs.IdLemmas.{and-right, has-at}
+use Rattle.stop_schedule.specs.Keeping.{are_loaded}
+use Rattle.stop_schedule.proofs.IdLemmas.{and-left, and-right, has-at}
+use Rattle.stop_schedule.proofs.KeepingLemmas.{loaded-placed}
+use Rattle.stop_schedule.proofs.ListLemmas.{list_all-set}
 use Rattle.stop_schedule.proofs.StopStep.{too-many, twice, no-fault, held-at, stops-step, all-at}
 use Rattle.stop_schedule.proofs.stop_time_rows.put.Goals as goal
 
@@ -66,3 +69,19 @@ returns-then-branch-clause-puts c = λ trips stops before row known counted hold
       rw (map-set stops_kept items trip c.add.new.self)
           (stops-step trips stops (map stops_kept items) before holds row trip (stops_kept c.add.new.self) (and-right _ _ known.ids) known.trip_at rising none of_trip value),
     )
+
+pub returns-then-branch-clause-loaded : goal.returns-then-branch-clause-loaded
+returns-then-branch-clause-loaded c = λ stops good all.
+    let items = c.args.by_trip.now.items in
+    let trip = c.args.trip in
+    let held = c.in-Some.held.now in
+    let there : trip < length items = omega (arith, c.in-Some.ensures.variant.0 refl) in
+    let stands : slice_get (map stops_kept items) trip ≡ Some (stops_kept held) =
+    slice_get-map stops_kept items trip
+    ∙ ap (option_map stops_kept) (slice_get-get_or items trip held there ∙ ap Some (sym c.in-Some.ensures.value)) in
+    let loaded = all-at (are_loaded stops) (map stops_kept items) trip (stops_kept held) all stands in
+    let rising = and-left (is_rising (stops_kept held)) _ (and-right (nat_le (length (stops_kept held)) 250) _ loaded) in
+    let places = rw c.if-branch.true at (c.in_ok-add.ensures rising) in
+    let few : length (stops_kept held) < 250 = omega arith in
+    let one : are_loaded stops (stops_kept c.add.new.self) ≡ true = rw places.1 (loaded-placed stops c.args.loaded (stops_kept held) good loaded few places.0) in
+    rw (map-set stops_kept items trip c.add.new.self) (list_all-set (are_loaded stops) (map stops_kept items) trip (stops_kept c.add.new.self) all one)

@@ -1,5 +1,5 @@
 use Rattle.std.proofs.Common.{◌≡◌, ◌∙◌, ◌++◌, ◌∷◌, ◌+◌, [], length, length-append, refl}
-use Rattle.stop_schedule.proofs.TakingLemmas.{taken, refused}
+use Rattle.stop_schedule.proofs.TakingLemmas.{few-rows, taken, refused}
 use Rattle.stop_schedule.proofs.taking.take_rows.Goals as goal
 
 pub loop-number-preserved : goal.loop-number-preserved
@@ -18,7 +18,10 @@ loop-number-preserved g c =
       inv.0 ++ row ∷ [],
       record {
         number = counted;
-        few = c.in_default.ensures.few;
+        few = few-rows (number + 1) (g.T.TakesRows.file_of c.loop-number.taker) c.in_default.ensures.few;
+        limit = rw file_is at c.in_default.ensures.few;
+        keeps = c.in_default.ensures.keeps;
+        same_given = c.in_default.ensures.same_given ∙ inv.1.same_given;
         same_fault = c.in_default.ensures.same_fault ∙ inv.1.same_fault;
         same_file = c.in_default.ensures.same_file ∙ inv.1.same_file;
         so_far = λ holds. taken g.T.TakesRows.Holds file (g.T.TakesRows.fault start) start c.loop-number.taker c.take_row.new.taker c.args.sheet.now.left inv.0

@@ -1,4 +1,5 @@
-use Rattle.std.proofs.Common.{◌≡◌, ◌≤◌, [], List, length}
+use Rattle.std.proofs.Common.{◌≡◌, ◌≤◌, ◌+◌, [], List, length}
+use Rattle.stop_schedule.specs.Layout.{row_limit}
 use Rattle.stop_schedule.specs.Sheet.{Row}
 use Rattle.stop_schedule.proofs.TakingLemmas.{SoFar}
 use Rattle.stop_schedule.proofs.taking.take_rows.Given as goal
@@ -8,6 +9,9 @@ abbrev pub invariant-loop-number : goal.invariant-loop-number
 invariant-loop-number g l = (done : List Row) × record {
   number : l.number ≡ length done;
   few : l.number ≤ 4000000;
+  limit : l.number ≤ row_limit (g.T.TakesRows.file_of l.fn.taker);
+  keeps : g.T.TakesRows.Keeps l.taker (l.number + 1);
+  same_given : g.T.TakesRows.given l.taker ≡ g.T.TakesRows.given l.fn.taker;
   same_fault : g.T.TakesRows.fault l.taker ≡ g.T.TakesRows.fault l.fn.taker;
   same_file : g.T.TakesRows.file_of l.taker ≡ g.T.TakesRows.file_of l.fn.taker;
   so_far : g.T.TakesRows.Holds l.fn.taker l.fn.taker []

@@ -13,7 +13,7 @@ returns-in-Some-get_mut-clause-takes c = λ start before kept counted.
     let row = c.args.sheet.now.row in
     let trips = c.args.self.now.trips.now in
     let trip = nth 0 row in
-    let text : is_utf8 trip ≡ true = and-left (is_utf8 trip) true c.requires.texts in
+    let text : is_utf8 trip ≡ true = and-left (is_utf8 trip) true c.requires.fits.texts in
     let at = id-of-place trips c.in-Some.trip trip (sym (c.in-Some.ensures.place text)) in (
       rw (← c.in-Some.ensures.found text) refl,
       (

@@ -17,7 +17,7 @@ returns-in-Ok-None-clause-takes c = λ start before holds counted.
     let distinct : are_distinct (with_id (nth 0 row) services) ≡ true = rw (← grown) (and-right _ _ c.in_ok-service.ensures.sound) in
     let numbered : slice_get (with_id (nth 0 row) services) number ≡ Some (nth 0 row) = rw (← grown) (rw service_is at c.in_ok-service.ensures.number) in
     let value = calendar-is row c.weekdays.result c.in-Some-Some.start c.in-Some-Some.end c.weekdays.ensures
-    (c.in-Some-Some.ensures (text-8 row c.requires.texts)) (c.in-Some-Some.ensures' (text-9 row c.requires.texts)) in
+    (c.in-Some-Some.ensures (text-8 row c.requires.fits.texts)) (c.in-Some-Some.ensures' (text-9 row c.requires.fits.texts)) in
     let changed : (q : ℕ) → calendar_at c.insert.new.self q ≡ cond (nat_eq number q) (Some (calendar_of row)) (calendar_at c.args.self.now.calendars q) =
     λ q. c.in-Ok-None.ensures.updates.0 q ∙ ap (λ v. cond (nat_eq number q) (Some v) (calendar_at c.args.self.now.calendars q)) value in
     let fresh : calendar_at c.args.self.now.calendars number ≡ None = sym c.in-Ok-None.ensures.old ∙ c.in-Ok-None.field-0-is in

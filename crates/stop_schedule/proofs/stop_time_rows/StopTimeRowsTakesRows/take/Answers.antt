@@ -14,7 +14,7 @@ use Rattle.stop_schedule.proofs.stop_time_rows.StopTimeRowsTakesRows.take.Goals 
 pub returns-in_default-clause-takes : goal.returns-in_default-clause-takes
 returns-in_default-clause-takes c = λ start before kept counted.
     let row = c.args.sheet.now.row in
-    let text : is_utf8 (nth 0 row) ≡ true = and-left (is_utf8 (nth 0 row)) _ c.requires.texts in
+    let text : is_utf8 (nth 0 row) ≡ true = and-left (is_utf8 (nth 0 row)) _ c.requires.fits.texts in
     rw counted (unknown-trip c.args.self.now.trips.now c.args.self.now.stops.now before row kept.2.known (sym (c.in_default.ensures.found text)))
 
 pub returns-then-is_full-clause-takes : goal.returns-then-is_full-clause-takes
@@ -40,7 +40,7 @@ returns-in_default-find_in-clause-takes c = λ start before kept counted.
     let full = (rw c.as_slice.ensures.value at c.is_full.ensures) held (stands-in trips stops by_trip before holds c.in-Some.trip (nth 0 row) c.in-Some.ensures.at) in
     let not_full : nat_le 250 (length held) ≡ false = sym full ∙ c.if-is_full.false in
     let few : length held < 250 = grind (arith, nat_tests, not_full) in
-    let text : is_utf8 (nth 0 row) ≡ true = and-left (is_utf8 (nth 0 row)) _ c.requires.texts in
+    let text : is_utf8 (nth 0 row) ≡ true = and-left (is_utf8 (nth 0 row)) _ c.requires.fits.texts in
     let of_trip : has_id (nth 0 row) trips ≡ true = sym (c.in-Some.ensures.found text) in
-    let stop_text : is_utf8 (nth 2 row) ≡ true = and-left (is_utf8 (nth 2 row)) _ (and-right (is_utf8 (nth 1 row)) _ (and-right (is_utf8 (nth 0 row)) _ c.requires.texts)) in
+    let stop_text : is_utf8 (nth 2 row) ≡ true = and-left (is_utf8 (nth 2 row)) _ (and-right (is_utf8 (nth 1 row)) _ (and-right (is_utf8 (nth 0 row)) _ c.requires.fits.texts)) in
     rw counted (unknown-stop trips stops before row few of_trip (sym (c.in_default-find_in.ensures.found stop_text)))
