@@ -60,8 +60,8 @@ pub fn alert_entity(
     entity_bytes(alloc, &entity)
 }
 
-/// How many bytes the body of an entity has, by the bytes that stand for it in a feed: the number behind its tag (protobuf
-/// encoding, "Message Structure"). The condition is that they are a written entity's. Takes no memory.
+/// How many bytes the body of an entity has, by the bytes that stand for it in a feed: the number behind its tag
+/// (protobuf encoding, "Message Structure"). The condition is that they are a written entity's. Takes no memory.
 pub fn entity_body_len(bytes: &[u8]) -> u64
     requires { spec.IsOfEntity bytes.now }
     ensures { (entity : Entity) → bytes.now ≡ written entity

@@ -36,8 +36,8 @@ fn checked_feed(alloc: Global, bytes: &[u8]) -> Result<Feed, FeedFault>
 }
 
 /// The feed that the bytes mean, or exactly the fault that they have (GTFS Realtime, FeedMessage). `Memory` is the one
-/// answer that may come at any bytes. A header and written entities, of which none is too long, are read again as the full
-/// dataset of just these.
+/// answer that may come at any bytes. A header and written entities, of which none is too long, are read again as the
+/// full dataset of just these.
 pub fn read_feed(alloc: Global, bytes: &[u8]) -> Result<Feed, FeedFault>
     ensures means { IfOk result (λ feed. MeansFeed bytes.now feed) }
     ensures no_fault { IfOk result (λ _. (fault : FeedFault) → ¬ HasFault bytes.now fault) }

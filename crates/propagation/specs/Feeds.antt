@@ -20,9 +20,9 @@ journey_cmp a b = ordering_then (int_cmp a.day b.day) (nat_cmp a.trip.0 b.trip.0
 abbrev pub IsServable : Schedule → DatedReading → Type 0
 IsServable schedule one = schedules.IsServable schedule one.trip.0 one.day one.reading
 
--- what a feed says of journeys: of the readings of one journey the last, so that of each trip and day there is its last
--- reading or none, sorted by journey, and each can be served; and how many entities were taken and passed, and which were
--- set aside
+-- what a feed says of journeys: of the readings of one journey the last, so that of each trip and day there is its
+-- last reading or none, sorted by journey, and each can be served; and how many entities were taken and passed, and
+-- which were set aside
 pub record IsReading (schedule : Schedule) (feed : Feed) (found : FeedReading) : Type 0 where
   pub same : IsPermutation (last_of_each (given_all (readings schedule feed))) found.journeys
   pub each_last : (trip : ℕ) (day : ℤ) → map (λ one. one.reading) (filter (is_of trip day) found.journeys)
