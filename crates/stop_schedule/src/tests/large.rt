@@ -1,5 +1,5 @@
 //! A folder of many ids.
-use super::folder::{Given, read};
+use super::folder::{Given, Other, read_many};
 use crate::{TableFault, TableFile as File, Timetable};
 use gw_base::Bytes;
 use std::alloc::{AllocError, Global};
@@ -25,28 +25,21 @@ fn last_of(read: Result<Timetable, TableFault>) -> Option<(u32, u32)> {
     }
 }
 
-// What is read where the sample has these stops and trips.
-fn read_many(
-    alloc: Global,
-    stops: &[u8],
-    trips: &[u8],
-) -> Result<Result<Timetable, TableFault>, AllocError> {
-    let others = [
-        (File::Stops, Given::Rows(stops)),
-        (File::Trips, Given::Rows(trips)),
-        (
-            File::StopTimes,
-            Given::Rows(b"69999,08:00:00,08:00:00,69999,1\n"),
-        ),
-    ];
-    read(alloc, others.as_slice(), None)
-}
+// What the sample has in place of its stops, its trips and their stops.
+static OTHERS: [Other; 3] = [
+    (File::Stops, Given::Absent),
+    (File::Trips, Given::Absent),
+    (
+        File::StopTimes,
+        Given::Rows(b"69999,08:00:00,08:00:00,69999,1\n"),
+    ),
+];
 
 #[test]
 fn more_ids_than_two_bytes_number_are_read(rt: HostRuntime) {
     let alloc = rt.alloc();
     let stops = rows(alloc, "").expect(&rt, "memory");
     let trips = rows(alloc, "R1,D,").expect(&rt, "memory");
-    let read = read_many(alloc, stops.as_slice(), trips.as_slice()).expect(&rt, "memory");
-    assert_eq!(rt; last_of(read), Some((70_000, 69_999)));
+    let read = read_many(alloc, &OTHERS, stops.as_slice(), trips.as_slice());
+    assert_eq!(rt; last_of(read.expect(&rt, "memory")), Some((70_000, 69_999)));
 }
