@@ -20,7 +20,6 @@ pub mod SoundLemmas
 pub mod StartLemmas
 pub mod StepLemmas
 pub mod StopStep
-pub mod StopsLemmas
 pub mod TakingLemmas
 pub mod TextLemmas
 pub mod TripStep

@@ -1,5 +1,6 @@
 mod failures;
 mod files;
 mod folder;
+mod large;
 mod names;
 mod rows;

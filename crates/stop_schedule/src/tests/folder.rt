@@ -121,6 +121,22 @@ pub fn read(
     Ok(read_timetable(alloc, &mut files, "g"))
 }
 
+/// What is read of the sample with these files in place of its own, and with these rows of stops and of trips.
+pub fn read_many(
+    alloc: Global,
+    others: &[Other],
+    stops: &[u8],
+    trips: &[u8],
+) -> Result<Result<Timetable, TableFault>, AllocError> {
+    let mut files = files_with(alloc, others)?;
+    let of_stops = (header(TableFile::Stops), stops);
+    push_file(alloc, &mut files, TableFile::Stops, of_stops)?;
+    let of_trips = (header(TableFile::Trips), trips);
+    push_file(alloc, &mut files, TableFile::Trips, of_trips)?;
+    let mut files = MemoryFiles::make(files, List::new(alloc));
+    Ok(read_timetable(alloc, &mut files, "g"))
+}
+
 // Adds a stop with its times.
 fn push_stop(alloc: Global, text: &mut String, stop: &StopRow) -> Result<(), AllocError> {
     let line = format!(in alloc;
