@@ -33,7 +33,8 @@ pub without-none : (xs : List (ℕ × List ℕ)) (slot : ℕ) → bytes_of xs sl
 without-none [] slot none = refl
 without-none (x ∷ xs) slot none = grind (arith, nat_tests, without-none xs slot)
 
-live_bytes-cons : (x : ℕ × List ℕ) (xs : List (ℕ × List ℕ)) → live_bytes (x ∷ xs) ≡ length x.1 + live_bytes xs
+-- a span before others
+pub live_bytes-cons : (x : ℕ × List ℕ) (xs : List (ℕ × List ℕ)) → live_bytes (x ∷ xs) ≡ length x.1 + live_bytes xs
 live_bytes-cons x xs = sum_by-cons (λ span. length span.1) x xs
 
 -- the live bytes fall by those of the span that is given back

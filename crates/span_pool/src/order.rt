@@ -1,6 +1,6 @@
 //! The slots in the order in which their spans stand, and the moves that keep it.
-ghost use Rattle.std.specs.Prelude.{◌≡◌, ◌+◌, ◌<◌, ◌≤◌, ◌∷◌, [], ◌++◌, ℕ, length, take, vec_len, vec_capacity, OnOk, OnErr, IsOk, IsPermutation, slice_index, Contains};
-ghost use Rattle.span_pool.specs.Places.{IsOrder, stands};
+ghost use Rattle.std.specs.Prelude.{◌≡◌, ◌+◌, ◌<◌, ◌≤◌, ◌∷◌, [], ◌++◌, length, take, vec_capacity, OnOk};
+ghost use Rattle.span_pool.specs.Places.{IsOrder, Lacks, standing};
 
 use crate::place::Place;
 use std::alloc::AllocError;
@@ -12,11 +12,13 @@ pub(crate) fn take_slot(
     used: usize,
     place: Place,
 ) -> usize
-    requires kept { IsOrder places.old.items order.old.items used }
+    requires ordered { place.start ≤ place.end }
+    requires is_order { IsOrder (length places.old.items) order.old.items used }
     requires places_room { used < vec_capacity places.old }
     requires order_room { used < vec_capacity order.old }
-    ensures kept { IsOrder places.new.items order.new.items (used + 1) }
-    ensures added { stands places.new.items (take (used + 1) order.new.items) ≡ stands places.old.items (take used order.old.items) ++ stands places.new.items (result ∷ []) }
+    ensures is_order { IsOrder (length places.new.items) order.new.items (used + 1) }
+    ensures lacks { Lacks (take used order.old.items) result }
+    ensures added { standing places.new.items (take (used + 1) order.new.items) ≡ standing places.old.items (take used order.old.items) ++ (result, place) ∷ [] }
     ensures places_room { vec_capacity places.old ≤ vec_capacity places.new }
     ensures order_room { vec_capacity order.old ≤ vec_capacity order.new }
 {
@@ -34,9 +36,9 @@ pub(crate) fn take_slot(
 
 /// Moves the slots of live spans to the front, in their order, and answers how many they are.
 pub(crate) fn sweep(places: &[Place], order: &mut [usize], used: usize) -> usize
-    requires kept { IsOrder places.now order.old used }
-    ensures kept { IsOrder places.now order.new result }
-    ensures same { stands places.now (take result order.new) ≡ stands places.now (take used order.old) }
+    requires is_order { IsOrder (length places.now) order.old used }
+    ensures is_order { IsOrder (length places.now) order.new result }
+    ensures same { standing places.now (take result order.new) ≡ standing places.now (take used order.old) }
     ensures fewer { result ≤ used }
 {
     let mut kept = 0;

@@ -40,11 +40,11 @@ impl Model for SpanPool {
 
     ghost Value = { Spans };
 
-    ghost use Rattle.span_pool.specs.Places.{AreKept, stands, cut};
+    ghost use Rattle.span_pool.specs.Places.{IsOrder, IsRegion, standing, cut};
 
-    ghost view = { λ p. record { spans = cut p.bytes.items (stands p.places.items (take p.used p.order.items)); dead = length p.bytes.items - p.live; spare_bytes = p.spare_bytes; spare_spans = p.spare_spans } };
+    ghost view = { λ p. record { spans = cut p.bytes.items (standing p.places.items (take p.used p.order.items)); dead = length p.bytes.items - p.live; spare_bytes = p.spare_bytes; spare_spans = p.spare_spans } };
 
-    ghost invariant = { λ p. AreKept p.bytes.items p.places.items p.order.items p.used p.live × (vec_len p.bytes + p.spare_bytes ≤ vec_capacity p.bytes) × (p.used + p.spare_spans ≤ vec_capacity p.places) × (p.used + p.spare_spans ≤ vec_capacity p.order) };
+    ghost invariant = { λ p. IsOrder (length p.places.items) p.order.items p.used × IsRegion p.bytes.items (standing p.places.items (take p.used p.order.items)) p.live × (vec_len p.bytes + p.spare_bytes ≤ vec_capacity p.bytes) × (p.used + p.spare_spans ≤ vec_capacity p.places) × (p.used + p.spare_spans ≤ vec_capacity p.order) };
 }
 
 impl SpanPool {

@@ -1,0 +1,106 @@
+-- The region after a span is put into it and after one is given back.
+use Rattle.std.proofs.Common.{◌≡◌, ◌+◌, ◌-◌, ◌<◌, ◌≤◌, ◌++◌, ◌∷◌, [], ℕ, List, Option, None, Some, IsSome, length, get_or, set, take, drop, leb, arith, refl, sym, ◌∙◌, ap, subst, Bool, true, false, cond, unwrap_or, zero-add}
+use Rattle.std.specs.List.{slice_get, slice_range, cons_option}
+use Rattle.std.proofs.lemmas.Bool.{le-leb}
+use Rattle.std.proofs.lemmas.List.{take_all, take_at, drop_at, take_more, length_push, length-append, length-set, length-take}
+use Rattle.std.proofs.lemmas.List.Edits.{length-between}
+use Rattle.std.proofs.lemmas.Option.{gets}
+use Rattle.std.proofs.lemmas.Grind.{common_steps}
+use Rattle.span_pool.specs.Spans.{bytes_of, live_bytes, without, AreApart}
+use Rattle.span_pool.specs.Places.{with_place, standing, cut, Ascends, Lacks, AreDistinct, AreBelow, IsOrder, IsRegion}
+use Rattle.span_pool.specs.declared.place.Place.{Place}
+use Rattle.span_pool.proofs.SpanLemmas.{live_bytes-append, live_bytes-cons, live_bytes-without, AreApart-append, AreApart-without}
+use Rattle.span_pool.proofs.PlaceLemmas.{standing-append, standing-set, standing-append_row, slice_get-set_same, cut-append, cut-below, Ascends-append, Ascends-nobodys, Ascends-le, standing-nobodys, bytes_of-lacks, IsAt, found}
+use Rattle.span_pool.proofs.OrderLemmas.{Lacks-take, Lacks-below, IsOrder-push}
+
+-- one slot with its place alone
+one_taken : (places : List Place) (slot : ℕ) (place : Place) → slice_get places slot ≡ Some place → place.start ≤ place.end → standing places (slot ∷ []) ≡ (slot, place) ∷ []
+one_taken places slot place at ordered =
+    ap (λ o. cons_option (with_place slot o) []) at ∙ ap (λ b. cons_option (cond b (Some (slot, place)) None) []) (le-leb place.start place.end ordered)
+
+-- what is known when a slot is taken
+pub record IsTaken (places_were places : List Place) (order_was order : List ℕ) (used slot : ℕ) (place : Place) : Type 0 where
+  pub is_order : IsOrder (length places) order (used + 1)
+  pub lacks : Lacks (take used order_was) slot
+  pub added : standing places (take (used + 1) order) ≡ standing places_were (take used order_was) ++ (slot, place) ∷ []
+
+pub taken_again : (places : List Place) (order : List ℕ) (used : ℕ) (place : Place) → place.start ≤ place.end → used < length order → IsOrder (length places) order used → IsTaken places (set places (get_or order used 0) place) order order used (get_or order used 0) place
+taken_again places order used place ordered within is =
+    let slot : ℕ = get_or order used 0 in
+    let lacks : Lacks (take used order) slot = Lacks-take order used is.distinct within in
+    let now : List Place = set places slot place in
+    record {
+      is_order = record {
+        in_order = omega arith;
+        as_long = is.as_long ∙ sym (length-set places slot place);
+        distinct = is.distinct;
+        below = λ k inside. omega (arith, is.below k inside, length-set places slot place);
+      };
+      lacks = lacks;
+      added =
+          ap (standing now) (take_more order used 0 within) ∙ standing-append now (take used order) (slot ∷ [])
+          ∙ ap (λ front. front ++ standing now (slot ∷ [])) (standing-set (take used order) places slot place lacks)
+          ∙ ap (λ back. standing places (take used order) ++ back) (one_taken now slot place (slice_get-set_same places slot place (is.below used within)) ordered);
+    }
+
+pub taken_new : (places : List Place) (order : List ℕ) (used : ℕ) (place : Place) → place.start ≤ place.end → length order ≤ used → IsOrder (length places) order used → IsTaken places (places ++ place ∷ []) order (order ++ length places ∷ []) used (length places) place
+taken_new places order used place ordered full is =
+    let slot : ℕ = length places in
+    let now : List Place = places ++ place ∷ [] in
+    let e : length order ≡ used = omega (arith, is.in_order) in
+    let all : take used order ≡ order = take_all used order (omega arith) in
+    record {
+      is_order =
+          let pushed : IsOrder (slot + 1) (order ++ slot ∷ []) (length order + 1) = IsOrder-push slot order used is in
+          let rows : slot + 1 ≡ length now = sym (length_push places place) in
+          let in_use : length order + 1 ≡ used + 1 = omega arith in
+          subst (λ n. IsOrder n (order ++ slot ∷ []) (used + 1)) rows (subst (IsOrder (slot + 1) (order ++ slot ∷ [])) in_use pushed);
+      lacks = subst (λ front. Lacks front slot) (sym all) (Lacks-below order slot is.below);
+      added =
+          ap (standing now) (take_all (used + 1) (order ++ slot ∷ []) (omega (arith, length_push order slot))) ∙ standing-append now order (slot ∷ [])
+          ∙ ap (λ front. front ++ standing now (slot ∷ [])) (standing-append_row order places (place ∷ []) is.below ∙ ap (standing places) (sym all))
+          ∙ ap (λ back. standing places (take used order) ++ back) (one_taken now slot place (grind (arith, common_steps, gets)) ordered);
+    }
+
+-- the bytes of the live spans fit in the region
+live_le : (stand : List (ℕ × Place)) (bytes : List ℕ) (from limit : ℕ) → Ascends from stand limit → from + live_bytes (cut bytes stand) ≤ limit
+live_le [] bytes from limit ascends = omega arith
+live_le (it ∷ stand) bytes from limit ascends =
+    let rest : it.1.end + live_bytes (cut bytes stand) ≤ limit = live_le stand bytes it.1.end limit ascends.2 in
+    let first : length (slice_range bytes it.1.start it.1.end) ≤ it.1.end - it.1.start = omega (arith, length-take (it.1.end - it.1.start) (drop it.1.start bytes)) in
+    omega (arith, live_bytes-cons (it.0, slice_range bytes it.1.start it.1.end) (cut bytes stand), ascends.0, ascends.1)
+
+pub region_fits : (bytes : List ℕ) (stand : List (ℕ × Place)) (total : ℕ) → IsRegion bytes stand total → total ≤ length bytes
+region_fits bytes stand total is = omega (arith, live_le stand bytes 0 (length bytes) is.ascend, is.total_is)
+
+pub put_spans : (bytes more : List ℕ) (stand : List (ℕ × Place)) (slot total : ℕ) → IsRegion bytes stand total → cut (bytes ++ more) (stand ++ (slot, record { start = length bytes; end = length bytes + length more }) ∷ []) ≡ cut bytes stand ++ (slot, more) ∷ []
+put_spans bytes more stand slot total is =
+    let n : ℕ = length bytes in
+    let put : Place = record { start = n; end = n + length more } in
+    let size : n + length more - n ≡ length more = omega arith in
+    let span : slice_range (bytes ++ more) n (n + length more) ≡ more =
+    ap (take (n + length more - n)) (drop_at bytes more n refl) ∙ take_all (n + length more - n) more (omega arith) in
+    cut-append (bytes ++ more) stand ((slot, put) ∷ [])
+    ∙ ap (λ front. front ++ cut (bytes ++ more) ((slot, put) ∷ [])) (cut-below stand bytes (bytes ++ more) 0 n is.ascend (take_at bytes more n refl ∙ sym (take_all n bytes (omega arith))))
+    ∙ ap (λ last. cut bytes stand ++ (slot, last) ∷ []) span
+
+pub put_region : (bytes more : List ℕ) (stand : List (ℕ × Place)) (slot total : ℕ) → IsRegion bytes stand total → bytes_of (cut bytes stand) slot ≡ None → IsRegion (bytes ++ more) (stand ++ (slot, record { start = length bytes; end = length bytes + length more }) ∷ []) (total + length more)
+put_region bytes more stand slot total is none =
+    let n : ℕ = length bytes in
+    let put : Place = record { start = n; end = n + length more } in
+    let spans : cut (bytes ++ more) (stand ++ (slot, put) ∷ []) ≡ cut bytes stand ++ (slot, more) ∷ [] = put_spans bytes more stand slot total is in
+    record {
+      ascend = Ascends-append stand ((slot, put) ∷ []) 0 n (length (bytes ++ more)) is.ascend (omega arith, omega arith, omega (arith, length-append bytes more));
+      apart = subst AreApart (sym spans) (AreApart-append (cut bytes stand) slot more is.apart none);
+      total_is = sym (ap live_bytes spans ∙ live_bytes-append (cut bytes stand) ((slot, more) ∷ []) ∙ ap (λ k. k + live_bytes ((slot, more) ∷ [])) (sym is.total_is) ∙ ap (λ k. total + k) (zero-add (length more)));
+    }
+
+pub given_back : (bytes : List ℕ) (places : List Place) (slots : List ℕ) (slot : ℕ) (nobodys : Place) (total : ℕ) → nobodys.end < nobodys.start → slot < length places → IsRegion bytes (standing places slots) total → IsRegion bytes (standing (set places slot nobodys) slots) (total - length (unwrap_or (bytes_of (cut bytes (standing places slots)) slot) []))
+given_back bytes places slots slot nobodys total empty within is =
+    let were : List (ℕ × List ℕ) = cut bytes (standing places slots) in
+    let now : cut bytes (standing (set places slot nobodys) slots) ≡ without were slot = standing-nobodys slots bytes places slot nobodys within empty in
+    record {
+      ascend = Ascends-nobodys slots places slot nobodys 0 (length bytes) within empty is.ascend;
+      apart = subst AreApart (sym now) (AreApart-without were slot is.apart);
+      total_is = omega (arith, is.total_is, live_bytes-without were slot is.apart, ap live_bytes now);
+    }
