@@ -3,11 +3,11 @@ use Rattle.std.proofs.Common.{◌≡◌, ◌≢◌, ◌+◌, ◌-◌, ◌<◌, �
 use Rattle.std.specs.List.{slice_get, slice_range, copy_within, cons_option}
 use Rattle.std.proofs.lemmas.Bool.{le-leb}
 use Rattle.std.proofs.lemmas.List.{append-nil, take-take, take_all, take_at, drop_at, drop-drop, drop_all, take_more, drop_more, length-take-le, take-append-drop, length-set}
-use Rattle.std.proofs.lemmas.Option.{slice_get_within}
+use Rattle.std.proofs.lemmas.Option.{slice_get_within, slice_get_read}
 use Rattle.std.proofs.lemmas.Slice.{between_is}
 use Rattle.std.proofs.lemmas.List.Edits.{take-paste, drop-paste, length-paste, length-between}
 use Rattle.span_pool.specs.Spans.{live_bytes}
-use Rattle.span_pool.specs.Places.{with_place, standing, cut, Ascends, Lacks, AreDistinct, AreBelow}
+use Rattle.span_pool.specs.Places.{with_place, standing, cut, Ascends, AreBelow, AreDistinct, IsMoved}
 use Rattle.span_pool.specs.declared.place.Place.{Place}
 use Rattle.span_pool.proofs.SpanLemmas.{live_bytes-append}
 use Rattle.span_pool.proofs.PlaceLemmas.{standing-append, standing-set, slice_get-set_same, cut-append, cut-below, cut-above, Ascends-append, Ascends-weaken, Ascends-le}
@@ -52,13 +52,6 @@ packing_skip slots bytes_were places_were bytes places i end within nobodys is =
       rows = is.rows;
     }
 
--- what a move of one span down leaves of the bytes
-pub record IsMoved (bytes now : List ℕ) (place : Place) (to : ℕ) : Type 0 where
-  pub below : take to now ≡ take to bytes
-  pub moved : slice_range now to (to + (place.end - place.start)) ≡ slice_range bytes place.start place.end
-  pub above : drop place.end now ≡ drop place.end bytes
-  pub as_long : length now ≡ length bytes
-
 pub moved_stays : (bytes : List ℕ) (place : Place) (to : ℕ) → to ≡ place.start → place.start ≤ place.end → IsMoved bytes bytes place to
 moved_stays bytes place to at ordered = record {
   below = refl;
@@ -86,6 +79,23 @@ moved_by_copy bytes place to le ordered within =
           there now ∙ ap (drop (place.end - (to + n))) (drop-paste bytes to source n at enough) ∙ sym (there bytes);
       as_long = length-paste bytes to source n room enough;
     }
+
+-- the row of the next slot, as it is read
+pub packing_read : (slots bytes_were : List ℕ) (places_were : List Place) (bytes : List ℕ) (places : List Place) (i end : ℕ) (place : Place) → i < length slots → AreBelow slots (length places_were) → place ≡ get_or places (get_or slots i 0) place → IsPacking slots bytes_were places_were bytes places i end → slice_get places (get_or slots i 0) ≡ Some place
+packing_read slots bytes_were places_were bytes places i end place within below read is =
+    slice_get_read places (length places) (get_or slots i 0) place refl (omega (arith, below i within, is.rows)) read
+
+-- the next live span stands behind those that are packed, within the region
+pub packing_next : (slots bytes_were : List ℕ) (places_were : List Place) (bytes : List ℕ) (places : List Place) (i end : ℕ) (place : Place) → i < length slots → slice_get places (get_or slots i 0) ≡ Some place → place.start ≤ place.end → IsPacking slots bytes_were places_were bytes places i end → (end ≤ place.start) × (place.end ≤ length bytes)
+packing_next slots bytes_were places_were bytes places i end place within at ordered is =
+    let slot : ℕ = get_or slots i 0 in
+    let mid : IsMid slots places i (slice_get places slot) slot = is_mid slots places i within in
+    let row : with_place slot (slice_get places slot) ≡ Some (slot, place) =
+      ap (with_place slot) at ∙ ap (λ b. cond b (Some (slot, place)) None) (le-leb place.start place.end ordered) in
+    let rest : List (ℕ × Place) = standing places (drop (i + 1) slots) in
+    let to_do : Ascends end ((slot, place) ∷ rest) (length bytes) =
+      subst (λ stand. Ascends end stand (length bytes)) (mid.back ∙ ap (λ at_it. cons_option at_it rest) row) is.to_do in
+    (to_do.0, Ascends-le rest place.end (length bytes) to_do.2)
 
 pub packing_move : (slots bytes_were : List ℕ) (places_were : List Place) (bytes now : List ℕ) (places places_now : List Place) (i end : ℕ) (place : Place) → i < length slots → slice_get places (get_or slots i 0) ≡ Some place → place.start ≤ place.end → IsMoved bytes now place end → places_now ≡ set places (get_or slots i 0) (record { start = end; end = end + (place.end - place.start) }) → AreDistinct slots → IsPacking slots bytes_were places_were bytes places i end → IsPacking slots bytes_were places_were now places_now (i + 1) (end + (place.end - place.start))
 packing_move slots bytes_were places_were bytes now places places_now i end place within at ordered moved rows_now distinct is =
@@ -142,7 +152,7 @@ packing_move slots bytes_were places_were bytes now places places_now i end plac
     }
 
 -- when all are packed and the rest is cut off
-pub packing_all : (slots bytes_were : List ℕ) (places_were : List Place) (bytes : List ℕ) (places : List Place) (i end : ℕ) → i ≡ length slots → IsPacking slots bytes_were places_were bytes places i end →
+pub packing_all : (slots bytes_were : List ℕ) (places_were : List Place) (bytes : List ℕ) (places : List Place) (i end : ℕ) → length slots ≤ i → IsPacking slots bytes_were places_were bytes places i end →
     (cut (take end bytes) (standing places slots) ≡ cut bytes_were (standing places_were slots))
     × Ascends 0 (standing places slots) (length (take end bytes))
     × (length (take end bytes) ≡ live_bytes (cut bytes_were (standing places_were slots)))

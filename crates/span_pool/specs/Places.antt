@@ -1,5 +1,5 @@
 -- How a pool keeps its spans: a table of places by slot, and the slots in the order in which their spans stand.
-use Rattle.std.specs.Prelude.{◌≡◌, ◌≢◌, ◌≤◌, ◌<◌, ◌∷◌, [], ℕ, nat_le, List, Option, None, Some, map, length, slice_get, slice_range, slice_index, if◌then◌else◌}
+use Rattle.std.specs.Prelude.{◌≡◌, ◌≢◌, ◌≤◌, ◌<◌, ◌∷◌, [], ℕ, nat_le, List, Option, None, Some, map, length, slice_get, slice_range, slice_index, if◌then◌else◌, take, drop, ◌+◌, ◌-◌}
 use Rattle.std.specs.List.{filter_map}
 use Rattle.span_pool.specs.Spans.{live_bytes, AreApart}
 use Rattle.span_pool.specs.declared.place.Place.{Place}
@@ -47,3 +47,10 @@ pub record IsRegion (bytes : List ℕ) (stand : List (ℕ × Place)) (total : �
   pub ascend : Ascends 0 stand (length bytes)
   pub apart : AreApart (cut bytes stand)
   pub total_is : total ≡ live_bytes (cut bytes stand)
+
+-- what a move of one span down leaves of the bytes
+pub record IsMoved (bytes now : List ℕ) (place : Place) (to : ℕ) : Type 0 where
+  pub below : take to now ≡ take to bytes
+  pub moved : slice_range now to (to + (place.end - place.start)) ≡ slice_range bytes place.start place.end
+  pub above : drop place.end now ≡ drop place.end bytes
+  pub as_long : length now ≡ length bytes

@@ -1,7 +1,7 @@
 //! Moving the live spans of a region together.
-ghost use Rattle.std.specs.Prelude.{◌≡◌, ◌≤◌, length, vec_capacity};
+ghost use Rattle.std.specs.Prelude.{◌≡◌, ◌+◌, ◌-◌, ◌≤◌, length, vec_capacity};
 ghost use Rattle.span_pool.specs.Spans.{live_bytes};
-ghost use Rattle.span_pool.specs.Places.{AreBelow, AreDistinct, Ascends, cut, standing};
+ghost use Rattle.span_pool.specs.Places.{AreBelow, AreDistinct, Ascends, IsMoved, cut, standing};
 
 use crate::place::Place;
 
@@ -22,16 +22,29 @@ pub(crate) fn pack(bytes: &mut Vec<u8>, places: &mut Vec<Place>, in_use: &[usize
     for slot in in_use {
         let place = places[*slot];
         if place.is_taken() {
-            let len = place.end - place.start;
-            if place.start > end {
-                bytes.copy_within(place.start..place.end, end);
-                places[*slot] = Place {
-                    start: end,
-                    end: end + len,
-                };
-            }
-            end += len;
+            let moved = move_down(bytes, place, end);
+            places[*slot] = moved;
+            end = moved.end;
         }
     }
     bytes.truncate(end);
+}
+
+/// Moves the bytes at a place down to `to`, and answers where they stand then. The bytes below and those behind the
+/// place stay.
+fn move_down(bytes: &mut Vec<u8>, place: Place, to: usize) -> Place
+    requires ordered { place.start ≤ place.end }
+    requires within { place.end ≤ length bytes.old.items }
+    requires down { to ≤ place.start }
+    ensures moved { IsMoved bytes.old.items bytes.new.items place to }
+    ensures place { result ≡ record { start = to; end = to + (place.end - place.start) } }
+    ensures room { vec_capacity bytes.new ≡ vec_capacity bytes.old }
+{
+    if to < place.start {
+        bytes.copy_within(place.start..place.end, to);
+    }
+    Place {
+        start: to,
+        end: to + (place.end - place.start),
+    }
 }
