@@ -4,7 +4,7 @@ use Rattle.std.specs.List.{slice_get, slice_range, cons_option}
 use Rattle.std.proofs.lemmas.Bool.{le-leb}
 use Rattle.std.proofs.lemmas.List.{take_all, take_at, drop_at, take_more, length_push, length-append, length-set, length-take}
 use Rattle.std.proofs.lemmas.List.Edits.{length-between}
-use Rattle.std.proofs.lemmas.Option.{gets}
+use Rattle.std.proofs.lemmas.Option.{gets, slice_get_within, get_or_from_slice_get}
 use Rattle.std.proofs.lemmas.Grind.{common_steps}
 use Rattle.span_pool.specs.Spans.{bytes_of, live_bytes, without, AreApart}
 use Rattle.span_pool.specs.Places.{with_place, standing, cut, Ascends, Lacks, AreDistinct, AreBelow, IsOrder, IsRegion}
@@ -95,6 +95,18 @@ put_region bytes more stand slot total is none =
       total_is = sym (ap live_bytes spans ∙ live_bytes-append (cut bytes stand) ((slot, more) ∷ []) ∙ ap (λ k. k + live_bytes ((slot, more) ∷ [])) (sym is.total_is) ∙ ap (λ k. total + k) (zero-add (length more)));
     }
 
+-- what a put leaves
+pub record IsPut (bytes now more : List ℕ) (stand stand_now : List (ℕ × Place)) (slot total : ℕ) : Type 0 where
+  pub region : IsRegion now stand_now (total + length more)
+  pub spans : cut now stand_now ≡ cut bytes stand ++ (slot, more) ∷ []
+
+pub is_put : (bytes now more : List ℕ) (stand stand_now : List (ℕ × Place)) (slot start end total : ℕ) → IsRegion bytes stand total → bytes_of (cut bytes stand) slot ≡ None → now ≡ bytes ++ more → start ≡ length bytes → end ≡ length now → stand_now ≡ stand ++ (slot, record { start = start; end = end }) ∷ [] → IsPut bytes now more stand stand_now slot total
+is_put bytes now more stand stand_now slot start end total is none grown start_is end_is added =
+    let end_at : end ≡ length bytes + length more = end_is ∙ ap length grown ∙ length-append bytes more in
+    let same : stand_now ≡ stand ++ (slot, record { start = length bytes; end = length bytes + length more }) ∷ [] =
+      added ∙ ap (λ at. stand ++ (slot, record { start = at; end = end }) ∷ []) start_is ∙ ap (λ at. stand ++ (slot, record { start = length bytes; end = at }) ∷ []) end_at in
+    rw (grown, same) (record { region = put_region bytes more stand slot total is none; spans = put_spans bytes more stand slot total is })
+
 pub given_back : (bytes : List ℕ) (places : List Place) (slots : List ℕ) (slot : ℕ) (nobodys : Place) (total : ℕ) → nobodys.end < nobodys.start → slot < length places → IsRegion bytes (standing places slots) total → IsRegion bytes (standing (set places slot nobodys) slots) (total - length (unwrap_or (bytes_of (cut bytes (standing places slots)) slot) []))
 given_back bytes places slots slot nobodys total empty within is =
     let were : List (ℕ × List ℕ) = cut bytes (standing places slots) in
@@ -104,3 +116,43 @@ given_back bytes places slots slot nobodys total empty within is =
       apart = subst AreApart (sym now) (AreApart-without were slot is.apart);
       total_is = omega (arith, is.total_is, live_bytes-without were slot is.apart, ap live_bytes now);
     }
+
+-- what is known of a slot that has a span
+pub record IsHere (bytes : List ℕ) (places : List Place) (slots : List ℕ) (slot : ℕ) : Type 0 where
+  pub span : List ℕ
+  pub held : bytes_of (cut bytes (standing places slots)) slot ≡ Some span
+  pub at : Place
+  pub row : slice_get places slot ≡ Some at
+  pub inside : slot < length places
+  pub ordered : at.start ≤ at.end
+  pub within : at.end ≤ length bytes
+  pub span_is : span ≡ slice_range bytes at.start at.end
+  pub long : length span ≡ at.end - at.start
+  pub fits : at.end - at.start ≤ live_bytes (cut bytes (standing places slots))
+
+some_span : (o : Option (List ℕ)) → IsSome o → (span : List ℕ) × (o ≡ Some span)
+some_span None is = cc
+some_span (Some span) is = (span, refl)
+
+pub is_here : (bytes : List ℕ) (places : List Place) (slots : List ℕ) (slot total : ℕ) → IsRegion bytes (standing places slots) total → IsSome (bytes_of (cut bytes (standing places slots)) slot) → IsHere bytes places slots slot
+is_here bytes places slots slot total is has =
+    let spans : List (ℕ × List ℕ) = cut bytes (standing places slots) in
+    let some : (span : List ℕ) × (bytes_of spans slot ≡ Some span) = some_span (bytes_of spans slot) has in
+    let at : IsAt bytes (slice_get places slot) (length bytes) some.0 = found slots bytes places slot 0 (length bytes) some.0 is.ascend some.1 in
+    let long : length some.0 ≡ at.at.end - at.at.start = ap length at.span_is ∙ length-between bytes at.at.start at.at.end at.within in
+    record {
+      span = some.0;
+      held = some.1;
+      at = at.at;
+      row = at.is;
+      inside = slice_get_within places slot at.at at.is;
+      ordered = at.ordered;
+      within = at.within;
+      span_is = at.span_is;
+      long = long;
+      fits = omega (arith, live_bytes-without spans slot is.apart, ap (λ o. length (unwrap_or o [])) some.1);
+    }
+
+-- the row that is read there
+pub here_read : (bytes : List ℕ) (places : List Place) (slots : List ℕ) (slot : ℕ) (here : IsHere bytes places slots slot) (place : Place) → place ≡ get_or places slot place → place ≡ here.at
+here_read bytes places slots slot here place read = read ∙ get_or_from_slice_get places slot here.at place here.row
