@@ -156,3 +156,26 @@ is_here bytes places slots slot total is has =
 -- the row that is read there
 pub here_read : (bytes : List ℕ) (places : List Place) (slots : List ℕ) (slot : ℕ) (here : IsHere bytes places slots slot) (place : Place) → place ≡ get_or places slot place → place ≡ here.at
 here_read bytes places slots slot here place read = read ∙ get_or_from_slice_get places slot here.at place here.row
+
+-- what is left when a slot's place became nobody's
+pub record IsGiven (bytes : List ℕ) (places : List Place) (slots : List ℕ) (slot : ℕ) (nobodys : Place) (total size : ℕ) : Type 0 where
+  pub region : IsRegion bytes (standing (set places slot nobodys) slots) (total - size)
+  pub spans : cut bytes (standing (set places slot nobodys) slots) ≡ without (cut bytes (standing places slots)) slot
+  pub size_is : length (unwrap_or (bytes_of (cut bytes (standing places slots)) slot) []) ≡ size
+  pub fits : size ≤ total
+  pub live : live_bytes (cut bytes (standing places slots)) ≡ live_bytes (cut bytes (standing (set places slot nobodys) slots)) + size
+
+pub is_given : (bytes : List ℕ) (places : List Place) (slots : List ℕ) (slot : ℕ) (nobodys place : Place) (total : ℕ) → nobodys.end < nobodys.start → IsRegion bytes (standing places slots) total → (here : IsHere bytes places slots slot) → place ≡ here.at → IsGiven bytes places slots slot nobodys total (place.end - place.start)
+is_given bytes places slots slot nobodys place total empty is here at =
+    let were : List (ℕ × List ℕ) = cut bytes (standing places slots) in
+    let size : length (unwrap_or (bytes_of were slot) []) ≡ place.end - place.start =
+      ap (λ o. length (unwrap_or o [])) here.held ∙ here.long ∙ ap (λ (it : Place). it.end - it.start) (sym at) in
+    let spans : cut bytes (standing (set places slot nobodys) slots) ≡ without were slot = standing-nobodys slots bytes places slot nobodys here.inside empty in
+    let less : live_bytes were ≡ live_bytes (without were slot) + length (unwrap_or (bytes_of were slot) []) = live_bytes-without were slot is.apart in
+    record {
+      region = subst (λ n. IsRegion bytes (standing (set places slot nobodys) slots) (total - n)) size (given_back bytes places slots slot nobodys total empty here.inside is);
+      spans = spans;
+      size_is = size;
+      fits = omega (arith, less, size, is.total_is);
+      live = less ∙ ap (λ n. live_bytes (without were slot) + n) size ∙ ap (λ list. live_bytes list + (place.end - place.start)) (sym spans);
+    }
