@@ -2,7 +2,7 @@
 use Rattle.std.proofs.Common.{◌≡◌, ◌+◌, ◌-◌, ◌<◌, ◌≤◌, ◌++◌, ◌∷◌, [], ℕ, List, Option, None, Some, IsSome, length, get_or, set, take, drop, leb, arith, refl, sym, ◌∙◌, ap, subst, Bool, true, false, cond, unwrap_or, zero-add}
 use Rattle.std.specs.List.{slice_get, slice_range, cons_option}
 use Rattle.std.proofs.lemmas.Bool.{le-leb}
-use Rattle.std.proofs.lemmas.List.{take_all, take_at, drop_at, take_more, length_push, length-append, length-set, length-take}
+use Rattle.std.proofs.lemmas.List.{append-nil, drop_all, take_all, take_at, drop_at, take_more, length_push, length-append, length-set, length-take}
 use Rattle.std.proofs.lemmas.List.Edits.{length-between}
 use Rattle.std.proofs.lemmas.Option.{gets, slice_get_within, get_or_from_slice_get}
 use Rattle.std.proofs.lemmas.Grind.{common_steps}
@@ -116,6 +116,19 @@ given_back bytes places slots slot nobodys total empty within is =
       apart = subst AreApart (sym now) (AreApart-without were slot is.apart);
       total_is = omega (arith, is.total_is, live_bytes-without were slot is.apart, ap live_bytes now);
     }
+
+-- the same spans at other places
+pub moved_region : (bytes now : List ℕ) (stand stand_now : List (ℕ × Place)) (total : ℕ) → cut now stand_now ≡ cut bytes stand → Ascends 0 stand_now (length now) → IsRegion bytes stand total → IsRegion now stand_now total
+moved_region bytes now stand stand_now total same ascends is = record {
+  ascend = ascends;
+  apart = subst AreApart (sym same) is.apart;
+  total_is = is.total_is ∙ ap live_bytes (sym same);
+}
+
+-- a list that was lent whole, as it is written back
+pub written_back : (was now : List ℕ) (n : ℕ) → n ≡ length was → length now ≡ length was → take n (now ++ drop (length now) was) ≡ now
+written_back was now n whole as_long =
+    ap (λ rest. take n (now ++ rest)) (drop_all (length now) was (omega arith)) ∙ ap (take n) (append-nil now) ∙ take_all n now (omega arith)
 
 -- what is known of a slot that has a span
 pub record IsHere (bytes : List ℕ) (places : List Place) (slots : List ℕ) (slot : ℕ) : Type 0 where
