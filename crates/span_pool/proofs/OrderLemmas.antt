@@ -1,7 +1,6 @@
 -- The order of the slots after one is added or two have changed places.
-use Rattle.std.proofs.Common.{◌≡◌, ◌≢◌, ◌+◌, ◌-◌, ◌<◌, ◌≤◌, ◌++◌, ◌∷◌, [], ℕ, suc, List, Option, None, Some, length, get_or, set, take, drop, leb, arith, ◌⊎◌, inl, inr, refl, sym, ◌∙◌, ap, subst, Bool, true, false, length-take, length-drop, get_or-take, get_or-drop}
+use Rattle.std.proofs.Common.{◌≡◌, ◌≢◌, ◌+◌, ◌-◌, ◌<◌, ◌≤◌, ◌++◌, ◌∷◌, [], ℕ, suc, List, None, length, get_or, set, take, drop, arith, ◌⊎◌, inl, inr, refl, sym, ◌∙◌, ap, subst, length-take, length-drop, get_or-take, get_or-drop}
 use Rattle.std.specs.List.{slice_get, slice_range, swap, cons_option}
-use Rattle.std.proofs.lemmas.Grind.{common_steps}
 use Rattle.std.proofs.lemmas.Bool.{cases_eq, cases_lt}
 use Rattle.std.proofs.lemmas.List.{take_more_set, take-set-le, drop-set-lt, drop_more, append-nil, length-set, take-set, length_push, get_or_push, get_or_append_left, append_assoc}
 use Rattle.std.proofs.lemmas.List.Edits.{swapped_from_swap, Swapped, length-swap, swap_is, between_none}

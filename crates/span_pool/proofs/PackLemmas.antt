@@ -1,5 +1,5 @@
 -- The live spans while they are moved together, one after the other.
-use Rattle.std.proofs.Common.{◌≡◌, ◌≢◌, ◌+◌, ◌-◌, ◌<◌, ◌≤◌, ◌++◌, ◌∷◌, [], ℕ, suc, List, Option, None, Some, length, get_or, set, take, drop, leb, arith, refl, sym, ◌∙◌, ap, subst, Bool, true, false, cond, zero-add, length-take, length-drop}
+use Rattle.std.proofs.Common.{◌≡◌, ◌+◌, ◌-◌, ◌<◌, ◌≤◌, ◌++◌, ◌∷◌, [], ℕ, List, Option, None, Some, length, get_or, set, take, drop, arith, refl, sym, ◌∙◌, ap, subst, cond, zero-add, length-drop}
 use Rattle.std.specs.List.{slice_get, slice_range, copy_within, cons_option}
 use Rattle.std.proofs.lemmas.Bool.{le-leb}
 use Rattle.std.proofs.lemmas.List.{append-nil, take-take, take_all, take_at, drop_at, drop-drop, drop_all, take_more, drop_more, length-take-le, take-append-drop, length-set}
@@ -91,10 +91,10 @@ packing_next slots bytes_were places_were bytes places i end place within at ord
     let slot : ℕ = get_or slots i 0 in
     let mid : IsMid slots places i (slice_get places slot) slot = is_mid slots places i within in
     let row : with_place slot (slice_get places slot) ≡ Some (slot, place) =
-      ap (with_place slot) at ∙ ap (λ b. cond b (Some (slot, place)) None) (le-leb place.start place.end ordered) in
+    ap (with_place slot) at ∙ ap (λ b. cond b (Some (slot, place)) None) (le-leb place.start place.end ordered) in
     let rest : List (ℕ × Place) = standing places (drop (i + 1) slots) in
     let to_do : Ascends end ((slot, place) ∷ rest) (length bytes) =
-      subst (λ stand. Ascends end stand (length bytes)) (mid.back ∙ ap (λ at_it. cons_option at_it rest) row) is.to_do in
+    subst (λ stand. Ascends end stand (length bytes)) (mid.back ∙ ap (λ at_it. cons_option at_it rest) row) is.to_do in
     (to_do.0, Ascends-le rest place.end (length bytes) to_do.2)
 
 pub packing_move : (slots bytes_were : List ℕ) (places_were : List Place) (bytes now : List ℕ) (places places_now : List Place) (i end : ℕ) (place : Place) → i < length slots → slice_get places (get_or slots i 0) ≡ Some place → place.start ≤ place.end → IsMoved bytes now place end → places_now ≡ set places (get_or slots i 0) (record { start = end; end = end + (place.end - place.start) }) → AreDistinct slots → IsPacking slots bytes_were places_were bytes places i end → IsPacking slots bytes_were places_were now places_now (i + 1) (end + (place.end - place.start))

@@ -1,15 +1,15 @@
 -- What stands where after a move of one slot or one span.
-use Rattle.std.proofs.Common.{◌≡◌, ◌≢◌, ◌+◌, ◌-◌, ◌<◌, ◌≤◌, ◌++◌, ◌∷◌, [], ℕ, zero, suc, List, Option, None, Some, IsSome, length, get_or, set, take, drop, map, eqb, leb, arith, ◌⊎◌, inl, inr, refl, sym, ◌∙◌, ap, subst, Bool, true, false, cond, unwrap_or, not}
-use Rattle.std.specs.List.{filter_map, slice_get, slice_range, cons_option}
+use Rattle.std.proofs.Common.{◌≡◌, ◌≢◌, ◌+◌, ◌-◌, ◌<◌, ◌≤◌, ◌++◌, ◌∷◌, [], ℕ, zero, suc, List, Option, None, Some, length, get_or, set, take, drop, eqb, leb, arith, ◌⊎◌, inl, inr, refl, sym, ◌∙◌, ap, subst, Bool, true, false, cond}
+use Rattle.std.specs.List.{slice_get, slice_range, cons_option}
 use Rattle.std.proofs.lemmas.Bool.Decides.{nat_tests}
 use Rattle.std.proofs.lemmas.Grind.{common_steps}
 use Rattle.std.proofs.lemmas.Bool.{eqb-true, cases_eq, eq-eqb, ne_eqb, lt-leb}
 use Rattle.std.proofs.lemmas.List.{take-take, drop-drop, map-append}
 use Rattle.std.proofs.lemmas.Slice.{between_is}
 use Rattle.std.proofs.lemmas.List.Elements.{filter_map-append}
-use Rattle.std.proofs.lemmas.Option.{gets, slice_get-get_or, get_or_from_slice_get, slice_get_within}
-use Rattle.span_pool.specs.Spans.{bytes_of, live_bytes, without, AreApart}
-use Rattle.span_pool.specs.Places.{with_place, standing, cut, Ascends, Lacks, AreDistinct, AreBelow, IsOrder, IsRegion}
+use Rattle.std.proofs.lemmas.Option.{gets, slice_get-get_or}
+use Rattle.span_pool.specs.Spans.{bytes_of, without}
+use Rattle.span_pool.specs.Places.{with_place, standing, cut, Ascends, Lacks, AreBelow}
 use Rattle.span_pool.specs.declared.place.Place.{Place}
 
 slice_get-set_first : (p place : Place) (places : List Place) (other : ℕ) → other ≢ zero → slice_get (place ∷ places) other ≡ slice_get (p ∷ places) other

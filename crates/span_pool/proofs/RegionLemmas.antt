@@ -1,5 +1,5 @@
 -- The region after a span is put into it and after one is given back.
-use Rattle.std.proofs.Common.{◌≡◌, ◌+◌, ◌-◌, ◌<◌, ◌≤◌, ◌++◌, ◌∷◌, [], ℕ, List, Option, None, Some, IsSome, length, get_or, set, take, drop, leb, arith, refl, sym, ◌∙◌, ap, subst, Bool, true, false, cond, unwrap_or, zero-add}
+use Rattle.std.proofs.Common.{◌≡◌, ◌+◌, ◌-◌, ◌<◌, ◌≤◌, ◌++◌, ◌∷◌, [], ℕ, List, Option, None, Some, IsSome, length, get_or, set, take, drop, arith, refl, sym, ◌∙◌, ap, subst, cond, unwrap_or, zero-add}
 use Rattle.std.specs.List.{slice_get, slice_range, cons_option}
 use Rattle.std.proofs.lemmas.Bool.{le-leb}
 use Rattle.std.proofs.lemmas.List.{append-nil, drop_all, take_all, take_at, drop_at, take_more, length_push, length-append, length-set, length-take}
@@ -7,10 +7,10 @@ use Rattle.std.proofs.lemmas.List.Edits.{length-between}
 use Rattle.std.proofs.lemmas.Option.{gets, slice_get_within, get_or_from_slice_get}
 use Rattle.std.proofs.lemmas.Grind.{common_steps}
 use Rattle.span_pool.specs.Spans.{bytes_of, live_bytes, without, AreApart}
-use Rattle.span_pool.specs.Places.{with_place, standing, cut, Ascends, Lacks, AreDistinct, AreBelow, IsOrder, IsRegion}
+use Rattle.span_pool.specs.Places.{with_place, standing, cut, Ascends, Lacks, IsOrder, IsRegion}
 use Rattle.span_pool.specs.declared.place.Place.{Place}
 use Rattle.span_pool.proofs.SpanLemmas.{live_bytes-append, live_bytes-cons, live_bytes-without, AreApart-append, AreApart-without}
-use Rattle.span_pool.proofs.PlaceLemmas.{standing-append, standing-set, standing-append_row, slice_get-set_same, cut-append, cut-below, Ascends-append, Ascends-nobodys, Ascends-le, standing-nobodys, bytes_of-lacks, IsAt, found}
+use Rattle.span_pool.proofs.PlaceLemmas.{standing-append, standing-set, standing-append_row, slice_get-set_same, cut-append, cut-below, Ascends-append, Ascends-nobodys, standing-nobodys, IsAt, found}
 use Rattle.span_pool.proofs.OrderLemmas.{Lacks-take, Lacks-below, IsOrder-push}
 
 -- one slot with its place alone
@@ -104,7 +104,7 @@ pub is_put : (bytes now more : List ℕ) (stand stand_now : List (ℕ × Place))
 is_put bytes now more stand stand_now slot start end total is none grown start_is end_is added =
     let end_at : end ≡ length bytes + length more = end_is ∙ ap length grown ∙ length-append bytes more in
     let same : stand_now ≡ stand ++ (slot, record { start = length bytes; end = length bytes + length more }) ∷ [] =
-      added ∙ ap (λ at. stand ++ (slot, record { start = at; end = end }) ∷ []) start_is ∙ ap (λ at. stand ++ (slot, record { start = length bytes; end = at }) ∷ []) end_at in
+    added ∙ ap (λ at. stand ++ (slot, record { start = at; end = end }) ∷ []) start_is ∙ ap (λ at. stand ++ (slot, record { start = length bytes; end = at }) ∷ []) end_at in
     rw (grown, same) (record { region = put_region bytes more stand slot total is none; spans = put_spans bytes more stand slot total is })
 
 pub given_back : (bytes : List ℕ) (places : List Place) (slots : List ℕ) (slot : ℕ) (nobodys : Place) (total : ℕ) → nobodys.end < nobodys.start → slot < length places → IsRegion bytes (standing places slots) total → IsRegion bytes (standing (set places slot nobodys) slots) (total - length (unwrap_or (bytes_of (cut bytes (standing places slots)) slot) []))
@@ -182,7 +182,7 @@ pub is_given : (bytes : List ℕ) (places : List Place) (slots : List ℕ) (slot
 is_given bytes places slots slot nobodys place total empty is here at =
     let were : List (ℕ × List ℕ) = cut bytes (standing places slots) in
     let size : length (unwrap_or (bytes_of were slot) []) ≡ place.end - place.start =
-      ap (λ o. length (unwrap_or o [])) here.held ∙ here.long ∙ ap (λ (it : Place). it.end - it.start) (sym at) in
+    ap (λ o. length (unwrap_or o [])) here.held ∙ here.long ∙ ap (λ (it : Place). it.end - it.start) (sym at) in
     let spans : cut bytes (standing (set places slot nobodys) slots) ≡ without were slot = standing-nobodys slots bytes places slot nobodys here.inside empty in
     let less : live_bytes were ≡ live_bytes (without were slot) + length (unwrap_or (bytes_of were slot) []) = live_bytes-without were slot is.apart in
     record {

@@ -1,5 +1,5 @@
 -- What the look-up of a slot and the live bytes are after a put and after a span is given back.
-use Rattle.std.proofs.Common.{◌≡◌, ◌≢◌, ◌+◌, ◌++◌, ◌∷◌, [], ℕ, List, Option, None, Some, IsSome, length, sum_by, eqb, arith, ◌⊎◌, inl, inr, refl, sym, ◌∙◌, ap, Bool, true, false, cond, unwrap_or, not}
+use Rattle.std.proofs.Common.{◌≡◌, ◌≢◌, ◌+◌, ◌++◌, ◌∷◌, [], ℕ, List, None, IsSome, length, eqb, arith, refl, ◌∙◌, Bool, true, false, cond, unwrap_or, not}
 use Rattle.std.proofs.lemmas.Bool.Decides.{nat_tests}
 use Rattle.std.proofs.lemmas.List.Sums.{sum_by-append, sum_by-cons}
 use Rattle.span_pool.specs.Spans.{bytes_of, live_bytes, without, AreApart}

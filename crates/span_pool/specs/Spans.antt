@@ -1,5 +1,5 @@
 -- What a clause sees of a pool: its live spans by slot, and the numbers beside them.
-use Rattle.std.specs.Prelude.{◌≡◌, ◌==◌, ◌∷◌, [], ℕ, not, List, Option, None, Some, filter, map, sum_by, length, IfSome, if◌then◌else◌}
+use Rattle.std.specs.Prelude.{◌≡◌, ◌==◌, ◌∷◌, [], ℕ, not, List, Option, None, Some, filter, sum_by, length, if◌then◌else◌}
 
 -- the live spans in the order in which they stand, each with its slot; how many bytes are dead; and how many more bytes
 -- and how many more spans can be put without memory

@@ -1,5 +1,5 @@
 //! The slots in the order in which their spans stand, and the moves that keep it.
-ghost use Rattle.std.specs.Prelude.{◌≡◌, ◌+◌, ◌<◌, ◌≤◌, ◌∷◌, [], ◌++◌, length, take, vec_capacity, OnOk};
+ghost use Rattle.std.specs.Prelude.{◌≡◌, ◌+◌, ◌<◌, ◌≤◌, ◌∷◌, [], ◌++◌, length, take, vec_capacity, OnOk, IfOk};
 ghost use Rattle.span_pool.specs.Places.{IsOrder, Lacks, standing};
 
 use crate::place::Place;
@@ -52,24 +52,26 @@ pub(crate) fn sweep(places: &[Place], order: &mut [usize], used: usize) -> usize
 }
 
 /// Makes room for that many more slots in use, and where it can for half as many again as there are, so that `sweep`
-/// is called rarely. For want of memory the room is no less than it was.
+/// is called rarely. Answers how many more there is room for. For want of memory the room is no less than it was.
 pub(crate) fn make_rows(
     places: &mut Vec<Place>,
     order: &mut Vec<usize>,
     used: usize,
     spans: usize,
-) -> Result<(), AllocError>
+) -> Result<usize, AllocError>
     ensures places { places.new.items ≡ places.old.items }
     ensures order { order.new.items ≡ order.old.items }
-    ensures places_room { OnOk result (used + spans ≤ vec_capacity places.new) }
-    ensures order_room { OnOk result (used + spans ≤ vec_capacity order.new) }
+    ensures enough { IfOk result (λ room. spans ≤ room) }
+    ensures places_room { IfOk result (λ room. used + room ≤ vec_capacity places.new) }
+    ensures order_room { IfOk result (λ room. used + room ≤ vec_capacity order.new) }
     ensures no_fewer_places { vec_capacity places.old ≤ vec_capacity places.new }
     ensures no_shorter_order { vec_capacity order.old ≤ vec_capacity order.new }
 {
-    if used / 2 > spans && grow(places, order, used, used / 2).is_ok() {
-        return Ok(());
+    let half = used / 2;
+    if spans >= half || grow(places, order, used, half).is_err() {
+        grow(places, order, used, spans)?;
     }
-    grow(places, order, used, spans)
+    Ok(places.capacity().min(order.capacity()) - used)
 }
 
 fn grow(

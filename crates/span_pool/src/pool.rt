@@ -81,10 +81,14 @@ impl SpanPool {
         self.bytes.reserve(bytes as usize)?;
         if spans > self.spare_spans as u64 {
             self.used = sweep(&self.places, &mut self.order, self.used);
-            make_rows(&mut self.places, &mut self.order, self.used, spans as usize)?;
-            self.spare_spans = spans as usize;
+            self.spare_spans = make_rows(
+                &mut self.places,
+                &mut self.order,
+                self.used,
+                spans as usize,
+            )?;
         }
-        self.spare_bytes = self.spare_bytes.max(bytes as usize);
+        self.spare_bytes = self.bytes.capacity() - self.bytes.len();
         Ok(())
     }
 

@@ -1,8 +1,7 @@
 -- The live spans stand together, and those in use are theirs alone.
-use Rattle.std.proofs.Common.{◌≡◌, ◌++◌, ◌∙◌, ℕ, List, sym, ap, take, drop, length, subst, arith}
+use Rattle.std.proofs.Common.{◌≡◌, ◌∙◌, ℕ, List, sym, ap, take, length, subst, arith}
 use Rattle.span_pool.specs.declared.place.Place.{Place}
-use Rattle.span_pool.specs.Spans.{live_bytes}
-use Rattle.span_pool.specs.Places.{IsOrder, IsRegion, Ascends, cut, standing}
+use Rattle.span_pool.specs.Places.{IsRegion, standing}
 use Rattle.span_pool.proofs.RegionLemmas.{region_fits, moved_region, written_back}
 use Rattle.span_pool.proofs.pool.SpanPool.compact.Goals as goal
 

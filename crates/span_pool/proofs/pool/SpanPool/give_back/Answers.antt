@@ -1,11 +1,8 @@
 -- The slot's place becomes nobody's; its bytes stay where they are.
-use Rattle.std.proofs.Common.{◌≡◌, ◌<◌, ◌∙◌, sym, ap, take, length, arith}
+use Rattle.std.proofs.Common.{take, arith}
 use Rattle.std.proofs.lemmas.List.{length-set}
-use Rattle.span_pool.specs.declared.place.Place.{Place}
-use Rattle.span_pool.specs.Places.{IsOrder}
-use Rattle.span_pool.proofs.RegionLemmas.{IsHere, IsGiven, is_here, here_read, is_given, region_fits}
+use Rattle.span_pool.proofs.RegionLemmas.{is_here, here_read, is_given, region_fits}
 use Rattle.span_pool.proofs.pool.SpanPool.give_back.Goals as goal
-
 
 pub index-place-requires : goal.index-place-requires
 index-place-requires c =
@@ -44,8 +41,7 @@ invariant_of-self c =
     let has = rw (← c.self.view_is, ← c.slot.view_is) at c.requires.held in
     let here = is_here p.bytes.items p.places.items (take p.used p.order.items) c.slot.inside.number p.live c.self.invariant.1 has in
     let read = here_read p.bytes.items p.places.items (take p.used p.order.items) c.slot.inside.number here c.index-place.result.now c.index-place.ensures in
-    let given = is_given p.bytes.items p.places.items (take p.used p.order.items) c.slot.inside.number (record { start = 1; end = 0 }) c.index-place.result.now p.live (omega arith) c.self.invariant.1 here read in
-    (
+    let given = is_given p.bytes.items p.places.items (take p.used p.order.items) c.slot.inside.number (record { start = 1; end = 0 }) c.index-place.result.now p.live (omega arith) c.self.invariant.1 here read in (
       rw (length-set p.places.items c.slot.inside.number (record { start = 1; end = 0 })) c.self.invariant.0,
       given.region,
       c.self.invariant.2,

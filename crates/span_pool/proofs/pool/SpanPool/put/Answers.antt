@@ -1,8 +1,6 @@
 -- A span more behind the others, under a slot that none of them has.
-use Rattle.std.proofs.Common.{◌≡◌, ◌+◌, ◌++◌, ◌∷◌, [], sym, ◌∙◌, ap, length, arith}
-use Rattle.span_pool.specs.Spans.{live_bytes}
-use Rattle.span_pool.proofs.SpanLemmas.{live_bytes-append}
-use Rattle.span_pool.proofs.RegionLemmas.{region_fits, IsPut, is_put}
+use Rattle.std.proofs.Common.{◌+◌, sym, ◌∙◌, ap, length, arith}
+use Rattle.span_pool.proofs.RegionLemmas.{region_fits, is_put}
 use Rattle.span_pool.proofs.PlaceLemmas.{bytes_of-lacks}
 use Rattle.span_pool.proofs.pool.SpanPool.put.Goals as goal
 
@@ -16,8 +14,7 @@ invariant_of-self c =
     let grown = rw c.unwrap.ensures at c.extend_from_slice.ensures.items in
     let longer = rw c.unwrap.ensures at c.extend_from_slice.ensures.len in
     let none = bytes_of-lacks _ c.self.inside.bytes.items c.self.inside.places.items _ c.take_slot-number.ensures.lacks in
-    let put = is_put _ _ _ _ _ _ _ _ _ c.self.invariant.1 none grown (c.len-start.ensures ∙ c.self.inside.bytes.ok.0) (c.len.ensures ∙ c.extend_from_slice.new.self.ok.0) c.take_slot-number.ensures.added in
-    (
+    let put = is_put _ _ _ _ _ _ _ _ _ c.self.invariant.1 none grown (c.len-start.ensures ∙ c.self.inside.bytes.ok.0) (c.len.ensures ∙ c.extend_from_slice.new.self.ok.0) c.take_slot-number.ensures.added in (
       c.take_slot-number.ensures.is_order,
       put.region,
       omega (arith, c.self.invariant.2, c.requires.bytes_room, c.extend_from_slice.ensures.capacity, ap (λ v. v.spare_bytes) c.self.view_is),

@@ -1,6 +1,6 @@
 -- The slot's place is one of a live span, and lies within the region.
-use Rattle.std.proofs.Common.{◌≡◌, ◌∙◌, sym, ap, take, Some, arith}
-use Rattle.span_pool.proofs.RegionLemmas.{IsHere, is_here, here_read}
+use Rattle.std.proofs.Common.{◌∙◌, ap, take, Some, arith}
+use Rattle.span_pool.proofs.RegionLemmas.{is_here, here_read}
 use Rattle.span_pool.proofs.pool.SpanPool.span.Goals as goal
 
 pub index-place-requires : goal.index-place-requires
