@@ -9,7 +9,7 @@ use Rattle.std.proofs.lemmas.Grind.{common_steps}
 use Rattle.span_pool.specs.Spans.{bytes_of, live_bytes, without, AreApart}
 use Rattle.span_pool.specs.Places.{with_place, standing, cut, Ascends, Lacks, IsOrder, IsRegion}
 use Rattle.span_pool.specs.declared.place.Place.{Place}
-use Rattle.span_pool.proofs.SpanLemmas.{live_bytes-append, live_bytes-cons, live_bytes-without, AreApart-append, AreApart-without}
+use Rattle.span_pool.proofs.SpanLemmas.{bytes_of_put, live_bytes-append, live_bytes-cons, live_bytes-without, AreApart-append, AreApart-without}
 use Rattle.span_pool.proofs.PlaceLemmas.{standing-append, standing-set, standing-append_row, slice_get-set_same, cut-append, cut-below, Ascends-append, Ascends-nobodys, standing-nobodys, IsAt, found}
 use Rattle.span_pool.proofs.OrderLemmas.{Lacks-take, Lacks-below, IsOrder-push}
 
@@ -99,13 +99,14 @@ put_region bytes more stand slot total is none =
 pub record IsPut (bytes now more : List ℕ) (stand stand_now : List (ℕ × Place)) (slot total : ℕ) : Type 0 where
   pub region : IsRegion now stand_now (total + length more)
   pub spans : cut now stand_now ≡ cut bytes stand ++ (slot, more) ∷ []
+  pub held : bytes_of (cut now stand_now) slot ≡ Some more
 
 pub is_put : (bytes now more : List ℕ) (stand stand_now : List (ℕ × Place)) (slot start end total : ℕ) → IsRegion bytes stand total → bytes_of (cut bytes stand) slot ≡ None → now ≡ bytes ++ more → start ≡ length bytes → end ≡ length now → stand_now ≡ stand ++ (slot, record { start = start; end = end }) ∷ [] → IsPut bytes now more stand stand_now slot total
 is_put bytes now more stand stand_now slot start end total is none grown start_is end_is added =
     let end_at : end ≡ length bytes + length more = end_is ∙ ap length grown ∙ length-append bytes more in
     let same : stand_now ≡ stand ++ (slot, record { start = length bytes; end = length bytes + length more }) ∷ [] =
     added ∙ ap (λ at. stand ++ (slot, record { start = at; end = end }) ∷ []) start_is ∙ ap (λ at. stand ++ (slot, record { start = length bytes; end = at }) ∷ []) end_at in
-    rw (grown, same) (record { region = put_region bytes more stand slot total is none; spans = put_spans bytes more stand slot total is })
+    rw (grown, same) (record { region = put_region bytes more stand slot total is none; spans = put_spans bytes more stand slot total is; held = ap (λ spans. bytes_of spans slot) (put_spans bytes more stand slot total is) ∙ bytes_of_put (cut bytes stand) slot more none })
 
 pub given_back : (bytes : List ℕ) (places : List Place) (slots : List ℕ) (slot : ℕ) (nobodys : Place) (total : ℕ) → nobodys.end < nobodys.start → slot < length places → IsRegion bytes (standing places slots) total → IsRegion bytes (standing (set places slot nobodys) slots) (total - length (unwrap_or (bytes_of (cut bytes (standing places slots)) slot) []))
 given_back bytes places slots slot nobodys total empty within is =

@@ -1,5 +1,6 @@
 -- What the look-up of a slot and the live bytes are after a put and after a span is given back.
-use Rattle.std.proofs.Common.{◌≡◌, ◌≢◌, ◌+◌, ◌++◌, ◌∷◌, [], ℕ, List, None, IsSome, length, eqb, arith, refl, ◌∙◌, Bool, true, false, cond, unwrap_or, not}
+use Rattle.std.proofs.Common.{Some, ◌≡◌, ◌≢◌, ◌+◌, ◌++◌, ◌∷◌, [], ℕ, List, None, IsSome, length, eqb, arith, refl, ◌∙◌, Bool, true, false, cond, unwrap_or, not}
+use Rattle.std.proofs.lemmas.Bool.{eq-eqb}
 use Rattle.std.proofs.lemmas.Bool.Decides.{nat_tests}
 use Rattle.std.proofs.lemmas.List.Sums.{sum_by-append, sum_by-cons}
 use Rattle.span_pool.specs.Spans.{bytes_of, live_bytes, without, AreApart}
@@ -13,6 +14,11 @@ bytes_of-append (x ∷ xs) ys slot held = grind (arith, nat_tests, bytes_of-appe
 pub bytes_of-append_new : (xs ys : List (ℕ × List ℕ)) (slot : ℕ) → bytes_of xs slot ≡ None → bytes_of (xs ++ ys) slot ≡ bytes_of ys slot
 bytes_of-append_new [] ys slot none = refl
 bytes_of-append_new (x ∷ xs) ys slot none = grind (arith, nat_tests, bytes_of-append_new xs ys slot)
+
+-- what is put last under a new slot is found there
+pub bytes_of_put : (xs : List (ℕ × List ℕ)) (slot : ℕ) (bytes : List ℕ) → bytes_of xs slot ≡ None → bytes_of (xs ++ (slot, bytes) ∷ []) slot ≡ Some bytes
+bytes_of_put [] slot bytes none = rw (eq-eqb slot slot refl) refl
+bytes_of_put (x ∷ xs) slot bytes none = grind (arith, nat_tests, bytes_of_put xs slot bytes)
 
 -- other slots hold what they held after one was given back
 pub bytes_of-without : (xs : List (ℕ × List ℕ)) (slot other : ℕ) → other ≢ slot → bytes_of (without xs slot) other ≡ bytes_of xs other

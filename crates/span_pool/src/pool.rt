@@ -98,6 +98,7 @@ impl SpanPool {
         requires spans_room { 0 < self.old.spare_spans }
         ensures apart { bytes_of self.old.spans result ≡ None }
         ensures added { self.new.spans ≡ self.old.spans ++ (result, bytes.now) ∷ [] }
+        ensures held { bytes_of self.new.spans result ≡ Some bytes.now }
         ensures dead { self.new.dead ≡ self.old.dead }
         ensures spare_bytes { self.new.spare_bytes ≡ self.old.spare_bytes - length bytes.now }
         ensures spare_spans { self.new.spare_spans ≡ self.old.spare_spans - 1 }

@@ -33,6 +33,13 @@ returns-clause-added c =
     let put = is_put _ _ _ _ _ _ _ _ _ c.self.invariant.1 none grown (c.len-start.ensures ∙ c.self.inside.bytes.ok.0) (c.len.ensures ∙ c.extend_from_slice.new.self.ok.0) c.take_slot-number.ensures.added in
     rw (← c.self.view_is) put.spans
 
+pub returns-clause-held : goal.returns-clause-held
+returns-clause-held c =
+    let grown = rw c.unwrap.ensures at c.extend_from_slice.ensures.items in
+    let none = bytes_of-lacks _ c.self.inside.bytes.items c.self.inside.places.items _ c.take_slot-number.ensures.lacks in
+    let put = is_put _ _ _ _ _ _ _ _ _ c.self.invariant.1 none grown (c.len-start.ensures ∙ c.self.inside.bytes.ok.0) (c.len.ensures ∙ c.extend_from_slice.new.self.ok.0) c.take_slot-number.ensures.added in
+    put.held
+
 pub returns-clause-live : goal.returns-clause-live
 returns-clause-live c =
     let grown = rw c.unwrap.ensures at c.extend_from_slice.ensures.items in
