@@ -18,7 +18,8 @@ pub(crate) fn take_slot(
     requires order_room { used < vec_capacity order.old }
     ensures is_order { IsOrder (length places.new.items) order.new.items (used + 1) }
     ensures lacks { Lacks (take used order.old.items) result }
-    ensures added { standing places.new.items (take (used + 1) order.new.items) ≡ standing places.old.items (take used order.old.items) ++ (result, place) ∷ [] }
+    ensures added { standing places.new.items (take (used + 1) order.new.items)
+        ≡ standing places.old.items (take used order.old.items) ++ (result, place) ∷ [] }
     ensures places_room { vec_capacity places.old ≤ vec_capacity places.new }
     ensures order_room { vec_capacity order.old ≤ vec_capacity order.new }
 {
@@ -38,7 +39,8 @@ pub(crate) fn take_slot(
 pub(crate) fn sweep(places: &[Place], order: &mut [usize], used: usize) -> usize
     requires is_order { IsOrder (length places.now) order.old used }
     ensures is_order { IsOrder (length places.now) order.new result }
-    ensures same { standing places.now (take result order.new) ≡ standing places.now (take used order.old) }
+    ensures same { standing places.now (take result order.new)
+        ≡ standing places.now (take used order.old) }
     ensures fewer { result ≤ used }
 {
     let mut kept = 0;

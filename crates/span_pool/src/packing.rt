@@ -11,9 +11,11 @@ pub(crate) fn pack(bytes: &mut Vec<u8>, places: &mut Vec<Place>, in_use: &[usize
     requires distinct { AreDistinct in_use.now }
     requires below { AreBelow in_use.now (length places.old.items) }
     requires ascend { Ascends 0 (standing places.old.items in_use.now) (length bytes.old.items) }
-    ensures same { cut bytes.new.items (standing places.new.items in_use.now) ≡ cut bytes.old.items (standing places.old.items in_use.now) }
+    ensures same { cut bytes.new.items (standing places.new.items in_use.now)
+        ≡ cut bytes.old.items (standing places.old.items in_use.now) }
     ensures ascend { Ascends 0 (standing places.new.items in_use.now) (length bytes.new.items) }
-    ensures live { length bytes.new.items ≡ live_bytes (cut bytes.old.items (standing places.old.items in_use.now)) }
+    ensures live { length bytes.new.items
+        ≡ live_bytes (cut bytes.old.items (standing places.old.items in_use.now)) }
     ensures rows { length places.new.items ≡ length places.old.items }
     ensures bytes_room { vec_capacity bytes.new ≡ vec_capacity bytes.old }
     ensures places_room { vec_capacity places.new ≡ vec_capacity places.old }

@@ -42,9 +42,18 @@ impl Model for SpanPool {
 
     ghost use Rattle.span_pool.specs.Places.{IsOrder, IsRegion, standing, cut};
 
-    ghost view = { λ p. record { spans = cut p.bytes.items (standing p.places.items (take p.used p.order.items)); dead = length p.bytes.items - p.live; spare_bytes = p.spare_bytes; spare_spans = p.spare_spans } };
+    ghost view = { λ p. record {
+      spans = cut p.bytes.items (standing p.places.items (take p.used p.order.items));
+      dead = length p.bytes.items - p.live;
+      spare_bytes = p.spare_bytes;
+      spare_spans = p.spare_spans;
+    } };
 
-    ghost invariant = { λ p. IsOrder (length p.places.items) p.order.items p.used × IsRegion p.bytes.items (standing p.places.items (take p.used p.order.items)) p.live × (vec_len p.bytes + p.spare_bytes ≤ vec_capacity p.bytes) × (p.used + p.spare_spans ≤ vec_capacity p.places) × (p.used + p.spare_spans ≤ vec_capacity p.order) };
+    ghost invariant = { λ p. IsOrder (length p.places.items) p.order.items p.used
+        × IsRegion p.bytes.items (standing p.places.items (take p.used p.order.items)) p.live
+        × (vec_len p.bytes + p.spare_bytes ≤ vec_capacity p.bytes)
+        × (p.used + p.spare_spans ≤ vec_capacity p.places)
+        × (p.used + p.spare_spans ≤ vec_capacity p.order) };
 }
 
 impl SpanPool {
@@ -131,8 +140,10 @@ impl SpanPool {
     pub fn give_back(&mut self, slot: Slot)
         requires held { IsSome (bytes_of self.old.spans slot) }
         ensures spans { self.new.spans ≡ without self.old.spans slot }
-        ensures dead { self.new.dead ≡ self.old.dead + length (unwrap_or (bytes_of self.old.spans slot) []) }
-        ensures live { live_bytes self.old.spans ≡ live_bytes self.new.spans + length (unwrap_or (bytes_of self.old.spans slot) []) }
+        ensures dead { self.new.dead
+            ≡ self.old.dead + length (unwrap_or (bytes_of self.old.spans slot) []) }
+        ensures live { live_bytes self.old.spans
+            ≡ live_bytes self.new.spans + length (unwrap_or (bytes_of self.old.spans slot) []) }
         ensures no_less_bytes { self.old.spare_bytes ≤ self.new.spare_bytes }
         ensures no_less_spans { self.old.spare_spans ≤ self.new.spare_spans }
     {
