@@ -175,8 +175,14 @@ impl Rule {
         let shift = i128::from(summer.offset - self.offset) * NANOS;
         let clock = i128::from(clock) * NANOS;
         let inside = in_window((start, end), clock);
-        let in_gap = if shift > 0 { start <= clock && clock < start + shift } else { end <= clock && clock < end - shift };
-        let in_summer = if shift > 0 { inside && !in_gap } else { inside || in_gap };
+        let in_summer = if shift > 0 {
+            let in_gap = start <= clock && clock < start + shift;
+            inside && !in_gap
+        } else {
+            let in_fold = start + shift <= clock && clock < start;
+            let in_gap = end <= clock && clock < end - shift;
+            inside || in_gap && !in_fold
+        };
         if in_summer { summer.offset } else { self.offset }
     }
 }
