@@ -208,7 +208,7 @@ impl Call {
         let stop = self.stop?;
         let ordered = self.order.and_then(|order| usize::try_from(order.checked_sub(1)?).ok());
         match ordered {
-            Some(place) if place >= from && stops.get(place).map_or(false, |found| found.stop == stop) => Some(place),
+            Some(place) if place >= from && stops.get(place).is_some_and(|found| found.stop == stop) => Some(place),
             _ => (from..stops.len()).find(|&place| stops[place].stop == stop),
         }
     }

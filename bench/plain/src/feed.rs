@@ -44,7 +44,11 @@ impl Fields<'_> {
 
     fn tag(&mut self) -> Result<(u32, u32), Kind> {
         let tag = u32::try_from(self.varint()?).map_err(|_| "BadTag")?;
-        if tag >> 3 == 0 || tag & 7 > 5 { Err("BadTag") } else { Ok((tag >> 3, tag & 7)) }
+        if tag >> 3 == 0 || tag & 7 > 5 {
+            Err("BadTag")
+        } else {
+            Ok((tag >> 3, tag & 7))
+        }
     }
 
     fn bytes(&mut self, length: u64) -> Result<Value, Kind> {
@@ -190,7 +194,7 @@ pub fn read_feed<'a>(data: &'a [u8], mut take: impl FnMut(&Header, &Entity<'a>))
 
 impl<'a> Reader<'a> {
     fn fault(&mut self, at: usize, order: u8, fault: BodyFault) {
-        if self.fault.as_ref().map_or(true, |(place, kind, _)| (at, order) < (*place, *kind)) {
+        if self.fault.as_ref().is_none_or(|(place, kind, _)| (at, order) < (*place, *kind)) {
             self.fault = Some((at, order, fault));
         }
     }
@@ -260,7 +264,7 @@ impl<'a> Reader<'a> {
         let Some((at, WIRE, _)) = self.fault else { return };
         let mut fields = Fields { data: self.data, at, end: self.data.len() };
         let is_entity = fields.varint() == Ok(2 * 8 + 2);
-        if is_entity && fields.varint().map_or(false, |length| length > MOST_ENTITY) {
+        if is_entity && fields.varint().is_ok_and(|length| length > MOST_ENTITY) {
             self.fault(at, ENTITY_TOO_LONG, BodyFault::EntityTooLong(at));
         }
     }
@@ -321,7 +325,9 @@ impl<'a> Reader<'a> {
         let mut update = StopUpdate::default();
         self.fields(start, end, |reader, field| match (field.number, field.value) {
             (1, Value::Varint(value)) => update.sequence = Some(value as u32),
-            (2, Value::Bytes(start, end)) => reader.event(update.arrival.get_or_insert_with(Event::default), start, end),
+            (2, Value::Bytes(start, end)) => {
+                reader.event(update.arrival.get_or_insert_with(Event::default), start, end)
+            }
             (3, Value::Bytes(start, end)) => {
                 reader.event(update.departure.get_or_insert_with(Event::default), start, end)
             }

@@ -131,7 +131,7 @@ impl Gateway {
                 continue;
             }
             report.add(index, Ok(0));
-            if old.map_or(true, |old| situation.version >= old.version) {
+            if old.is_none_or(|old| situation.version >= old.version) {
                 let entity = written::field_of(&body).into_boxed_slice();
                 let new = Situation { version: situation.version, is_served: situation.is_served, entity };
                 self.feed_bytes += new.served().len();
@@ -185,6 +185,10 @@ impl Gateway {
 
 impl Situation {
     fn served(&self) -> &[u8] {
-        if self.is_served { &self.entity } else { &[] }
+        if self.is_served {
+            &self.entity
+        } else {
+            &[]
+        }
     }
 }

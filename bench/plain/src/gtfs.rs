@@ -101,7 +101,7 @@ impl Timetable {
         let service = self.trips[trip as usize].service;
         match self.exceptions.get(&(service, day)) {
             Some(&added) => added,
-            None => self.calendars.get(&service).map_or(false, |calendar| {
+            None => self.calendars.get(&service).is_some_and(|calendar| {
                 (calendar.start..=calendar.end).contains(&day) && calendar.weekdays[day.weekday() as usize]
             }),
         }
@@ -151,7 +151,11 @@ impl<'a, const N: usize> Row<'a, N> {
     }
 
     fn once(&self, is_new: bool) -> Result<(), Exit> {
-        if is_new { Ok(()) } else { Err(self.refused("Duplicate", "")) }
+        if is_new {
+            Ok(())
+        } else {
+            Err(self.refused("Duplicate", ""))
+        }
     }
 }
 
@@ -259,7 +263,15 @@ pub fn read_folder(folder: &str) -> Result<Timetable, Exit> {
 
 fn read_calendar(folder: &str, table: &mut Timetable) -> Result<bool, Exit> {
     const COLUMNS: [&str; 10] = [
-        "service_id", "monday", "tuesday", "wednesday", "thursday", "friday", "saturday", "sunday", "start_date",
+        "service_id",
+        "monday",
+        "tuesday",
+        "wednesday",
+        "thursday",
+        "friday",
+        "saturday",
+        "sunday",
+        "start_date",
         "end_date",
     ];
     read_rows(folder, "calendar.txt", &COLUMNS, 200_000, |row| {
@@ -267,11 +279,14 @@ fn read_calendar(folder: &str, table: &mut Timetable) -> Result<bool, Exit> {
         row.id(0)?;
         let mut weekdays = [false; 7];
         for (day, runs) in weekdays.iter_mut().enumerate() {
-            *runs = row.good(day + 1, match texts[day + 1] {
-                "0" => Some(false),
-                "1" => Some(true),
-                _ => None,
-            })?;
+            *runs = row.good(
+                day + 1,
+                match texts[day + 1] {
+                    "0" => Some(false),
+                    "1" => Some(true),
+                    _ => None,
+                },
+            )?;
         }
         let start = row.good(8, Day::read_compact(row.fields[8]))?;
         let end = row.good(9, Day::read_compact(row.fields[9]))?;
@@ -286,11 +301,14 @@ fn read_exceptions(folder: &str, table: &mut Timetable) -> Result<bool, Exit> {
         let [service, _, kind] = row.texts()?;
         row.id(0)?;
         let day = row.good(1, Day::read_compact(row.fields[1]))?;
-        let added = row.good(2, match kind {
-            "1" => Some(true),
-            "2" => Some(false),
-            _ => None,
-        })?;
+        let added = row.good(
+            2,
+            match kind {
+                "1" => Some(true),
+                "2" => Some(false),
+                _ => None,
+            },
+        )?;
         row.limits(&[0])?;
         let service = table.services.insert(service).0;
         row.once(table.exceptions.insert((service, day), added).is_none())
@@ -403,7 +421,7 @@ fn row_fault(row: &Row<5>, table: &Timetable) -> Exit {
         row.good(4, read_time(row.fields[4]))?;
         row.limits(&[0, 2])?;
         let trip = table.trip_ids.find(row.fields[0]);
-        if trip.map_or(false, |trip| table.stops_of(trip).len() == MOST_STOPS_OF_TRIP) {
+        if trip.is_some_and(|trip| table.stops_of(trip).len() == MOST_STOPS_OF_TRIP) {
             return Err(row.refused("Limit", ""));
         }
         row.known(0, &table.trip_ids)?;
@@ -422,9 +440,10 @@ fn fill_times(stops: &mut [StopTime]) {
         }
         let (leaves, comes) = (stops[before].departure, stops[next].arrival);
         let span = u64::from(comes.saturating_sub(leaves));
-        for place in before + 1..next {
-            let time = leaves + (span * (place - before) as u64 / (next - before) as u64) as u32;
-            (stops[place].arrival, stops[place].departure) = (time, time);
+        let steps = (next - before) as u64;
+        for (step, stop) in (1..).zip(&mut stops[before + 1..next]) {
+            let time = leaves + (span * step / steps) as u32;
+            (stop.arrival, stop.departure) = (time, time);
         }
         before = next;
     }

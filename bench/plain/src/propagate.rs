@@ -131,10 +131,14 @@ fn place_of(
             found.map_err(|_| Fault::UnknownStop(number))?
         }
     };
-    if stop_id.map_or(false, |id| context.table.stop_ids.text(stops[place].stop) != id) {
+    if stop_id.is_some_and(|id| context.table.stop_ids.text(stops[place].stop) != id) {
         return Err(Fault::StopMismatch(number));
     }
-    if place < from { Err(Fault::OutOfOrder(number)) } else { Ok(place) }
+    if place < from {
+        Err(Fault::OutOfOrder(number))
+    } else {
+        Ok(place)
+    }
 }
 
 /// A time counts before a delay, and one event gives its delay to the other.

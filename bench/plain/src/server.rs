@@ -80,7 +80,9 @@ fn serve_one(gateway: &mut Gateway, stream: &TcpStream, body: &mut Vec<u8>) -> i
     let mut out = BufWriter::with_capacity(1 << 16, stream);
     let answer = match now() {
         None => Err(End::Refused(Refusal::Clock)),
-        Some(moment) => read_request(stream, body).and_then(|target| Ok((moment, answer(gateway, target, body, moment)?))),
+        Some(moment) => {
+            read_request(stream, body).and_then(|target| Ok((moment, answer(gateway, target, body, moment)?)))
+        }
     };
     match answer {
         Err(End::Lost) => return Ok(()),

@@ -10,7 +10,11 @@ const MOST_CALLS: usize = 400_000;
 
 pub fn check_calls(reading: &FeedReading, context: &Context) -> Result<(), BodyFault> {
     let calls = reading.journeys.keys().map(|&(_, trip)| context.table.stops_of(trip).len()).sum();
-    if calls > MOST_CALLS { Err(BodyFault::TooManyCalls(calls)) } else { Ok(()) }
+    if calls > MOST_CALLS {
+        Err(BodyFault::TooManyCalls(calls))
+    } else {
+        Ok(())
+    }
 }
 
 /// The delivery with every call of the journeys, members by the bytes of their names.

@@ -97,5 +97,9 @@ pub enum Reading {
 
 /// A delay that is in range.
 pub fn in_range(at: usize, delay: i128) -> Result<i32, Fault> {
-    if delay.abs() <= i128::from(MOST_DELAY) { Ok(delay as i32) } else { Err(Fault::DelayRange(at, delay)) }
+    if delay.abs() <= i128::from(MOST_DELAY) {
+        Ok(delay as i32)
+    } else {
+        Err(Fault::DelayRange(at, delay))
+    }
 }

@@ -78,12 +78,14 @@ pub enum Reference {
     Journey(u32, Day),
 }
 
+/// Start and end, in seconds since 1970.
+pub type Period = (Option<i64>, Option<i64>);
+
 pub struct Situation<'s> {
     pub number: &'s str,
     pub version: u64,
     pub is_served: bool,
-    /// Seconds since 1970.
-    pub periods: Vec<(Option<i64>, Option<i64>)>,
+    pub periods: Vec<Period>,
     pub references: Vec<Reference>,
     pub unknown_references: u64,
     pub cause: u64,
@@ -132,7 +134,7 @@ fn read_situation<'s>(element: &'s Element, context: &Context) -> Result<Situati
     Ok(Situation {
         number,
         version,
-        is_served: !progress.map_or(false, is_hidden),
+        is_served: !progress.is_some_and(is_hidden),
         periods,
         unknown_references: (references.len() - known.len()) as u64,
         references: known,
@@ -144,7 +146,8 @@ fn read_situation<'s>(element: &'s Element, context: &Context) -> Result<Situati
 }
 
 fn cause_of(element: &Element) -> u64 {
-    let reasons = [(&element.equipment, 3), (&element.environment, 8), (&element.personnel, 2), (&element.miscellaneous, 2)];
+    let reasons =
+        [(&element.equipment, 3), (&element.environment, 8), (&element.personnel, 2), (&element.miscellaneous, 2)];
     reasons.iter().find(|(reason, _)| reason.0).map_or(1, |(_, cause)| *cause)
 }
 
@@ -169,10 +172,9 @@ fn read_condition<'s>(element: &'s Element) -> Result<Option<&'s str>, Fault> {
 }
 
 /// All starts are read before all ends; a period with neither isn't kept.
-fn read_periods(element: &Element, context: &Context) -> Result<Vec<(Option<i64>, Option<i64>)>, Fault> {
-    let second = |leaf: &Leaf, name| {
-        Ok(leaf.read(name, |text| read_moment(text, &context.zone))?.map(|instant| instant.secs))
-    };
+fn read_periods(element: &Element, context: &Context) -> Result<Vec<Period>, Fault> {
+    let second =
+        |leaf: &Leaf, name| Ok(leaf.read(name, |text| read_moment(text, &context.zone))?.map(|instant| instant.secs));
     let periods: Vec<&ValidityPeriod> = element.periods.objects("ValidityPeriod")?.collect();
     let starts = periods.iter().map(|period| second(&period.start, "StartTime")).collect::<Result<Vec<_>, _>>()?;
     let ends = periods.iter().map(|period| second(&period.end, "EndTime")).collect::<Result<Vec<_>, _>>()?;

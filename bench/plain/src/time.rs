@@ -105,7 +105,11 @@ pub fn read_moment(text: &str, zone: &Zone) -> Option<Instant> {
                 return None;
             }
             let seconds = i64::from(hours * 3600 + minutes * 60);
-            if *sign == b'-' { -seconds } else { seconds }
+            if *sign == b'-' {
+                -seconds
+            } else {
+                seconds
+            }
         }
         _ => return None,
     };

@@ -74,9 +74,8 @@ impl<'a> Words<'a> {
         })?;
         let zone = if is_rule { ZoneWord::Rule(self.text()?) } else { ZoneWord::File(self.text()?) };
         self.flag("--from")?;
-        let first = self.take(|word| {
-            Day::read_dashed(word.as_bytes()).filter(|day| (first_day()..=last_day()).contains(day))
-        })?;
+        let first =
+            self.take(|word| Day::read_dashed(word.as_bytes()).filter(|day| (first_day()..=last_day()).contains(day)))?;
         self.flag("--days")?;
         let most = MOST_DAYS.min((last_day().0 - first.0) as u32 + 1);
         let days = self.number(1, most)?;

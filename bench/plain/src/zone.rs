@@ -52,7 +52,11 @@ enum ChangeDay {
     Julian(u32),
     /// 0 to 365
     OfYear(u32),
-    Weekday { month: u32, week: u32, weekday: u32 },
+    Weekday {
+        month: u32,
+        week: u32,
+        weekday: u32,
+    },
 }
 
 impl Zone {
@@ -102,7 +106,11 @@ impl Row {
 // Rules.
 
 fn in_window((start, end): (i128, i128), at: i128) -> bool {
-    if start <= end { start <= at && at < end } else { !(end <= at && at < start) }
+    if start <= end {
+        start <= at && at < end
+    } else {
+        !(end <= at && at < start)
+    }
 }
 
 fn first_nano(year: i64) -> i128 {
@@ -183,7 +191,11 @@ impl Rule {
             let in_gap = end <= clock && clock < end - shift;
             inside || in_gap && !in_fold
         };
-        if in_summer { summer.offset } else { self.offset }
+        if in_summer {
+            summer.offset
+        } else {
+            self.offset
+        }
     }
 }
 
@@ -201,7 +213,11 @@ impl<'a> RuleText<'a> {
             self.expect(',')?;
             rule.summer = Some(Summer { name, offset, start, end: self.change()? });
         }
-        if self.0.is_empty() { Ok(rule) } else { Err(Refused) }
+        if self.0.is_empty() {
+            Ok(rule)
+        } else {
+            Err(Refused)
+        }
     }
 
     fn take_if(&mut self, c: char) -> bool {
@@ -215,7 +231,11 @@ impl<'a> RuleText<'a> {
     }
 
     fn expect(&mut self, c: char) -> Result<(), Refused> {
-        if self.take_if(c) { Ok(()) } else { Err(Refused) }
+        if self.take_if(c) {
+            Ok(())
+        } else {
+            Err(Refused)
+        }
     }
 
     fn take_while(&mut self, most: usize, good: impl Fn(u8) -> bool) -> &'a str {
@@ -237,7 +257,11 @@ impl<'a> RuleText<'a> {
         } else {
             self.take_while(usize::MAX, |byte| byte.is_ascii_alphabetic())
         };
-        if (3..=15).contains(&name.len()) { Ok(name.to_owned()) } else { Err(Refused) }
+        if (3..=15).contains(&name.len()) {
+            Ok(name.to_owned())
+        } else {
+            Err(Refused)
+        }
     }
 
     /// `[+-]h[:mm[:ss]]` in seconds, as its sign says.
@@ -309,7 +333,11 @@ const LAST_SECOND: i64 = 253_402_207_200;
 const MOST_OFFSET: i64 = 93_599;
 
 fn need(good: bool) -> Result<(), Refused> {
-    if good { Ok(()) } else { Err(Refused) }
+    if good {
+        Ok(())
+    } else {
+        Err(Refused)
+    }
 }
 
 struct FileReader<'a>(&'a [u8]);
