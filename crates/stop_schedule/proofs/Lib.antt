@@ -1,5 +1,6 @@
 pub mod CarryingLemmas
 pub mod DigitLemmas
+pub mod FailureLemmas
 pub mod FaultLemmas
 pub mod FieldLemmas
 pub mod FillLemmas

@@ -2,6 +2,7 @@ pub mod Answers
 pub mod Carrying
 pub mod Causes
 pub mod Columns
+pub mod Failures
 pub mod Faults
 pub mod Fields
 pub mod Folder

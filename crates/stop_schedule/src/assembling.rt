@@ -1,12 +1,13 @@
 //! The timetable of what was read of a folder. The functions meet `specs/Timetable.antt`.
 ghost use Rattle.std.specs.Prelude.{◌≡◌, ◌<◌, ◌≤◌, ◌++◌, ◌∷◌, if◌then◌else◌, ℕ, List, true, false, [], length, map, slice_index_or, IfErr, IfOk, IfSome, OnOk};
 ghost use Rattle.gw_base.specs.Count.{Counts};
+ghost use Rattle.stop_schedule.specs.Failures.{FileFailed, IfFailed};
 ghost use Rattle.stop_schedule.specs.Answers.{HasFailed};
 ghost use Rattle.stop_schedule.specs.Carrying.{Adds, Carries, carried_to, ids_to};
 ghost use Rattle.stop_schedule.specs.Folder.{HoldsRest, IsLoaded};
 ghost use Rattle.stop_schedule.specs.Ids.{has_id};
 ghost use Rattle.stop_schedule.specs.Reading.{Assembles, IsAssembled, Reads};
-ghost use Rattle.stop_schedule.specs.Timetable.{Sheets, ids_in, timetable as timetable_of};
+ghost use Rattle.stop_schedule.specs.Timetable.{Sheets, ids_in, sheets_in, timetable as timetable_of};
 ghost use Rattle.stop_schedule.specs.TripStops.{stops_kept};
 ghost use Rattle.stop_schedule.specs.declared.table_file.TableFile.TheVariants as File;
 
@@ -210,6 +211,7 @@ pub fn read_timetable<F: Files>(
 ) -> Result<Timetable, TableFault>
     ensures exact { IfSome (F.told files.old) (λ told. Reads (timetable_of told dir.now) result) }
     ensures counts { Counts (HasFailed result) (F.faults files.old) (F.faults files.new) }
+    ensures failed { IfFailed result (λ named. IfSome (F.told files.old) (λ told. FileFailed (sheets_in told dir.now) named)) }
     ensures same { F.told files.new ≡ F.told files.old }
 {
     match read_folder(alloc, files, dir) {

@@ -3,6 +3,7 @@ ghost use Rattle.std.specs.Prelude.{◌≡◌, ◌≤◌, [], ◌++◌, length, 
 ghost use Rattle.std.specs.String.{string_bytes};
 ghost use Rattle.gw_base.specs.Count.{Counts};
 ghost use Rattle.gw_base.specs.Directory.{bytes_of};
+ghost use Rattle.stop_schedule.specs.Failures.{IfFailed};
 ghost use Rattle.stop_schedule.specs.Answers.{HasFailed};
 ghost use Rattle.stop_schedule.specs.Sheet.{GivesFile};
 ghost use Rattle.stop_schedule.specs.Timetable.{path_of};
@@ -36,6 +37,7 @@ pub(crate) fn read_file<F: Files>(
 ) -> Result<bool, TableFault>
     ensures exact { IfSome (F.told files.old) (λ told. GivesFile result file (bytes_of told (path_of dir.now file)) buffer.new) }
     ensures counts { Counts (HasFailed result) (F.faults files.old) (F.faults files.new) }
+    ensures failed { IfFailed result (λ named. named ≡ file) }
     ensures same { F.told files.new ≡ F.told files.old }
 {
     let Ok(path) = path(alloc, dir, file) else {

@@ -3,6 +3,7 @@ ghost use Rattle.std.specs.Prelude.{◌≡◌, ◌≤◌, [], ⊤, true, map, le
 ghost use Rattle.stop_schedule.specs.Keeping.{HasTrips, KeepsTo, all_loaded};
 ghost use Rattle.stop_schedule.specs.Layout.{lists_ids, row_limit};
 ghost use Rattle.gw_base.specs.Count.{Counts};
+ghost use Rattle.stop_schedule.specs.Failures.{DaysFailed, IfFailed, Is};
 ghost use Rattle.stop_schedule.specs.Answers.{Finds, HasFailed};
 ghost use Rattle.stop_schedule.specs.Causes.{zone_fault, duplicate_fault, trip_fault, calendar_fault, date_fault, frequency_fault, stop_time_fault};
 ghost use Rattle.stop_schedule.specs.Faults.{optional_fault};
@@ -61,6 +62,7 @@ fn read_needed<F: Files, T: TakesRows>(
     ensures keeps { OnOk result (KeepsTo T.Keeps taker.new (row_limit (T.file_of taker.old))) }
     ensures same_given { T.given taker.new ≡ T.given taker.old }
     ensures counts { Counts (HasFailed result) (F.faults files.old) (F.faults files.new) }
+    ensures failed { IfFailed result (λ named. named ≡ T.file_of taker.old) }
     ensures same { F.told files.new ≡ F.told files.old }
 {
     if !read_rows(alloc, files, dir, buffer, taker)? {
@@ -78,6 +80,7 @@ pub(crate) fn read_zones<F: Files>(
 ) -> Result<(), TableFault>
     ensures exact { IfSome (F.told files.old) (λ told. ReadsNeeded File.Agency zone_fault (λ _ _. ⊤) (sheets_in told dir.now) result) }
     ensures counts { Counts (HasFailed result) (F.faults files.old) (F.faults files.new) }
+    ensures failed { IfFailed result (Is File.Agency) }
     ensures same { F.told files.new ≡ F.told files.old }
 {
     let mut zones = ZoneRows { first: None };
@@ -95,6 +98,7 @@ pub(crate) fn read_ids<F: Files>(
     requires { lists_ids file ≡ true }
     ensures exact { IfSome (F.told files.old) (λ told. ReadsNeeded file (duplicate_fault file) (λ ids rows. ids ≡ map (nth 0) rows) (sheets_in told dir.now) result) }
     ensures counts { Counts (HasFailed result) (F.faults files.old) (F.faults files.new) }
+    ensures failed { IfFailed result (Is file) }
     ensures same { F.told files.new ≡ F.told files.old }
 {
     let mut rows = IdRows {
@@ -121,6 +125,7 @@ pub(crate) fn read_trips<F: Files>(
     ensures trips { IfOk result (λ found. HasTrips (length routes.now) found.0.ids found.0.routes.items) }
     ensures few { IfOk result (λ found. length found.1 ≤ 200000) }
     ensures counts { Counts (HasFailed result) (F.faults files.old) (F.faults files.new) }
+    ensures failed { IfFailed result (Is File.Trips) }
     ensures same { F.told files.new ≡ F.told files.old }
 {
     let next_route = Guesses::among(alloc, routes)?;
@@ -167,6 +172,7 @@ fn read_calendars<F: Files>(
         × HoldsCalendars services found.1.services found.1.calendars (rows_in (sheets_in told dir.now File.Calendar))) result) }
     ensures few { IfOk result (λ found. length found.1.services ≤ 400000) }
     ensures counts { Counts (HasFailed result) (F.faults files.old) (F.faults files.new) }
+    ensures failed { IfFailed result (Is File.Calendar) }
     ensures same { F.told files.new ≡ F.told files.old }
 {
     let mut rows = CalendarRows {
@@ -192,6 +198,7 @@ fn read_dates<F: Files>(
         (λ found. (found.0 ≡ is_some (sheets_in told dir.now File.CalendarDates))
         × HoldsDates services found.1.services found.1.exceptions (rows_in (sheets_in told dir.now File.CalendarDates))) result) }
     ensures counts { Counts (HasFailed result) (F.faults files.old) (F.faults files.new) }
+    ensures failed { IfFailed result (Is File.CalendarDates) }
     ensures same { F.told files.new ≡ F.told files.old }
 {
     let mut rows = DateRows {
@@ -216,6 +223,7 @@ pub(crate) fn read_services<F: Files>(
     ensures exact { IfSome (F.told files.old) (λ told. Finds (calendars_fault (sheets_in told dir.now))
         (λ found. HoldsServices services found.calendars found.exceptions (rows_in (sheets_in told dir.now File.Calendar)) (rows_in (sheets_in told dir.now File.CalendarDates))) result) }
     ensures counts { Counts (HasFailed result) (F.faults files.old) (F.faults files.new) }
+    ensures failed { IfFailed result (λ named. IfSome (F.told files.old) (λ told. DaysFailed (sheets_in told dir.now) named)) }
     ensures same { F.told files.new ≡ F.told files.old }
 {
     let (has_calendar, rows) = read_calendars(alloc, files, dir, buffer, services)?;
@@ -272,6 +280,7 @@ pub(crate) fn read_frequencies<F: Files>(
     ensures exact { IfSome (F.told files.old) (λ told. ReadsRows File.Frequencies (frequency_fault trips.now)
         (λ carried rows. carried.items ≡ map (is_carried rows) trips.now) (sheets_in told dir.now) result) }
     ensures counts { Counts (HasFailed result) (F.faults files.old) (F.faults files.new) }
+    ensures failed { IfFailed result (Is File.Frequencies) }
     ensures same { F.told files.new ≡ F.told files.old }
 {
     let carried = all_carried(alloc, trips)?;
@@ -296,6 +305,7 @@ pub(crate) fn read_stop_times<F: Files>(
         (λ by_trip. HoldsStops trips.now stops.now (map stops_kept by_trip.items)) (sheets_in told dir.now) result) }
     ensures loaded { IfOk result (λ by_trip. all_loaded (length stops.now) (map stops_kept by_trip.items) ≡ true) }
     ensures counts { Counts (HasFailed result) (F.faults files.old) (F.faults files.new) }
+    ensures failed { IfFailed result (Is File.StopTimes) }
     ensures same { F.told files.new ≡ F.told files.old }
 {
     let by_trip = no_stops(alloc, trips, stops)?;

@@ -4,6 +4,7 @@ ghost use Rattle.std.specs.Bool.{MatchBool};
 ghost use Rattle.gw_base.specs.Answers.{UnlessFree};
 ghost use Rattle.gw_base.specs.Count.{Counts};
 ghost use Rattle.gw_base.specs.Directory.{bytes_of};
+ghost use Rattle.stop_schedule.specs.Failures.{IfFailed};
 ghost use Rattle.stop_schedule.specs.Answers.{Finds, FindsKnown, HasFailed, is_free};
 ghost use Rattle.stop_schedule.specs.Keeping.{KeepsTo};
 ghost use Rattle.stop_schedule.specs.Layout.{row_limit};
@@ -169,6 +170,7 @@ pub(crate) fn read_rows<F: Files, T: TakesRows>(
     ensures same_file { T.file_of taker.new ≡ T.file_of taker.old }
     ensures same_given { T.given taker.new ≡ T.given taker.old }
     ensures counts { Counts (HasFailed result) (F.faults files.old) (F.faults files.new) }
+    ensures failed { IfFailed result (λ named. named ≡ T.file_of taker.old) }
     ensures same { F.told files.new ≡ F.told files.old }
 {
     let file = taker.file();

@@ -1,3 +1,5 @@
+use Rattle.std.proofs.Common.{inr}
+use Rattle.stop_schedule.proofs.FailureLemmas.{answer_later}
 use Rattle.stop_schedule.proofs.JoinLemmas.{if_both}
 use Rattle.stop_schedule.proofs.folder_rows.read_folder.Goals as goal
 
@@ -11,3 +13,10 @@ returns-clause-exact g c =
     let stops_are = p.1.0 in
     let routes_are = p.1.1 in
     rw none (rw (stops_are, routes_are) at q))
+
+pub returns-clause-failed : goal.returns-clause-failed
+returns-clause-failed g c =
+    let same = c.in-Ok.ensures.same in
+    let failed = rw same at c.read_rest.ensures.failed in
+    answer_later c.read_rest.result (g.F.Files.told c.args.files.now) _ _ _ c.in-Ok.ensures.exact
+    (λ told file names of_rest. let routes = names.1.1 in inr (names.0, rw routes at of_rest)) failed
