@@ -203,7 +203,7 @@ fn assemble(alloc: Global, folder: FolderRows) -> Result<Timetable, TableFault>
 /// `trips.txt`, `calendar.txt`, `calendar_dates.txt`, `frequencies.txt` and `stop_times.txt`, in this order.
 ///
 /// A fault comes exactly where it is the first of the folder. `Failed` comes only where the files met a fault in
-/// this call.
+/// this call, and no file that is read before the one that it names has a fault.
 pub fn read_timetable<F: Files>(
     alloc: Global,
     files: &mut F,
@@ -211,7 +211,8 @@ pub fn read_timetable<F: Files>(
 ) -> Result<Timetable, TableFault>
     ensures exact { IfSome (F.told files.old) (λ told. Reads (timetable_of told dir.now) result) }
     ensures counts { Counts (HasFailed result) (F.faults files.old) (F.faults files.new) }
-    ensures failed { IfFailed result (λ named. IfSome (F.told files.old) (λ told. FileFailed (sheets_in told dir.now) named)) }
+    ensures failed { IfFailed result
+        (λ named. IfSome (F.told files.old) (λ told. FileFailed (sheets_in told dir.now) named)) }
     ensures same { F.told files.new ≡ F.told files.old }
 {
     match read_folder(alloc, files, dir) {

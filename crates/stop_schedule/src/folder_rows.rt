@@ -44,7 +44,8 @@ fn read_names<F: Files>(
     ensures exact { IfSome (F.told files.old) (λ told. Finds (names_fault (sheets_in told dir.now))
         (λ names. (names.0 ≡ ids_in (sheets_in told dir.now) File.Stops) × (names.1 ≡ ids_in (sheets_in told dir.now) File.Routes)) result) }
     ensures counts { Counts (HasFailed result) (F.faults files.old) (F.faults files.new) }
-    ensures failed { IfFailed result (λ named. IfSome (F.told files.old) (λ told. NamesFailed (sheets_in told dir.now) named)) }
+    ensures failed { IfFailed result
+        (λ named. IfSome (F.told files.old) (λ told. NamesFailed (sheets_in told dir.now) named)) }
     ensures same { F.told files.new ≡ F.told files.old }
 {
     read_zones(alloc, files, dir, buffer)?;
@@ -65,7 +66,8 @@ fn read_runs<F: Files>(
         (λ found. HoldsRuns routes.now found.0.ids found.0.routes.items found.0.services.items found.1.calendars found.1.exceptions (sheets_in told dir.now)) result) }
     ensures trips { IfOk result (λ found. HasTrips (length routes.now) found.0.ids found.0.routes.items) }
     ensures counts { Counts (HasFailed result) (F.faults files.old) (F.faults files.new) }
-    ensures failed { IfFailed result (λ named. IfSome (F.told files.old) (λ told. RunsFailed routes.now (sheets_in told dir.now) named)) }
+    ensures failed { IfFailed result
+        (λ named. IfSome (F.told files.old) (λ told. RunsFailed routes.now (sheets_in told dir.now) named)) }
     ensures same { F.told files.new ≡ F.told files.old }
 {
     let (trips, services) = read_trips(alloc, files, dir, buffer, routes)?;
@@ -87,7 +89,8 @@ fn read_stops<F: Files>(
         × HoldsStops trips.now stops.now (map stops_kept found.1.items) (rows_in (sheets_in told dir.now File.StopTimes))) result) }
     ensures loaded { IfOk result (λ found. all_loaded (length stops.now) (map stops_kept found.1.items) ≡ true) }
     ensures counts { Counts (HasFailed result) (F.faults files.old) (F.faults files.new) }
-    ensures failed { IfFailed result (λ named. IfSome (F.told files.old) (λ told. StopsFailed trips.now (sheets_in told dir.now) named)) }
+    ensures failed { IfFailed result
+        (λ named. IfSome (F.told files.old) (λ told. StopsFailed trips.now (sheets_in told dir.now) named)) }
     ensures same { F.told files.new ≡ F.told files.old }
 {
     let carried = read_frequencies(alloc, files, dir, buffer, trips)?;
@@ -108,7 +111,8 @@ fn read_rest<F: Files>(
         (λ folder. HoldsRest stops routes folder (sheets_in told dir.now)) result) }
     ensures loaded { IfOk result IsLoaded }
     ensures counts { Counts (HasFailed result) (F.faults files.old) (F.faults files.new) }
-    ensures failed { IfFailed result (λ named. IfSome (F.told files.old) (λ told. RestFailed routes (sheets_in told dir.now) named)) }
+    ensures failed { IfFailed result
+        (λ named. IfSome (F.told files.old) (λ told. RestFailed routes (sheets_in told dir.now) named)) }
     ensures same { F.told files.new ≡ F.told files.old }
 {
     let (trips, services) = match read_runs(alloc, files, dir, buffer, &routes) {
@@ -138,7 +142,8 @@ pub(crate) fn read_folder<F: Files>(
         (λ folder. HoldsRest (ids_in (sheets_in told dir.now) File.Stops) (ids_in (sheets_in told dir.now) File.Routes) folder (sheets_in told dir.now)) result) }
     ensures loaded { IfOk result IsLoaded }
     ensures counts { Counts (HasFailed result) (F.faults files.old) (F.faults files.new) }
-    ensures failed { IfFailed result (λ named. IfSome (F.told files.old) (λ told. FileFailed (sheets_in told dir.now) named)) }
+    ensures failed { IfFailed result
+        (λ named. IfSome (F.told files.old) (λ told. FileFailed (sheets_in told dir.now) named)) }
     ensures same { F.told files.new ≡ F.told files.old }
 {
     let mut buffer = List::new(alloc);

@@ -223,7 +223,8 @@ pub(crate) fn read_services<F: Files>(
     ensures exact { IfSome (F.told files.old) (λ told. Finds (calendars_fault (sheets_in told dir.now))
         (λ found. HoldsServices services found.calendars found.exceptions (rows_in (sheets_in told dir.now File.Calendar)) (rows_in (sheets_in told dir.now File.CalendarDates))) result) }
     ensures counts { Counts (HasFailed result) (F.faults files.old) (F.faults files.new) }
-    ensures failed { IfFailed result (λ named. IfSome (F.told files.old) (λ told. DaysFailed (sheets_in told dir.now) named)) }
+    ensures failed { IfFailed result
+        (λ named. IfSome (F.told files.old) (λ told. DaysFailed (sheets_in told dir.now) named)) }
     ensures same { F.told files.new ≡ F.told files.old }
 {
     let (has_calendar, rows) = read_calendars(alloc, files, dir, buffer, services)?;
