@@ -1,5 +1,5 @@
 //! Windows: up to 32 service days in a row, whose starts are computed once.
-ghost use Rattle.std.specs.Prelude.{◌≡◌, ◌≤◌, ◌+ℤ◌, ◌-ℤ◌, IsOk, IfOk, IfSome, pos};
+ghost use Rattle.std.specs.Prelude.{◌≡◌, ◌≤◌, ◌+ℤ◌, ◌-ℤ◌, IsOk, IfOk, IfSome, pos, length};
 ghost use Rattle.service_day.specs.Utc.{IsMoment};
 ghost use Rattle.service_day.specs.Starts.{IsDayStart, IsServiceDay};
 
@@ -21,8 +21,8 @@ pub struct Window {
 }
 
 impl Model for Window {
-    ghost use Rattle.std.specs.Prelude.{◌≡◌, ◌≤◌, ◌<◌, ℕ, pos, length, take, slice_index_or};
-    ghost use Rattle.service_day.specs.Starts.{IsDayStart};
+    ghost use Rattle.std.specs.Prelude.{◌≡◌, ◌≤◌, ◌<◌, ◌+ℤ◌, ◌-ℤ◌, ℕ, pos, length, take, slice_index_or};
+    ghost use Rattle.service_day.specs.Starts.{IsDayStart, IsServiceDay};
     ghost use Rattle.service_day.specs.Windows.{DayStarts};
 
     ghost Value = { DayStarts };
@@ -30,7 +30,8 @@ impl Model for Window {
     ghost view = { λ w. record { first = w.first; starts = take w.days w.starts } };
 
     ghost invariant = { λ w. (w.days ≤ 32) × (length w.starts ≡ 32)
-        × ((place : ℕ) → place < w.days → IsDayStart (slice_index_or w.starts place (pos 0))) };
+        × ((place : ℕ) → place < w.days → IsDayStart (slice_index_or w.starts place (pos 0)))
+        × (1 ≤ w.days) × IsServiceDay w.first × IsServiceDay (w.first +ℤ pos w.days -ℤ pos 1) };
 }
 
 impl Window {
@@ -54,6 +55,24 @@ impl Window {
             days,
             starts,
         })
+    }
+
+    /// Its first day.
+    pub fn first(&self) -> Day
+        ensures value { result ≡ self.now.first }
+        ensures first_in { IsServiceDay self.now.first }
+        ensures last_in { IsServiceDay (self.now.first +ℤ pos (length self.now.starts) -ℤ pos 1) }
+    {
+        self.first
+    }
+
+    /// How many days it has.
+    pub fn days(&self) -> u8
+        ensures value { result ≡ length self.now.starts }
+        ensures some_days { 1 ≤ result }
+        ensures few_days { result ≤ 32 }
+    {
+        self.days
     }
 
     /// The start of the day, in seconds since 1970; None exactly where the day isn't in the window.

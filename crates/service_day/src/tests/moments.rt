@@ -99,6 +99,8 @@ fn a_window_over_the_spring_change(rt: HostRuntime) -> Result<(), Fail> {
         return Ok(());
     }
     let window = Window::make(&zone, first, 3)?;
+    assert!(rt; window.first() == first);
+    assert_eq!(rt; window.days(), 3);
     let starts = [
         ("2024-03-29", None),
         ("2024-03-30", Some(1_711_753_200)),

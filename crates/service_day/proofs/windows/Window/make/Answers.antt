@@ -25,4 +25,4 @@ returns-clause-value c =
     window_is c.args.zone.now c.args.first c.args.days c.loop-i.starts (omega (arith, c.loop-i.invariant.room)) (λ k h. c.loop-i.invariant.each k (omega arith))
 
 pub invariant_of-result : goal.invariant_of-result
-invariant_of-result c = (c.requires.few_days, c.loop-i.invariant.room, λ k h. c.loop-i.invariant.in_range k (omega arith))
+invariant_of-result c = (c.requires.few_days, c.loop-i.invariant.room, λ k h. c.loop-i.invariant.in_range k (omega arith), c.requires.some_days, c.requires.first_in, c.requires.last_in)
