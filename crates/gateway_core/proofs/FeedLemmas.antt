@@ -95,7 +95,7 @@ module _ {V A : Type 0} (seen : V → A) where
   none_left so_far left all is whole = sym (append-nil so_far) ∙ ap (λ (these : List V). so_far ++ map seen these) (sym is) ∙ whole
 
 -- the feed of what is held is that of all that was taken
-pub feed_of_held : (at : ℤ) (schedule : Schedule) (records : List Recorded) (latest : Held) (situations : List Situation) (newest : HeldSituations) (feed : List ℕ)
+unfoldable pub feed_of_held : (at : ℤ) (schedule : Schedule) (records : List Recorded) (latest : Held) (situations : List Situation) (newest : HeldSituations) (feed : List ℕ)
     → HoldsLatest records latest → HoldsNewest situations newest
     → IsFeedOf at (entities_of schedule (all_held latest) (all_numbers newest)) feed → IsRebuilt at schedule records situations feed
 feed_of_held at schedule records latest situations newest feed h k is = record {

@@ -29,6 +29,7 @@ returns-clause-rebuilt c =
     (c.in_ok-add_alerts.ensures c.args.at (flat_map (messages schedule) (all_held c.in_ok-latest.latest)) c.in_ok-feed.ensures.is_feed)
 
 pub returns-clause-gives : goal.returns-clause-gives
+unfolding feed_of_held
 returns-clause-gives c =
     let schedule = schedule_of c.args.context.now in
     let records = all_taken c.args.deliveries.now in
