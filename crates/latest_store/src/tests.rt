@@ -21,7 +21,10 @@ static FOLDER: [(&str, &[u8]); 6] = [
     ("g/stops.txt", b"stop_id\nA\nB\n"),
     ("g/routes.txt", b"route_id\nR1\n"),
     ("g/trips.txt", b"route_id,service_id,trip_id\nR1,D,T1\n"),
-    ("g/calendar_dates.txt", b"service_id,date,exception_type\nD,20240501,1\n"),
+    (
+        "g/calendar_dates.txt",
+        b"service_id,date,exception_type\nD,20240501,1\n",
+    ),
     (
         "g/stop_times.txt",
         b"trip_id,arrival_time,departure_time,stop_id,stop_sequence\nT1,08:00:00,08:00:00,A,10\nT1,08:10:00,08:10:00,B,20\n",
