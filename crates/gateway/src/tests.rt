@@ -18,9 +18,8 @@ mod words;
 use crate::devices::{DirFiles, StdSink};
 use gw_base::{Bytes, Failed, FileFault, Files, Got, Sink};
 use std::fs::{self, File};
-use std::io;
-use std::process;
 use std::test::Fail;
+use std::{io, process};
 
 #[test]
 fn a_file_is_read_as_it_was_written(rt: HostRuntime) -> Result<(), Fail> {

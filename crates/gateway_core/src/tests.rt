@@ -17,16 +17,21 @@ static FOLDER: [(&str, &[u8]); 6] = [
     ("g/stops.txt", b"stop_id\nA\nB\n"),
     ("g/routes.txt", b"route_id\nR1\n"),
     ("g/trips.txt", b"route_id,service_id,trip_id\nR1,D,T1\n"),
-    ("g/calendar_dates.txt", b"service_id,date,exception_type\nD,20240501,1\n"),
+    (
+        "g/calendar_dates.txt",
+        b"service_id,date,exception_type\nD,20240501,1\n",
+    ),
     (
         "g/stop_times.txt",
         b"trip_id,arrival_time,departure_time,stop_id,stop_sequence\nT1,08:00:00,08:00:00,A,10\nT1,08:10:00,08:10:00,B,20\n",
     ),
 ];
 
-const JOURNEYS: &[u8] = b"{\"ServiceDelivery\":{\"EstimatedTimetableDelivery\":[{\"EstimatedJourneyVersionFrame\":[{\"EstimatedVehicleJourney\":[{\"RecordedAtTime\":\"2024-05-01T06:00:00Z\",\"FramedVehicleJourneyRef\":{\"DataFrameRef\":\"2024-05-01\",\"DatedVehicleJourneyRef\":\"T1\"},\"Cancellation\":true}]}]}]}}";
+const JOURNEYS: &[u8] =
+    b"{\"ServiceDelivery\":{\"EstimatedTimetableDelivery\":[{\"EstimatedJourneyVersionFrame\":[{\"EstimatedVehicleJourney\":[{\"RecordedAtTime\":\"2024-05-01T06:00:00Z\",\"FramedVehicleJourneyRef\":{\"DataFrameRef\":\"2024-05-01\",\"DatedVehicleJourneyRef\":\"T1\"},\"Cancellation\":true}]}]}]}}";
 
-const SITUATIONS: &[u8] = b"{\"ServiceDelivery\":{\"SituationExchangeDelivery\":[{\"Situations\":{\"PtSituationElement\":[{\"SituationNumber\":\"S2\",\"Affects\":{\"Networks\":{\"AffectedNetwork\":{\"AffectedLine\":{\"LineRef\":\"R1\"}}}}}]}}]}}";
+const SITUATIONS: &[u8] =
+    b"{\"ServiceDelivery\":{\"SituationExchangeDelivery\":[{\"Situations\":{\"PtSituationElement\":[{\"SituationNumber\":\"S2\",\"Affects\":{\"Networks\":{\"AffectedNetwork\":{\"AffectedLine\":{\"LineRef\":\"R1\"}}}}}]}}]}}";
 
 // The header, the entity of T1, and the alert of S2 (made by hand from GTFS Realtime's messages).
 const FEED: &[u8] =
@@ -136,5 +141,8 @@ fn a_feed_has_its_report(rt: HostRuntime) {
         aside: List::new(alloc),
     };
     let lines = feed_report(alloc, "f", &report).expect(&rt, "memory");
-    assert_eq!(rt; lines.as_slice(), b"f taken 1 passed 2 aside 0\n".as_slice());
+    assert_eq!(rt;
+        lines.as_slice(),
+        b"f taken 1 passed 2 aside 0\n".as_slice()
+    );
 }
