@@ -8,7 +8,7 @@ use Rattle.std.specs.List.{list_all, AllByRecursion}
 use Rattle.std.specs.Str.Parse.{ParsesUnsigned}
 use Rattle.std.proofs.lemmas.Option.{none-some, same_Some, option_and_then_some}
 use Rattle.std.proofs.lemmas.Str.Parse.{IsNumeralModel, numerals_by_fold, parse_gives, digits_value_short}
-use Rattle.gateway.specs.Forms.{is_filled, is_day, is_day_count, is_moment, beginning, is_number, going_on, ends_in_time}
+use Rattle.gateway.specs.Forms.{is_filled, is_day, is_day_count, is_moment, beginning, is_number, going_on, ends_in_time, first_day, last_day}
 use Rattle.gateway.specs.Rows.{form_of, pair_of, row_of, have_flags}
 use Rattle.gateway.specs.Tables.{CanBeMet, CanStand, IsSatisfiable}
 use Rattle.gateway.proofs.TableLemmas.{AreSatisfiable}
@@ -17,7 +17,6 @@ use Rattle.gateway.specs.declared.words.forms.Form.TheVariants as form
 use Rattle.gateway.specs.declared.words.table.Command.{Command}
 use Rattle.gateway.specs.declared.words.table.Pair.{Pair}
 use Rattle.std.proofs.lemmas.List.{length-map}
-use Rattle.gateway.specs.declared.words.forms.TheConstants.{FIRST_DAY, LAST_DAY}
 use Rattle.service_day.specs.DayTexts.{day_of, dashed_text}
 use Rattle.service_day.specs.declared.days.DayForm.TheVariants.{Dashed}
 use Rattle.service_day.specs.Utc.{moment_text}
@@ -48,11 +47,11 @@ number_parsed text r h is =
     parse_gives own 64 text r h parts.1 (omega arith) (omega (arith, digits_value_short own text 10 parts.1 short))
 
 -- a day of a window is between the first and the last
-pub beginning_range : (word : List ℕ) (first : ℤ) → beginning word ≡ Some first → (int_le FIRST_DAY first ≡ true) × (int_le first LAST_DAY ≡ true)
+pub beginning_range : (word : List ℕ) (first : ℤ) → beginning word ≡ Some first → (int_le first_day first ≡ true) × (int_le first last_day ≡ true)
 beginning_range word first h =
     option_and_then_some _ (day_of Dashed word) first h (λ day found within.
-    let kept = cond_then (int_le FIRST_DAY day && int_le day LAST_DAY) _ first within in
-    both _ _ (subst (λ d. (int_le FIRST_DAY d && int_le d LAST_DAY) ≡ true) (same_Some day first kept.1) kept.0))
+    let kept = cond_then (int_le first_day day && int_le day last_day) _ first within in
+    both _ _ (subst (λ d. (int_le first_day d && int_le d last_day) ≡ true) (same_Some day first kept.1) kept.0))
 
 -- a value of each form: a text, 1971-01-01, one day, and 1970-01-01T00:00:00Z
 

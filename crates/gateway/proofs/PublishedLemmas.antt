@@ -12,10 +12,10 @@ use Rattle.service_day.specs.declared.zones.Rules.{Rules}
 use Rattle.stop_schedule.specs.Seen.{seen}
 use Rattle.stop_schedule.specs.Table.{Table}
 use Rattle.stop_schedule.specs.Timetable.{timetable}
+use Rattle.stop_schedule.specs.declared.timetable.Timetable.{Timetable}
 use Rattle.stop_schedule.specs.declared.table_fault.TableFault.{TableFault}
 use Rattle.feed_messages.specs.Tables.{MeansFeed}
-use Rattle.gateway_core.specs.Deliveries.{all_situations, all_taken, schedule_in}
-use Rattle.gateway_core.specs.Feeds.{entities_of}
+use Rattle.gateway_core.specs.Deliveries.{schedule_in}
 use Rattle.gateway.specs.Bodies.{differential_end}
 use Rattle.gateway.specs.Published.{IsFullFeed, IsSetting, IsZone, Publishes, PublishesFeed, PublishesLines, PublishesOf, PublishesSiri}
 use Rattle.gateway.specs.Words.{IsJob, Job, NamedZone, Scope, Show, ToGtfsrt, ToSiri, by_rule, by_file, gtfsrt_job, show_job, siri_job}
@@ -24,7 +24,6 @@ use Rattle.gateway.specs.declared.exit.Exit.{Exit}
 use Rattle.gateway.specs.declared.exit.Exit.TheVariants.{Refused}
 use Rattle.gateway_core.specs.declared.setting.Setting.{Setting}
 use Rattle.gateway.specs.declared.work.Done.{Done}
-use Rattle.gateway_core.proofs.GivesLemmas.{gives}
 
 -- what a step found, by its answer
 
@@ -48,14 +47,11 @@ found_zone (by_rule text) files zone is = is
 found_zone (by_file path) files zone (bytes, read, is) = (bytes, found_body zone_limit path (bytes_of files path) bytes read, is)
 
 is_setting : (over : Scope) (files : Directory) (setting : Setting) → SettingOf over files (Ok setting) → IsSetting over files setting
-is_setting over files setting (table, folder_is, (zone, zone_is, (window, window_is, made))) =
-    let same : setting ≡ record { table = table; zone = zone; window = window } = cc in
-    record {
-      folder = subst (λ (s : Setting). timetable files over.gtfs ≡ Ok (seen s.table)) (sym same) (found_table over.gtfs (timetable files over.gtfs) (seen table) folder_is);
-      zone = zone;
-      zone_is = found_zone over.zone files zone zone_is;
-      window = subst (λ (s : Setting). IsWindow zone over.from over.days s.window) (sym same) window_is;
-    }
+is_setting over files setting (table, folder_is, (zone, zone_is, (table_same, zone_same, window_is))) = record {
+  folder = subst (λ (t : Timetable). timetable files over.gtfs ≡ Ok (seen t)) (sym table_same) (found_table over.gtfs (timetable files over.gtfs) (seen table) folder_is);
+  zone = subst (λ (z : Rules). IsZone over.zone files z) (sym zone_same) (found_zone over.zone files zone zone_is);
+  window = subst (λ (z : Rules). IsWindow z over.from over.days setting.window) (sym zone_same) window_is;
+}
 
 -- a feed that was read of a file is a full dataset
 found_full : (name : List ℕ) (read feed : Feed) → Ok feed ≡ full name read → (feed ≡ read) × (read.incrementality ≢ pos 1)
@@ -83,8 +79,6 @@ is_full_feed name files feed (body, held, (read, means, full_is)) =
 feed_published : (files : Directory) (command : ToGtfsrt) (done : Done) (before now : Option (List ℕ))
     → ToGtfsrtWork command files (Ok done) → now ≡ with_bytes before done.out → PublishesFeed command files before now
 feed_published files command done before now (setting, setting_is, (deliveries, read, converted)) written =
-    let schedule = schedule_in setting in
-    let rebuilt = converted.0 in
     record {
       setting = setting;
       over = is_setting command.over files setting setting_is;
@@ -92,10 +86,8 @@ feed_published files command done before now (setting, setting_is, (deliveries, 
       read = read;
       bytes = done.out;
       written = written;
-      rebuilt = rebuilt;
-      entities = entities_of schedule rebuilt.ordered rebuilt.numbered;
-      means = rebuilt.is_feed.means;
-      gives = λ trip within day. gives command.at schedule (all_taken deliveries) (all_situations deliveries) done.out rebuilt trip day;
+      rebuilt = converted.0;
+      gives = converted.1;
     }
 
 -- the delivery of the feed that was read says what it says

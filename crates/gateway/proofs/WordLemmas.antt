@@ -7,11 +7,10 @@ use Rattle.std.proofs.lemmas.Bool.Decides.{nat_tests}
 use Rattle.std.proofs.lemmas.Cmp.{nat_list_eq_equiv}
 use Rattle.std.proofs.lemmas.Int.{ints}
 use Rattle.std.proofs.lemmas.Option.{none-some, option_and_then_some, same_Some, slice_get_read, slice_get_within}
-use Rattle.gateway.specs.Forms.{beginning, day_count, decimal_number, ends_in_time}
+use Rattle.gateway.specs.Forms.{beginning, day_count, decimal_number, ends_in_time, first_day, last_day, most_days}
 use Rattle.gateway.specs.Tables.{Command, Pair, with_name, ArePairs, IsAccepted}
 use Rattle.gateway.specs.Windowed.{HasWindow}
 use Rattle.gateway.specs.Words.{IsJob, Job, SaysScope, SaysShow, SaysToGtfsrt, SaysToSiri, Scope, Show, ToGtfsrt, ToSiri, at_pair, commands, feed_pair, gtfsrt_job, no_pair, over_a_folder, scope_in, show, show_job, siri_job, to_gtfsrt, to_siri, zone_by}
-use Rattle.gateway.specs.declared.words.forms.TheConstants.{FIRST_DAY, LAST_DAY, MOST_DAYS}
 use Rattle.gateway.proofs.FormLemmas.{beginning_range, cond_then}
 use Rattle.gateway.proofs.TableLemmas.{HasPair, pair_of, double}
 use Rattle.service_day.specs.Utc.{utc_of}
@@ -149,7 +148,7 @@ read_at f words k known value word is there found = ap (option_and_then f) (at_p
 -- its first day and its last one are in time
 windowed : (title : List ℕ) (further : List Pair) (repeated : Pair) (name : List ℕ) (words : List (List ℕ)) (scope : Scope) → ArePairs (over_by title further repeated) 0 name words
     → SaysScope (name ∷ words) scope
-    → (int_le FIRST_DAY scope.from ≡ true) × (int_le (scope.from +ℤ pos scope.days -ℤ pos 1) LAST_DAY ≡ true)
+    → (int_le first_day scope.from ≡ true) × (int_le (scope.from +ℤ pos scope.days -ℤ pos 1) last_day ≡ true)
 windowed title further repeated name words scope pairs is =
     let days = pair_in title further repeated name words pairs 3 (omega arith) in
     let first : beginning days.0 ≡ Some scope.from = sym (ap (option_and_then beginning) days.3) ∙ is.from in
@@ -164,7 +163,7 @@ named_pairs known command name words found is e =
     (subst (λ n. IsSomeAnd (with_name commands n) (λ command. ArePairs command 0 name words)) (same_Some _ _ e) is)
 
 job_windowed : (words : List (List ℕ)) (job : Job) → IsJob words job
-    → (int_le FIRST_DAY (scope_in job).from ≡ true) × (int_le ((scope_in job).from +ℤ pos (scope_in job).days -ℤ pos 1) LAST_DAY ≡ true)
+    → (int_le first_day (scope_in job).from ≡ true) × (int_le ((scope_in job).from +ℤ pos (scope_in job).days -ℤ pos 1) last_day ≡ true)
 unfolding commands to_gtfsrt to_siri show
 job_windowed [] job is = absurd is.accepted
 job_windowed (name ∷ words) (gtfsrt_job command) is =
@@ -201,6 +200,6 @@ has_window words job is =
     day_count_range word days is =
         option_and_then_some day_count word days is (λ text found counted.
         option_and_then_some _ (decimal_number text) days counted (λ n number few.
-        let both : ((nat_le 1 n && nat_le n MOST_DAYS) ≡ true) × (Some n ≡ Some days) = cond_then _ _ days few in
+        let both : ((nat_le 1 n && nat_le n most_days) ≡ true) × (Some n ≡ Some days) = cond_then _ _ days few in
         let range = both.0 in
         subst (λ d. (1 ≤ d) × (d ≤ 32)) (same_Some n days both.1) (grind (arith, nat_tests, range), grind (arith, nat_tests, range))))

@@ -3,10 +3,23 @@ use Rattle.std.specs.Prelude.{◌&&◌, ◌+◌, ◌-◌, ◌*◌, ℕ, ℤ, Boo
 use Rattle.std.specs.Char.{is_ascii_digit}
 use Rattle.std.specs.List.{list_all}
 use Rattle.gateway.specs.Tables.{Form}
-use Rattle.gateway.specs.declared.words.forms.TheConstants.{FIRST_DAY, LAST_DAY, MOST_DAYS, MOST_DIGITS}
 use Rattle.service_day.specs.DayTexts.{day_of}
 use Rattle.service_day.specs.Utc.{utc_of}
 use Rattle.service_day.specs.declared.days.DayForm.TheVariants.{Dashed}
+
+-- the first and the last day that a window may have, 1971-01-01 and 9997-12-31, and the most days of a window
+abbrev pub first_day : ℤ
+first_day = pos 365
+
+abbrev pub last_day : ℤ
+last_day = pos 2932166
+
+abbrev pub most_days : ℕ
+most_days = 32
+
+-- the most digits of a number
+abbrev pub most_digits : ℕ
+most_digits = 10
 
 -- the number that digits go on with, and the number of a text of 1 to 10 decimal digits
 abbrev pub going_on : ℕ → List ℕ → ℕ
@@ -14,24 +27,24 @@ going_on number [] = number
 going_on number (digit ∷ digits) = going_on (10 * number + (digit - 48)) digits
 
 abbrev pub is_number : List ℕ → Bool
-is_number text = nat_le 1 (length text) && nat_le (length text) MOST_DIGITS && list_all is_ascii_digit text
+is_number text = nat_le 1 (length text) && nat_le (length text) most_digits && list_all is_ascii_digit text
 
 abbrev pub decimal_number : List ℕ → Option ℕ
 decimal_number text = if is_number text then Some (going_on 0 text) else None
 
--- a day that a window may begin with, which like its last one lies between 1971-01-01 and 9997-12-31
+-- a day that a window may begin with
 abbrev pub beginning : List ℕ → Option ℤ
-beginning word = option_and_then (λ day. if int_le FIRST_DAY day && int_le day LAST_DAY then Some day else None) (day_of Dashed word)
+beginning word = option_and_then (λ day. if int_le first_day day && int_le day last_day then Some day else None) (day_of Dashed word)
 
 -- a number of days of a window
 abbrev pub day_count : List ℕ → Option ℕ
-day_count word = option_and_then (λ days. if nat_le 1 days && nat_le days MOST_DAYS then Some days else None) (decimal_number word)
+day_count word = option_and_then (λ days. if nat_le 1 days && nat_le days most_days then Some days else None) (decimal_number word)
 
 -- that many days from the first one on, if there is a first one, end in time
 abbrev pub ends_in_time : Option ℤ → Option ℕ → Bool
 ends_in_time first None = false
 ends_in_time None (Some days) = true
-ends_in_time (Some first) (Some days) = int_le (first +ℤ pos days -ℤ pos 1) LAST_DAY
+ends_in_time (Some first) (Some days) = int_le (first +ℤ pos days -ℤ pos 1) last_day
 
 -- the forms: a text that isn't empty, a day, a number of days from the day before on, and a moment
 abbrev pub is_filled : Form

@@ -1,4 +1,5 @@
 pub mod Bodies
+pub mod Devices
 pub mod Exits
 pub mod FolderTexts
 pub mod Forms

@@ -1,16 +1,15 @@
 -- What the commands publish, in the words of the two standards (SIRI 2.0, EstimatedVehicleJourney; GTFS Realtime 2.0,
 -- FeedMessage).
-use Rattle.std.specs.Prelude.{◌≡◌, ◌≢◌, ◌<◌, ℕ, ℤ, pos, length, List, [], Option, Some, Ok}
+use Rattle.std.specs.Prelude.{◌≡◌, ◌≢◌, ℕ, pos, List, [], Option, Some, Ok}
 use Rattle.gw_base.specs.Directory.{bytes_of}
 use Rattle.gw_base.specs.Told.{with_bytes}
-use Rattle.gw_base.specs.declared.messages.Entity.{Entity}
 use Rattle.gw_base.specs.declared.messages.Feed.{Feed}
 use Rattle.service_day.specs.Windows.{IsWindow}
 use Rattle.service_day.specs.Zones.{IsRuleZone, IsTableZone}
 use Rattle.service_day.specs.declared.zones.Rules.{Rules}
 use Rattle.stop_schedule.specs.Seen.{seen}
 use Rattle.stop_schedule.specs.Timetable.{timetable}
-use Rattle.feed_messages.specs.Tables.{MeansFeed, full_dataset}
+use Rattle.feed_messages.specs.Tables.{MeansFeed}
 use Rattle.journey_model.specs.declared.report.Report.{Report}
 use Rattle.propagation.specs.Feeds.{IsReading}
 use Rattle.propagation.specs.declared.feeds.FeedReading.{FeedReading}
@@ -18,7 +17,7 @@ use Rattle.show_command.specs.Lines.{shown}
 use Rattle.reverse_calls.specs.Siri.{IsSiri}
 use Rattle.gateway_core.specs.Deliveries.{all_situations, all_taken, schedule_in}
 use Rattle.gateway_core.specs.Feeds.{IsRebuilt}
-use Rattle.gateway_core.specs.Gives.{GivesLatest}
+use Rattle.gateway_core.specs.Gives.{GivesEach}
 use Rattle.gateway.specs.Words.{IsJob, Job, NamedZone, Scope, Show, ToGtfsrt, ToSiri, by_rule, by_file, gtfsrt_job, siri_job, show_job}
 use Rattle.gateway.specs.Work.{Deliveries, Directory}
 use Rattle.gateway_core.specs.declared.named.Named.{Named}
@@ -29,12 +28,11 @@ abbrev pub IsZone : NamedZone → Directory → Rules → Type 0
 IsZone (by_rule text) files zone = IsRuleZone text zone
 IsZone (by_file path) files zone = (bytes : List ℕ) × (bytes_of files path ≡ Some bytes) × IsTableZone bytes zone
 
--- the folder has a timetable, and the zone and the days make a window: together they are the setting
+-- the folder has a timetable, and the days make a window in the zone that is named: together they are the setting
 pub record IsSetting (over : Scope) (files : Directory) (setting : Setting) : Type 0 where
   pub folder : timetable files over.gtfs ≡ Ok (seen setting.table)
-  pub zone : Rules
-  pub zone_is : IsZone over.zone files zone
-  pub window : IsWindow zone over.from over.days setting.window
+  pub zone : IsZone over.zone files setting.zone
+  pub window : IsWindow setting.zone over.from over.days setting.window
 
 -- standard output got the feed that is rebuilt from all records and situations taken of the files' deliveries, in order. Read as
 -- protobuf, its bytes mean a full dataset of version 2.0, made at the moment of the command; and this feed, propagated by GTFS
@@ -47,9 +45,7 @@ pub record PublishesFeed (command : ToGtfsrt) (files : Directory) (before now : 
   pub bytes : List ℕ
   pub written : now ≡ with_bytes before bytes
   pub rebuilt : IsRebuilt command.at (schedule_in setting) (all_taken deliveries) (all_situations deliveries) bytes
-  pub entities : List Entity
-  pub means : MeansFeed bytes (full_dataset command.at entities)
-  pub gives : (trip : ℕ) → trip < length setting.table.trips → (day : ℤ) → GivesLatest (schedule_in setting) command.at entities (all_taken deliveries) trip day
+  pub gives : GivesEach command.at (schedule_in setting) (all_taken deliveries) bytes
 
 -- the file has these bytes, and they mean this feed, which is a full dataset
 pub record IsFullFeed (name : List ℕ) (files : Directory) (feed : Feed) : Type 0 where

@@ -15,7 +15,7 @@ use Rattle.propagation.specs.Feeds.{IsReading}
 use Rattle.propagation.specs.declared.feeds.FeedReading.{FeedReading}
 use Rattle.show_command.specs.Lines.{shown as shown_lines}
 use Rattle.reverse_calls.specs.Siri.{HasTooMany, IsSiri}
-use Rattle.service_day.specs.Windows.{DayStarts, IsWindow}
+use Rattle.service_day.specs.Windows.{IsWindow}
 use Rattle.service_day.specs.Zones.{IsRuleZone, IsBadRule, IsTableZone, IsBadTable}
 use Rattle.service_day.specs.declared.zones.Rules.{Rules}
 use Rattle.stop_schedule.specs.Seen.{seen}
@@ -26,6 +26,7 @@ use Rattle.stop_schedule.specs.declared.timetable.Timetable.{Timetable}
 use Rattle.gateway.specs.Exits.{missing}
 use Rattle.gateway.specs.FolderTexts.{folder_end}
 use Rattle.gateway_core.specs.Feeds.{IsRebuilt}
+use Rattle.gateway_core.specs.Gives.{GivesEach}
 use Rattle.siri_calls.specs.Deliveries.{ReadsBody}
 use Rattle.siri_calls.specs.declared.delivery.Delivery.{Delivery}
 use Rattle.siri_calls.specs.declared.delivery.DeliveryFault.{DeliveryFault}
@@ -76,11 +77,6 @@ further limit name (Some bytes) = if nat_le (length bytes) limit then Ok bytes e
 abbrev pub FurtherFile : ℕ → List ℕ → Directory → Result (List ℕ) Exit → Type 0
 FurtherFile limit name files answer = answer ≡ further limit name (bytes_of files name)
 
--- the window of so many days from the first on
-abbrev pub Window : Rules → ℤ → ℕ → Result DayStarts Exit → Type 0
-Window zone first days (Ok window) = IsWindow zone first days window
-Window zone first days (Err end) = ⊥
-
 -- the zone of a POSIX rule
 abbrev pub RuleZone : List ℕ → Result Rules Exit → Type 0
 RuleZone text (Ok zone) = IsRuleZone text zone
@@ -102,12 +98,16 @@ Zone (by_file path) files = do
 abbrev pub Found : {A : Type 0} → A → Result A Exit → Type 0
 Found found answer = answer ≡ Ok found
 
+-- the timetable and the zone, with the window of so many days from the first on in that zone
+abbrev pub Windowed : Timetable → Rules → ℤ → ℕ → Result Setting Exit → Type 0
+Windowed table zone first days (Ok setting) = (setting.table ≡ table) × (setting.zone ≡ zone) × IsWindow zone first days setting.window
+Windowed table zone first days (Err end) = ⊥
+
 -- the zone and the window behind a timetable
 abbrev pub Over : Timetable → NamedZone → ℤ → ℕ → Directory → Result Setting Exit → Type 0
 Over table named first days files = do
   zone ← Zone named files
-  window ← Window zone first days
-  Found (record { table = table; zone = zone; window = window })
+  Windowed table zone first days
 
 -- what a command works over
 abbrev pub SettingOf : Scope → Directory → Result Setting Exit → Type 0
@@ -159,10 +159,11 @@ Deliveries setting files (flag ∷ name ∷ words) so_far = do
   delivered ← FileDelivers setting flag name files
   Deliveries setting files words (so_far ++ record { name = name; delivered = delivered } ∷ [])
 
--- the feed of what was taken, made at that moment, and the reports on all deliveries
+-- the feed of what was taken, made at that moment, which gives each journey its latest reading, and the reports on all deliveries
 abbrev pub Converted : ℤ → Setting → List Named → Result Done Exit → Type 0
 Converted at setting deliveries (Ok done) =
-    IsRebuilt at (schedule_in setting) (all_taken deliveries) (all_situations deliveries) done.out × (done.err ≡ all_reports deliveries)
+    IsRebuilt at (schedule_in setting) (all_taken deliveries) (all_situations deliveries) done.out
+    × GivesEach at (schedule_in setting) (all_taken deliveries) done.out × (done.err ≡ all_reports deliveries)
 Converted at setting deliveries (Err end) = ⊥
 
 -- the conversion of the files' deliveries

@@ -1,11 +1,23 @@
-//! The real files and streams. They count their faults, and tell nothing of their content.
-ghost use Rattle.std.specs.Prelude.{◌≡◌, ◌++◌, ℕ, List, None, IfOk, IsErrOf};
-ghost use Rattle.gw_base.specs.Count.{Counts};
+//! The real files and streams. They count their faults and tell nothing of their content, but what is read and written goes
+//! where std's own reads and writes say.
+ghost use Rattle.std.specs.Prelude.{◌≡◌, ◌<◌, ◌≤◌, ◌++◌, ◌+◌, ℕ, List, None, length, take, min, IfOk, IfSome, IsErr, IsErrOf, OnOk};
+ghost use Rattle.std.specs.Io.KnownBytes.{WriteAppends};
+ghost use Rattle.gw_base.specs.Count.{Counts, last_count};
 
 use gw_base::{Bytes, Failed, FileFault, Files, Got, Sink};
 use std::fs::File;
 use std::io::{self, ErrorKind, Read, Write};
 use std::marker::Model;
+
+// Reads what a reader has left, or its first `limit` bytes and one more, straight behind what is there.
+fn read_front<B: Read + Drop>(reader: B, limit: u64, into: &mut Bytes) -> io::Result<usize>
+    ensures behind { (bytes : List ℕ) × (into.new ≡ into.old ++ bytes) }
+    ensures count { IfOk result (λ n. length into.new ≡ length into.old + n) }
+    ensures front { OnOk result (IfSome (B.remaining reader) (λ bytes.
+        into.new ≡ into.old ++ take (min (limit + 1) last_count) bytes)) }
+{
+    into.read_to_end(&mut reader.take(limit.saturating_add(1)))
+}
 
 /// The files of the machine, by their paths. A contract sees the count of faults.
 #[derive(Drop)]
@@ -33,9 +45,9 @@ impl<'a, R: std::rt::Files> DirFiles<'a, R> {
     // Reads the file's bytes, or its first `limit` bytes and one more, straight behind what is there.
     fn read_behind(&self, name: &str, limit: u64, into: &mut Bytes) -> io::Result<usize>
         ensures behind { (bytes : List ℕ) × (into.new ≡ into.old ++ bytes) }
+        ensures count { IfOk result (λ n. length into.new ≡ length into.old + n) }
     {
-        let file = File::open(self.rt, name)?;
-        into.read_to_end(&mut file.take(limit.saturating_add(1)))
+        read_front(File::open(self.rt, name)?, limit, into)
     }
 
     // What a failed read is: a file that isn't there, want of memory, or a fault, which is counted.
@@ -74,7 +86,7 @@ impl<'a, R: std::rt::Files> Files for DirFiles<'a, R> {
     }
 }
 
-/// A stream of the machine, as standard output. A contract sees the count of faults.
+/// A stream of the machine, as standard output. A contract sees what std says that it holds, and the count of faults.
 #[derive(Drop)]
 pub struct StdSink<W: Write + Drop> {
     stream: W,
@@ -82,17 +94,18 @@ pub struct StdSink<W: Write + Drop> {
 }
 
 impl<W: Write + Drop> Model for StdSink<W> {
-    ghost use Rattle.std.specs.Prelude.{ℕ};
+    ghost use Rattle.gateway.specs.Devices.{Stream};
 
-    ghost Value = { ℕ };
+    ghost Value = { Stream };
 
-    ghost view = { λ s. s.faults };
+    ghost view = { λ s. record { held = W.contents s.stream; faults = s.faults } };
 }
 
 impl<W: Write + Drop> StdSink<W> {
     /// A sink that writes to the stream, with no fault so far.
     pub fn new(stream: W) -> StdSink<W>
-        ensures { result ≡ 0 }
+        ensures held { result.held ≡ W.contents stream }
+        ensures faults { result.faults ≡ 0 }
     {
         StdSink { stream, faults: 0 }
     }
@@ -101,9 +114,15 @@ impl<W: Write + Drop> StdSink<W> {
 impl<W: Write + Drop> Sink for StdSink<W> {
     ghost told = { λ _. None };
 
-    ghost faults = { λ faults. faults };
+    ghost faults = { λ s. s.faults };
 
-    fn write(&mut self, piece: &[u8]) -> Result<usize, Failed> {
+    fn write(&mut self, piece: &[u8]) -> Result<usize, Failed>
+        requires { 0 < length piece.now }
+        ensures some { IfOk result (λ n. (0 < n) × (n ≤ length piece.now)) }
+        // Behind what the stream held stand just the bytes of the piece that are counted, and after a failure none.
+        ensures held { WriteAppends self.old.held self.new.held result piece.now }
+        ensures counts { Counts (IsErr result) self.old.faults self.new.faults }
+    {
         match self.stream.write(piece) {
             Ok(count) if 0 < count => Ok(count),
             _ => {

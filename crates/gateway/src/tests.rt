@@ -16,19 +16,30 @@ mod updates;
 mod words;
 
 use crate::devices::{DirFiles, StdSink};
-use gw_base::{Bytes, FileFault, Files, Got, Sink};
-use std::fs::File;
+use gw_base::{Bytes, Failed, FileFault, Files, Got, Sink};
+use std::fs::{self, File};
 use std::test::Fail;
+use std::{io, process};
 
 #[test]
-fn files_of_the_machine_are_read(rt: HostRuntime) {
+fn a_file_is_read_as_it_was_written(rt: HostRuntime) -> Result<(), Fail> {
+    let path = format!(in rt.alloc(); "/tmp/gateway-test-{}", process::id(rt.process()))?;
+    fs::write(&rt, path.as_str(), b"abcde")?;
+    let mut files = DirFiles::new(&rt);
+    let mut into = Bytes::copied(rt.alloc(), b"-")?;
+    let longer = files.read_file(path.as_str(), 4, &mut into);
+    let whole = files.read_file(path.as_str(), 5, &mut into);
+    fs::remove_file(&rt, path.as_str())?;
+    assert_eq!(rt; longer, Ok(Got::TooLong));
+    assert_eq!(rt; whole, Ok(Got::Whole));
+    assert_eq!(rt; into.as_slice(), b"-abcde".as_slice());
+    Ok(())
+}
+
+#[test]
+fn a_file_that_is_not_read_leaves_nothing(rt: HostRuntime) {
     let mut files = DirFiles::new(&rt);
     let mut into = Bytes::new(rt.alloc());
-    assert_eq!(rt; files.read_file("/dev/null", 0, &mut into), Ok(Got::Whole));
-    assert_eq!(rt;
-        files.read_file("/dev/zero", 4, &mut into),
-        Ok(Got::TooLong)
-    );
     assert_eq!(rt;
         files.read_file("/dev/null/none", 4, &mut into),
         Ok(Got::Missing)
@@ -38,10 +49,15 @@ fn files_of_the_machine_are_read(rt: HostRuntime) {
 }
 
 #[test]
-fn streams_of_the_machine_are_written(rt: HostRuntime) -> Result<(), Fail> {
-    let mut sink = StdSink::new(File::create(&rt, "/dev/null")?);
-    assert!(rt; sink.write(b"abc").is_ok());
+fn a_pipe_gets_the_bytes(rt: HostRuntime) -> Result<(), Fail> {
+    let (mut reader, writer) = io::pipe(&rt)?;
+    let mut sink = StdSink::new(writer);
+    assert_eq!(rt; sink.write(b"abc"), Ok(3));
+    drop(sink);
+    let mut got = Bytes::new(rt.alloc());
+    got.read_to_end(&mut reader)?;
+    assert_eq!(rt; got.as_slice(), b"abc".as_slice());
     let mut full = StdSink::new(File::create(&rt, "/dev/full")?);
-    assert!(rt; full.write(b"abc").is_err());
+    assert_eq!(rt; full.write(b"abc"), Err(Failed));
     Ok(())
 }

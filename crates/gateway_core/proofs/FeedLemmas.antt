@@ -14,7 +14,7 @@ use Rattle.journey_model.specs.declared.situation.Situation.{Situation}
 use Rattle.latest_store.specs.Entities.{entity, messages}
 use Rattle.latest_store.specs.Reads.{SaysItself, with_messages}
 use Rattle.gateway_core.specs.Feeds.{IsFeedOf, IsRebuilt, entities_of}
-use Rattle.gateway_core.specs.Winners.{AreServable, Held, HeldSituations, HoldsLatest, HoldsNewest, IsWritten, all_held, all_numbers}
+use Rattle.gateway_core.specs.Winners.{Held, HeldSituations, HoldsLatest, HoldsNewest, IsWritten, all_held, all_numbers}
 use Rattle.gateway_core.proofs.HeldLemmas.{all_among}
 use Rattle.gateway_core.proofs.WinnerLemmas.{find_held, find_number, held_in_order, numbers_in_order}
 
@@ -95,10 +95,10 @@ module _ {V A : Type 0} (seen : V → A) where
   none_left so_far left all is whole = sym (append-nil so_far) ∙ ap (λ (these : List V). so_far ++ map seen these) (sym is) ∙ whole
 
 -- the feed of what is held is that of all that was taken
-pub feed_of_held : (at : ℤ) (schedule : Schedule) (records : List Recorded) (latest : Held) (situations : List Situation) (newest : HeldSituations) (journeys feed : List ℕ)
-    → HoldsLatest records latest → HoldsNewest situations newest → AreServable schedule (all_held latest) → IsWritten at schedule (all_held latest) journeys
+unfoldable pub feed_of_held : (at : ℤ) (schedule : Schedule) (records : List Recorded) (latest : Held) (situations : List Situation) (newest : HeldSituations) (feed : List ℕ)
+    → HoldsLatest records latest → HoldsNewest situations newest
     → IsFeedOf at (entities_of schedule (all_held latest) (all_numbers newest)) feed → IsRebuilt at schedule records situations feed
-feed_of_held at schedule records latest situations newest journeys feed h k servable written is = record {
+feed_of_held at schedule records latest situations newest feed h k is = record {
   ordered = all_held latest;
   in_order = held_in_order records latest h;
   latest = find_held records latest h;
@@ -106,6 +106,4 @@ feed_of_held at schedule records latest situations newest journeys feed h k serv
   by_number = numbers_in_order situations newest k;
   newest = find_number situations newest k;
   is_feed = is;
-  says = written.says;
-  servable = servable;
 }

@@ -28,70 +28,13 @@ use Rattle.journey_model.specs.declared.readings.StopReading.{StopReading}
 use Rattle.journey_model.specs.declared.readings.StopReading.TheVariants.{Absent, Skipped, Timed}
 use Rattle.journey_model.specs.declared.situation.Situation.{Situation}
 use Rattle.latest_store.specs.Entities.{is_absent, is_silent, messages}
-use Rattle.latest_store.specs.Latest.{HasLatest, IsLatest, is_later, is_of}
+use Rattle.latest_store.specs.Latest.{is_of, was_later}
 use Rattle.latest_store.specs.Reads.{SaysItself, dated_reading}
 use Rattle.latest_store.proofs.EntityLemmas.{messages_none, messages_one}
 use Rattle.gateway_core.specs.Alerts.{alerts}
 use Rattle.gateway_core.specs.Feeds.{IsRebuilt, are_ordered_by, comes_before, entities_of}
-use Rattle.gateway_core.specs.Gives.{GivesLatest}
-
--- an element that passes a test, amid a list
-passes : {X : Type 0} (test : X → Bool) (before behind : List X) (one : X) → test one ≡ true → list_any test (before ++ one ∷ behind) ≡ true
-passes test [] behind one e = or_left (test one) (list_any test behind) e
-passes test (first ∷ before) behind one e = or_right (test first) (list_any test (before ++ one ∷ behind)) (passes test before behind one e)
-
-fails : {X : Type 0} (test : X → Bool) (before behind : List X) (one : X) → list_any test (before ++ one ∷ behind) ≡ false → test one ≡ false
-fails test [] behind one e = (or_parts (test one) (list_any test behind) e).0
-fails test (first ∷ before) behind one e = fails test before behind one (or_parts (test first) (list_any test (before ++ one ∷ behind)) e).1
-
--- of two records of a journey only one counts
-abbrev later : ℕ → ℤ → Recorded → Recorded → Bool
-later trip day one other = is_of trip day other && is_later other.at one.at
-
-abbrev as_late : ℕ → ℤ → Recorded → Recorded → Bool
-as_late trip day one other = is_of trip day other && not (is_later one.at other.at)
-
-clash : (trip : ℕ) (day : ℤ) (a b : Recorded) (before behind : List Recorded) → is_of trip day a ≡ true → is_of trip day b ≡ true
-    → list_any (as_late trip day a) (before ++ b ∷ behind) ≡ false → later trip day b a ≡ false → ⊥
-clash trip day a b before behind of_a of_b none_as_late not_later = by (is_later a.at b.at) refl
-  where
-    by : (t : Bool) → is_later a.at b.at ≡ t → ⊥
-    by true e = both_ways (later trip day b a) not_later (and_from (is_of trip day a) (is_later a.at b.at) of_a e)
-    by false e = both_ways (as_late trip day a b) (fails (as_late trip day a) before behind b none_as_late)
-        (and_from (is_of trip day b) (not (is_later a.at b.at)) of_b (not_from_false (is_later a.at b.at) e))
-
-same_place : (trip : ℕ) (day : ℤ) (a b : Recorded) (before_a behind_a before_b behind_b : List Recorded) → before_a ++ a ∷ behind_a ≡ before_b ++ b ∷ behind_b
-    → is_of trip day a ≡ true → is_of trip day b ≡ true
-    → list_any (later trip day a) before_a ≡ false → list_any (as_late trip day a) behind_a ≡ false
-    → list_any (later trip day b) before_b ≡ false → list_any (as_late trip day b) behind_b ≡ false → a ≡ b
-same_place trip day a b [] behind_a [] behind_b e of_a of_b later_a late_a later_b late_b = cc
-same_place trip day a b [] behind_a (y ∷ before_b) behind_b e of_a of_b later_a late_a later_b late_b =
-    let head : y ≡ a = cc in
-    let tail : behind_a ≡ before_b ++ b ∷ behind_b = cc in
-    let first : later trip day b y ≡ false = (or_parts (later trip day b y) (list_any (later trip day b) before_b) later_b).0 in
-    absurd (clash trip day a b before_b behind_b of_a of_b (sym (ap (list_any (as_late trip day a)) tail) ∙ late_a) (sym (ap (later trip day b) head) ∙ first))
-same_place trip day a b (x ∷ before_a) behind_a [] behind_b e of_a of_b later_a late_a later_b late_b =
-    let head : x ≡ b = cc in
-    let tail : behind_b ≡ before_a ++ a ∷ behind_a = cc in
-    let first : later trip day a x ≡ false = (or_parts (later trip day a x) (list_any (later trip day a) before_a) later_a).0 in
-    absurd (clash trip day b a before_a behind_a of_b of_a (sym (ap (list_any (as_late trip day b)) tail) ∙ late_b) (sym (ap (later trip day a) head) ∙ first))
-same_place trip day a b (x ∷ before_a) behind_a (y ∷ before_b) behind_b e of_a of_b later_a late_a later_b late_b =
-    let tail : before_a ++ a ∷ behind_a ≡ before_b ++ b ∷ behind_b = cc in
-    same_place trip day a b before_a behind_a before_b behind_b tail of_a of_b
-    (or_parts (later trip day a x) (list_any (later trip day a) before_a) later_a).1 late_a
-    (or_parts (later trip day b y) (list_any (later trip day b) before_b) later_b).1 late_b
-
-not_none : (records : List Recorded) (trip : ℕ) (day : ℤ) (one : Recorded) → list_any (is_of trip day) records ≡ false → IsLatest records trip day one → ⊥
-not_none records trip day one none latest =
-    both_ways (list_any (is_of trip day) records) none (ap (list_any (is_of trip day)) latest.among ∙ passes (is_of trip day) latest.before latest.behind one latest.its)
-
-pub same_latest : (records : List Recorded) (trip : ℕ) (day : ℤ) (a b : Option Recorded) → HasLatest records trip day a → HasLatest records trip day b → a ≡ b
-same_latest records trip day None None of_a of_b = refl
-same_latest records trip day None (Some b) of_a of_b = absurd (not_none records trip day b of_a of_b)
-same_latest records trip day (Some a) None of_a of_b = absurd (not_none records trip day a of_b of_a)
-same_latest records trip day (Some a) (Some b) of_a of_b =
-    ap (λ one. Some one) (same_place trip day a b of_a.before of_a.behind of_b.before of_b.behind (sym of_a.among ∙ of_b.among) of_a.its of_b.its
-    of_a.none_later of_a.none_as_late of_b.none_later of_b.none_as_late)
+use Rattle.gateway_core.specs.Gives.{GivesEach}
+use Rattle.gateway_core.proofs.OneLemmas.{same_counts}
 
 -- the readings of the messages of a record
 abbrev dated : Schedule → Recorded → List DatedReading
@@ -236,11 +179,17 @@ given_behind schedule feed records situations says =
     ∙ given_is schedule feed records says
 
 -- the feed of the latest records gives just their readings
-pub gives : (at : ℤ) (schedule : Schedule) (records : List Recorded) (situations : List Situation) (bytes : List ℕ) (is : IsRebuilt at schedule records situations bytes)
-    (trip : ℕ) (day : ℤ) → GivesLatest schedule at (entities_of schedule is.ordered is.numbered) records trip day
-gives at schedule records situations bytes is trip day found latest =
-    let entities = entities_of schedule is.ordered is.numbered in
-    let same : find (is_of trip day) is.ordered ≡ found = same_latest records trip day (find (is_of trip day) is.ordered) found (is.latest trip day) latest in
-    ap (λ all. or_nothing (last_reading trip day all) (nothing_known schedule trip)) (given_behind schedule (full_dataset at entities) is.ordered is.numbered is.says)
-    ∙ all_read schedule trip day is.ordered is.servable is.in_order
-    ∙ ap (λ one. or_nothing (option_map (λ (one : Recorded). one.reading) one) (nothing_known schedule trip)) same
+pub gives_each : (at : ℤ) (schedule : Schedule) (records : List Recorded) (situations : List Situation) (bytes : List ℕ) (is : IsRebuilt at schedule records situations bytes)
+    → AllByRecursion (SaysItself schedule) is.ordered → AllByRecursion (λ one. IsServable schedule one.trip one.day one.reading) is.ordered
+    → GivesEach at schedule records bytes
+gives_each at schedule records situations bytes is says servable = record {
+  entities = entities_of schedule is.ordered is.numbered;
+  means = is.is_feed.means;
+  gives = λ trip day found latest.
+      let entities = entities_of schedule is.ordered is.numbered in
+      let same : find (is_of trip day) is.ordered ≡ found =
+      same_counts (is_of trip day) was_later records (find (is_of trip day) is.ordered) found (is.latest trip day) latest in
+      ap (λ all. or_nothing (last_reading trip day all) (nothing_known schedule trip)) (given_behind schedule (full_dataset at entities) is.ordered is.numbered says)
+      ∙ all_read schedule trip day is.ordered servable is.in_order
+      ∙ ap (λ one. or_nothing (option_map (λ (one : Recorded). one.reading) one) (nothing_known schedule trip)) same;
+}

@@ -27,19 +27,6 @@ not_false : (b : Bool) → not b ≡ false → b ≡ true
 not_false true h = refl
 not_false false h = absurd (true≢false h)
 
-none_also : {X : Type 0} (p q : X → Bool) → ((x : X) → p x ≡ false → q x ≡ false) → (xs : List X) → list_any p xs ≡ false → list_any q xs ≡ false
-none_also p q f [] h = refl
-none_also p q f (x ∷ xs) h =
-    let e = or_false (p x) (list_any p xs) h in
-    rw (f x e.0, none_also p q f xs e.1) refl
-
-and_also : (b p q : Bool) → (p ≡ false → q ≡ false) → (b && p) ≡ false → (b && q) ≡ false
-and_also true p q f h = f h
-and_also false p q f h = refl
-
-and_none : (b p : Bool) → b ≡ false → (b && p) ≡ false
-and_none b p e = rw e refl
-
 none_joined : {X : Type 0} (p : X → Bool) (xs ys : List X) → list_any p xs ≡ false → list_any p ys ≡ false → list_any p (xs ++ ys) ≡ false
 none_joined p xs ys h k = list_any-append p xs ys ∙ (rw (h, k) refl)
 
@@ -71,9 +58,30 @@ all_weaker : {X : Type 0} (P Q : X → Type 0) → ((x : X) → P x → Q x) →
 all_weaker P Q f [] h = tt
 all_weaker P Q f (x ∷ xs) h = (f x h.0, all_weaker P Q f xs h.1)
 
+pub all_joined : {X : Type 0} (P : X → Type 0) (xs ys : List X) → AllByRecursion P xs → AllByRecursion P ys → AllByRecursion P (xs ++ ys)
+all_joined P [] ys h k = k
+all_joined P (x ∷ xs) ys h k = (h.0, all_joined P xs ys h.1 k)
+
 -- ---- the one that counts, when one more arrives
 
 module _ {A : Type 0} (is_its : A → Bool) (is_later : A → A → Bool) where
+  -- what is said of those before the one that counts, and of those behind it
+  abbrev pub IsNoLater : A → A → Type 0
+  IsNoLater one other = is_its other ≡ true → is_later other one ≡ false
+
+  abbrev pub IsEarlier : A → A → Type 0
+  IsEarlier one other = is_its other ≡ true → is_later one other ≡ true
+
+  -- none of another key is compared
+  never_its : {P : Type 0} (one : A) → is_its one ≡ false → is_its one ≡ true → P
+  never_its one lost its = absurd (true≢false (sym its ∙ lost))
+
+  none_its : (one : A) (others : List A) → list_any is_its others ≡ false → AllByRecursion (IsNoLater one) others
+  none_its one [] none = tt
+  none_its one (other ∷ others) none =
+      let both = or_false (is_its other) (list_any is_its others) none in
+      (never_its other both.0, none_its one others both.1)
+
   -- one of another key
   latest_other : (all : List A) (one : A) (found : Option A) → is_its one ≡ false → HasLatestOf is_its is_later all found → HasLatestOf is_its is_later (all ++ one ∷ []) found
   latest_other all one None lost h = none_joined is_its all (one ∷ []) h (one_none is_its one lost)
@@ -83,8 +91,7 @@ module _ {A : Type 0} (is_its : A → Bool) (is_later : A → A → Bool) where
     among = ap (λ (front : List A). front ++ one ∷ []) h.among ∙ append_assoc h.before (old ∷ h.behind) (one ∷ []);
     its = h.its;
     none_later = h.none_later;
-    none_as_late = none_joined (λ other. is_its other && not (is_later old other)) h.behind (one ∷ []) h.none_as_late
-        (one_none (λ other. is_its other && not (is_later old other)) one (and_none (is_its one) (not (is_later old one)) lost));
+    all_earlier = all_joined (IsEarlier old) h.behind (one ∷ []) h.all_earlier (never_its one lost, tt);
   }
 
   -- one that isn't as late
@@ -95,13 +102,8 @@ module _ {A : Type 0} (is_its : A → Bool) (is_later : A → A → Bool) where
     among = ap (λ (front : List A). front ++ one ∷ []) h.among ∙ append_assoc h.before (old ∷ h.behind) (one ∷ []);
     its = h.its;
     none_later = h.none_later;
-    none_as_late = none_joined (λ other. is_its other && not (is_later old other)) h.behind (one ∷ []) h.none_as_late
-        (one_none (λ other. is_its other && not (is_later old other)) one (also_and (is_its one) (is_later old one) late));
+    all_earlier = all_joined (IsEarlier old) h.behind (one ∷ []) h.all_earlier (λ its. late, tt);
   }
-    where
-      also_and : (b p : Bool) → p ≡ true → (b && not p) ≡ false
-      also_and true p e = rw e refl
-      also_and false p e = refl
 
   -- the first of its key
   latest_first : (all : List A) (one : A) → is_its one ≡ true → list_any is_its all ≡ false → IsLatestOf is_its is_later (all ++ one ∷ []) one
@@ -110,8 +112,8 @@ module _ {A : Type 0} (is_its : A → Bool) (is_later : A → A → Bool) where
     behind = [];
     among = refl;
     its = its;
-    none_later = none_also is_its (λ other. is_its other && is_later other one) (λ other lost. and_none (is_its other) (is_later other one) lost) all none;
-    none_as_late = refl;
+    none_later = none_its one all none;
+    all_earlier = tt;
   }
 
   module _ (gap : (a b c : A) → is_later a b ≡ false → is_later b c ≡ false → is_later a c ≡ false)
@@ -124,18 +126,12 @@ module _ {A : Type 0} (is_its : A → Bool) (is_later : A → A → Bool) where
       among = refl;
       its = its;
       none_later =
-          let P : A → Bool = λ other. is_its other && is_later other one in
-          let front : list_any P h.before ≡ false =
-          none_also (λ other. is_its other && is_later other old) P
-          (λ other lost. and_also (is_its other) (is_later other old) (is_later other one) (λ e. gap other old one e late) lost)
-          h.before h.none_later in
-          let back : list_any P h.behind ≡ false =
-          none_also (λ other. is_its other && not (is_later old other)) P
-          (λ other lost. and_also (is_its other) (not (is_later old other)) (is_later other one)
-          (λ e. later_behind old other one (not_false (is_later old other) e) late) lost)
-          h.behind h.none_as_late in
-          ap (list_any P) h.among ∙ none_joined P h.before (old ∷ h.behind) front (rw (h.its, late, back) refl);
-      none_as_late = refl;
+          let front : AllByRecursion (IsNoLater one) h.before =
+          all_weaker (IsNoLater old) (IsNoLater one) (λ other late_not its. gap other old one (late_not its) late) h.before h.none_later in
+          let back : AllByRecursion (IsNoLater one) h.behind =
+          all_weaker (IsEarlier old) (IsNoLater one) (λ other earlier its. later_behind old other one (earlier its) late) h.behind h.all_earlier in
+          subst (AllByRecursion (IsNoLater one)) (sym h.among) (all_joined (IsNoLater one) h.before (old ∷ h.behind) front (λ its. late, back));
+      all_earlier = tt;
     }
 
     latest_at : (all : List A) (one : A) (found : Option A) → is_its one ≡ true → HasLatestOf is_its is_later all found → counts_by is_later found one ≡ true

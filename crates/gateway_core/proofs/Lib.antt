@@ -1,6 +1,7 @@
 mod FeedLemmas
-pub mod GivesLemmas
+mod GivesLemmas
 mod HeldLemmas
+mod OneLemmas
 mod ReportLemmas
 mod TakenLemmas
 mod WinnerLemmas

@@ -17,13 +17,13 @@ use Rattle.siri_situations.specs.Deliveries as situations
 use Rattle.siri_situations.specs.declared.delivery.Item as of_situations
 use Rattle.siri_situations.specs.declared.delivery.Item.TheVariants as item
 use Rattle.stop_schedule.specs.Table.{Table}
-use Rattle.gateway_core.specs.Alerts.{alert_len, limited}
-use Rattle.gateway_core.specs.declared.alerts.TheConstants.{ALERT_LIMIT}
+use Rattle.gateway_core.specs.Alerts.{alert_len, alert_limit, limited}
 use Rattle.gateway_core.specs.Deliveries.{CanServe, all_situations, all_taken, records_in, situations_in, taken}
 use Rattle.gateway_core.specs.Winners.{AreAllKnown, AreServable, situations_taken, taken_in}
 use Rattle.gateway_core.specs.declared.named.Delivered.{Delivered}
 use Rattle.gateway_core.specs.declared.named.Delivered.TheVariants.{Journeys, Situations}
 use Rattle.gateway_core.specs.declared.named.Named.{Named}
+use Rattle.gateway_core.proofs.HeldLemmas.{all_joined}
 
 -- what is taken of one item more
 module _ {I A : Type 0} (shown : I → Result A Fault) where
@@ -46,11 +46,6 @@ pub of_one_more : {X : Type 0} (f : Named → List X) (deliveries : List Named) 
 of_one_more {X} f deliveries i one within is =
     let more : take (i + 1) deliveries ≡ take i deliveries ++ one ∷ [] = take_more deliveries i one within ∙ ap (λ (last : Named). take i deliveries ++ last ∷ []) (sym is) in
     sym (ap (flat_map f) more ∙ flat_map-append f (take i deliveries) (one ∷ []) ∙ ap (λ (rest : List X). flat_map f (take i deliveries) ++ rest) (append-nil (f one)))
-
--- what holds of each is said of all
-all_joined : {X : Type 0} (P : X → Type 0) (xs ys : List X) → AllByRecursion P xs → AllByRecursion P ys → AllByRecursion P (xs ++ ys)
-all_joined P [] ys h k = k
-all_joined P (x ∷ xs) ys h k = (h.0, all_joined P xs ys h.1 k)
 
 -- records that can be served
 taken_servable : (schedule : Schedule) (items : List of_journeys.Item) → AllByRecursion (journeys.CanServe schedule) items → AreServable schedule (taken_in items)
@@ -85,7 +80,7 @@ all_known schedule (one ∷ deliveries) h =
 -- and those that are within the limit refer to it too
 pub limited_known : (table : Table) (items : List of_situations.Item) → situations.ReferToKnown table items → situations.ReferToKnown table (map (limited table) items)
 limited_known table [] h = tt
-limited_known table (item.Taken one ∷ items) h = (of_one (nat_le (alert_len table one) ALERT_LIMIT), limited_known table items h.1)
+limited_known table (item.Taken one ∷ items) h = (of_one (nat_le (alert_len table one) alert_limit), limited_known table items h.1)
   where
     of_one : (fits : Bool) → situations.RefersToKnown table (if fits then item.Taken one else item.Aside (EntityTooLong (alert_len table one)))
     of_one true = h.0

@@ -8,14 +8,17 @@ use Rattle.alert_map.specs.Alerts.{alert_message, entity_body_len}
 use Rattle.siri_situations.specs.declared.delivery.Item.{Item}
 use Rattle.siri_situations.specs.declared.delivery.Item.TheVariants.{Taken, Aside}
 use Rattle.siri_situations.specs.declared.delivery.SituationDelivery.{SituationDelivery}
-use Rattle.gateway_core.specs.declared.alerts.TheConstants.{ALERT_LIMIT}
+
+-- the most bytes of the body of an alert's entity
+abbrev pub alert_limit : ℕ
+alert_limit = 65536
 
 -- a situation whose alert has an entity with a body of more bytes than the limit is set aside
 abbrev pub alert_len : Table → Situation → ℕ
 alert_len table one = entity_body_len (alert_message table one)
 
 abbrev pub limited : Table → Item → Item
-limited table (Taken one) = if nat_le (alert_len table one) ALERT_LIMIT then Taken one else Aside (EntityTooLong (alert_len table one))
+limited table (Taken one) = if nat_le (alert_len table one) alert_limit then Taken one else Aside (EntityTooLong (alert_len table one))
 limited table (Aside fault) = Aside fault
 
 abbrev pub limited_delivery : Table → SituationDelivery → SituationDelivery

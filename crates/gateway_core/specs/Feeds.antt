@@ -1,17 +1,16 @@
 -- The feed of what was taken (GTFS Realtime, FeedMessage).
-use Rattle.std.specs.Prelude.{◌≡◌, ◌&&◌, ◌||◌, ℕ, ℤ, int_lt, nat_lt, Bool, true, List, [], ◌∷◌, ◌++◌, find}
+use Rattle.std.specs.Prelude.{◌≡◌, ◌&&◌, ◌||◌, ℕ, ℤ, int_lt, nat_lt, Bool, true, List, [], ◌∷◌, ◌++◌, Option, find}
 use Rattle.std.specs.Cmp.Lexicographic.{slice_cmp}
-use Rattle.std.specs.List.{AllByRecursion, flat_map, list_all}
+use Rattle.std.specs.List.{flat_map, list_all}
 use Rattle.std.specs.Ordering.{int_eq, is_lt, nat_cmp}
 use Rattle.gw_base.specs.declared.messages.Entity.{Entity}
 use Rattle.feed_messages.specs.Tables.{MeansFeed, full_dataset}
 use Rattle.feed_messages.specs.Written.{written_feed}
 use Rattle.journey_model.specs.Records.{Recorded}
-use Rattle.journey_model.specs.Schedules.{IsServable, Schedule}
+use Rattle.journey_model.specs.Schedules.{Schedule}
 use Rattle.journey_model.specs.declared.situation.Situation.{Situation}
 use Rattle.latest_store.specs.Entities.{messages}
 use Rattle.latest_store.specs.Latest.{HasLatest, HasNewest, has_number, is_of}
-use Rattle.latest_store.specs.Reads.{SaysItself}
 use Rattle.gateway_core.specs.Alerts.{alerts}
 
 -- each comes before those behind it
@@ -46,5 +45,8 @@ pub record IsRebuilt (at : ℤ) (schedule : Schedule) (records : List Recorded) 
   pub by_number : are_ordered_by has_lesser_number numbered ≡ true
   pub newest : (number : List ℕ) → HasNewest situations number (find (has_number number) numbered)
   pub is_feed : IsFeedOf at (entities_of schedule ordered numbered) feed
-  pub says : AllByRecursion (SaysItself schedule) ordered
-  pub servable : AllByRecursion (λ one. IsServable schedule one.trip one.day one.reading) ordered
+
+-- of two lists of records, and of two of situations, the same count
+pub record CountAlike (records others : List Recorded) (situations further : List Situation) : Type 0 where
+  pub latest : (trip : ℕ) (day : ℤ) (found : Option Recorded) → HasLatest records trip day found → HasLatest others trip day found
+  pub newest : (number : List ℕ) (found : Option Situation) → HasNewest situations number found → HasNewest further number found

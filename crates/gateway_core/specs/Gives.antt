@@ -1,7 +1,7 @@
 -- What a feed gives, in the words of the two standards (SIRI 2.0, EstimatedVehicleJourney; GTFS Realtime 2.0, FeedMessage).
 use Rattle.std.specs.Prelude.{◌≡◌, ℕ, ℤ, List, Option, option_map}
 use Rattle.gw_base.specs.declared.messages.Entity.{Entity}
-use Rattle.feed_messages.specs.Tables.{full_dataset}
+use Rattle.feed_messages.specs.Tables.{MeansFeed, full_dataset}
 use Rattle.journey_model.specs.FeedReadings.{nothing_known, or_nothing, reads}
 use Rattle.journey_model.specs.Records.{Recorded}
 use Rattle.journey_model.specs.Schedules.{Schedule}
@@ -13,3 +13,9 @@ abbrev pub GivesLatest : Schedule → ℤ → List Entity → List Recorded → 
 GivesLatest schedule at entities records trip day =
     (found : Option Recorded) → HasLatest records trip day found
     → reads schedule (full_dataset at entities) trip day ≡ or_nothing (option_map (λ one. one.reading) found) (nothing_known schedule trip)
+
+-- bytes mean a full dataset, made at that moment, that gives each trip on each day just this
+pub record GivesEach (at : ℤ) (schedule : Schedule) (records : List Recorded) (feed : List ℕ) : Type 0 where
+  pub entities : List Entity
+  pub means : MeansFeed feed (full_dataset at entities)
+  pub gives : (trip : ℕ) (day : ℤ) → GivesLatest schedule at entities records trip day

@@ -3,4 +3,5 @@ pub mod Deliveries
 pub mod Feeds
 pub mod Gives
 pub mod Reports
+pub mod Settings
 pub mod Winners

@@ -4,13 +4,17 @@
 
 mod alerts;
 mod latest;
+mod laws;
 mod named;
 mod newest;
 mod rebuilding;
 mod reporting;
 mod setting;
+#[cfg(test)]
+mod tests;
 
 pub use alerts::limited_delivery;
+pub use laws::the_rebuilt_feed_is_one;
 pub use named::{Delivered, Named};
 pub use rebuilding::rebuilt;
 pub use reporting::{feed_report, reports};

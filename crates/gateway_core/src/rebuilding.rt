@@ -5,6 +5,7 @@ ghost use Rattle.gw_base.specs.declared.messages.Entity as messages;
 ghost use Rattle.gateway_core.specs.Alerts.{alerts};
 ghost use Rattle.gateway_core.specs.Deliveries.{CanServeEach, all_situations, all_taken};
 ghost use Rattle.gateway_core.specs.Feeds.{IsFeedOf, IsRebuilt};
+ghost use Rattle.gateway_core.specs.Gives.{GivesEach};
 ghost use Rattle.gateway_core.specs.Winners.{AreAllKnown, AreServable, IsWritten, all_held, all_numbers};
 ghost use Rattle.journey_model.specs.Records.{Recorded, recorded};
 ghost use Rattle.journey_model.specs.Schedules.{IsServable, schedule_of};
@@ -75,7 +76,7 @@ fn add_alerts(
 
 /// The bytes of a full dataset that is made at that moment: its header, the entity of the latest record
 /// of each journey, by service day and then trip, and the alert of the newest situation of each number,
-/// by number (GTFS Realtime, FeedMessage).
+/// by number (GTFS Realtime, FeedMessage). Read again, it gives each journey just the reading of its latest record.
 pub fn rebuilt(
     alloc: Global,
     at: Moment,
@@ -83,8 +84,10 @@ pub fn rebuilt(
     deliveries: &[Named],
 ) -> Result<Bytes, AllocError>
     requires { CanServeEach (schedule_of context.now) deliveries.now }
-    ensures { IfOk result (λ feed. IsRebuilt at (schedule_of context.now)
+    ensures rebuilt { IfOk result (λ feed. IsRebuilt at (schedule_of context.now)
         (all_taken deliveries.now) (all_situations deliveries.now) feed) }
+    ensures gives { IfOk result (λ feed. GivesEach at (schedule_of context.now)
+        (all_taken deliveries.now) feed) }
 {
     let latest = latest_records(alloc, deliveries)?;
     let newest = newest_situations(alloc, deliveries)?;

@@ -1,9 +1,11 @@
 //! What a command works over: a timetable, and a window of days in a zone.
+ghost use Rattle.gateway_core.specs.Settings.{IsWindowIn};
+
 use journey_model::Context;
 use service_day::{Window, Zone};
 use stop_schedule::Timetable;
 
-/// A timetable with the zone of its times, and the window of service days that are served.
+/// A timetable with the zone of its times, and the window of service days that are served, which is one of that zone.
 #[derive(Drop)]
 pub struct Setting {
     /// What the GTFS Schedule folder says.
@@ -12,6 +14,7 @@ pub struct Setting {
     pub zone: Zone,
     /// The service days, with their starts in the zone.
     pub window: Window,
+    pub ghost own_window: { IsWindowIn zone window },
 }
 
 impl Setting {
@@ -19,9 +22,10 @@ impl Setting {
     ghost use Rattle.journey_model.specs.Schedules.{schedule_of};
     ghost use Rattle.gateway_core.specs.Deliveries.{schedule_in};
 
-    /// The same, lent.
+    /// The same, lent: the window is one of the context's zone.
     pub fn context(&self) -> Context<'_>
-        ensures { schedule_of result ≡ schedule_in self.now }
+        ensures shows { schedule_of result ≡ schedule_in self.now }
+        ensures own_window { IsWindowIn result.zone.now result.window.now }
     {
         Context {
             table: &self.table,

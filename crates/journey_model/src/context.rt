@@ -7,7 +7,8 @@ ghost use Rattle.stop_schedule.specs.Stops.{are_rising, are_timed};
 use service_day::{Day, Window, Zone};
 use stop_schedule::{StopRow, Timetable, TripNo};
 
-/// What journeys are read over: a timetable, the zone of its times, and a window made with that zone.
+/// What journeys are read over: a timetable, the zone of its times, and a window. That the window is one of the zone is kept by
+/// whoever lends the three.
 #[derive(Clone, Copy)]
 pub struct Context<'a> {
     /// What the GTFS Schedule folder says.

@@ -1,20 +1,20 @@
 -- Which of the records of a journey counts (SIRI 2.0, RecordedAtTime), and which of the situations of a number (SIRI 2.0,
 -- SituationNumber, Version).
-use Rattle.std.specs.Prelude.{◌≡◌, ◌==◌, ◌&&◌, ◌||◌, ℕ, ℤ, int_lt, nat_lt, Bool, false, true, not, List, ◌∷◌, ◌++◌, Option, Some, None}
-use Rattle.std.specs.List.{list_any}
+use Rattle.std.specs.Prelude.{◌≡◌, ◌==◌, ◌&&◌, ◌||◌, ℕ, ℤ, int_lt, nat_lt, Bool, false, true, List, ◌∷◌, ◌++◌, Option, Some, None}
+use Rattle.std.specs.List.{AllByRecursion, list_any}
 use Rattle.std.specs.Ordering.{int_eq}
 use Rattle.std.specs.Str.{bytes_eq}
 use Rattle.journey_model.specs.Records.{Recorded}
 use Rattle.journey_model.specs.declared.situation.Situation.{Situation}
 
--- of those that pass a test one counts: none of them before it is later, and each one behind it is earlier
+-- of those that pass a test one counts: none that stands before it is later, and each that stands behind it is earlier
 pub record IsLatestOf {A : Type 0} (is_its : A → Bool) (is_later : A → A → Bool) (all : List A) (one : A) : Type 0 where
   pub before : List A
   pub behind : List A
   pub among : all ≡ before ++ one ∷ behind
   pub its : is_its one ≡ true
-  pub none_later : list_any (λ other. is_its other && is_later other one) before ≡ false
-  pub none_as_late : list_any (λ other. is_its other && not (is_later one other)) behind ≡ false
+  pub none_later : AllByRecursion (λ other. is_its other ≡ true → is_later other one ≡ false) before
+  pub all_earlier : AllByRecursion (λ other. is_its other ≡ true → is_later one other ≡ true) behind
 
 -- the one that counts, or that none passes the test
 abbrev pub HasLatestOf : {A : Type 0} → (A → Bool) → (A → A → Bool) → List A → Option A → Type 0

@@ -5,6 +5,8 @@ mod counting;
 mod reverse_fault;
 mod sayable;
 mod siri;
+#[cfg(test)]
+mod tests;
 
 pub use reverse_fault::ReverseFault;
 pub use siri::siri_of;

@@ -10,11 +10,11 @@ use Rattle.gateway.proofs.feeds.siri_of.Goals as goal
 pub returns-in_ok-err-in-Ok-clause-told : goal.returns-in_ok-err-in-Ok-clause-told
 returns-in_ok-err-in-Ok-clause-told c =
     let answer = full_answer (schedule_of c.context.result) c.args.feed.now c.args.at (Ok (c.in-Ok.out, c.in-Ok.report)) c.requires c.in-Ok.ensures in
-    (c.in-Ok.report, rw c.context.ensures at answer, c.in_ok-err-in-Ok.ensures)
+    (c.in-Ok.report, rw c.context.ensures.shows at answer, c.in_ok-err-in-Ok.ensures)
 
 pub returns-in_ok-numbered-in-Err-TooManyCalls-clause-told : goal.returns-in_ok-numbered-in-Err-TooManyCalls-clause-told
 returns-in_ok-numbered-in-Err-TooManyCalls-clause-told c =
     let here : c.in-Err-TooManyCalls.field-0 ≡ TooManyCalls c.in-Err-TooManyCalls.count = search rules in
     let answer = full_answer (schedule_of c.context.result) c.args.feed.now c.args.at (Err c.in-Err-TooManyCalls.field-0) c.requires c.in-Err-TooManyCalls.ensures in
     let many = subst (λ fault. IsFullAnswer (schedule_of c.context.result) c.args.feed.now c.args.at (Err fault)) here answer in
-    (c.in-Err-TooManyCalls.count, rw c.context.ensures at many, ap Refused c.in_ok-numbered-in-Err-TooManyCalls.ensures)
+    (c.in-Err-TooManyCalls.count, rw c.context.ensures.shows at many, ap Refused c.in_ok-numbered-in-Err-TooManyCalls.ensures)
