@@ -1,0 +1,11 @@
+//! Request heads and answers of HTTP/1.1 (RFC 9112): what a connection's bytes ask for, which is `request` of
+//! `specs/Request.antt`, and the bytes of an answer, which are those of `specs/Answers.antt`.
+#![tactic(auto)]
+
+mod answer;
+mod refusal;
+mod target;
+
+pub use answer::Answer;
+pub use refusal::{Allow, BodyFault, Refusal};
+pub use target::{Head, Target};
