@@ -56,12 +56,16 @@ allow_line Feed = []
 allow_line Json = []
 allow_line (Refused refusal) = allow_of refusal
 
--- the head of an answer whose body has so many bytes
-abbrev pub answer_head : Answer → ℕ → List ℕ
-answer_head answer size =
-    line (codes "HTTP/1.1 " ++ status answer)
-    ++ line (codes "Content-Type: " ++ content_type answer)
+-- a head of these parts: each line of a name, a colon and a space, and the value
+abbrev pub head_text : List ℕ → List ℕ → ℕ → List ℕ → List ℕ
+head_text status content_type size allow =
+    line (codes "HTTP/1.1 " ++ status)
+    ++ line (codes "Content-Type: " ++ content_type)
     ++ line (codes "Content-Length: " ++ decimal size)
-    ++ allow_line answer
+    ++ allow
     ++ line (codes "Connection: close")
     ++ line []
+
+-- the head of an answer whose body has so many bytes
+abbrev pub answer_head : Answer → ℕ → List ℕ
+answer_head answer size = head_text (status answer) (content_type answer) size (allow_line answer)

@@ -5,7 +5,9 @@
 mod answer;
 mod refusal;
 mod target;
+mod texts;
 
-pub use answer::Answer;
+pub use answer::{Answer, HeadBytes, answer_head};
 pub use refusal::{Allow, BodyFault, Refusal};
 pub use target::{Head, Target};
+pub use texts::{BodyFaultText, RefusalText, body_fault_text, refusal_text};
