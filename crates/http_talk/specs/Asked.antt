@@ -1,5 +1,5 @@
 -- What a request head asks for (RFC 9110, sections 5.1, 5.6.1, 8.6, 9 and 15.5; RFC 9112, sections 3 and 6).
-use Rattle.std.specs.Prelude.{◌≡◌, ℕ, ◌+◌, ◌<◌, ◌≤◌, Bool, true, false, ◌&&◌, ◌==◌, nat_lt, nat_le, if◌then◌else◌, List, [], ◌∷◌, length, map, filter, Result, Ok, Err, codes}
+use Rattle.std.specs.Prelude.{◌≡◌, ℕ, ◌+◌, ◌<◌, ◌≤◌, Bool, true, false, ◌&&◌, ◌==◌, nat_le, not, if◌then◌else◌, List, [], ◌∷◌, length, map, filter, Result, Ok, Err, codes}
 use Rattle.std.specs.List.{list_all, list_any, before_first}
 use Rattle.std.specs.Str.{bytes_eq, str_eq_ignore_ascii_case}
 use Rattle.std.specs.Str.Parse.{digits_value}
@@ -46,7 +46,7 @@ values_of name fields = map (λ field. field.1) (filter (is_named name) fields)
 
 -- one decimal digit or more
 abbrev pub is_number : List ℕ → Bool
-is_number text = nat_lt 0 (length text) && list_all is_ascii_digit text
+is_number text = not (length text == 0) && list_all is_ascii_digit text
 
 -- a body's length, which is at most 16,777,216 bytes
 abbrev pub limited : ℕ → Result ℕ Refusal

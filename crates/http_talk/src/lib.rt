@@ -3,6 +3,8 @@
 #![tactic(auto)]
 
 mod answer;
+mod ends;
+mod length;
 mod refusal;
 mod target;
 mod texts;
