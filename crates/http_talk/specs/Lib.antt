@@ -1,4 +1,5 @@
 pub mod Ends
+pub mod Places
 pub mod Asked
 pub mod Request
 pub mod Texts

@@ -5,6 +5,7 @@
 mod answer;
 mod ends;
 mod length;
+mod place;
 mod refusal;
 mod target;
 mod texts;
