@@ -1,3 +1,4 @@
 pub mod Places
 pub mod Scans
 pub mod Fronts
+pub mod Heads

@@ -78,9 +78,12 @@ with_length target (Ok size) = Ok (record { target = target; length = size })
 with_length target (Err why) = Err why
 
 -- what is asked, once the target is known; of a GET no body is read
-abbrev pub with_fields : Result Target Refusal → List (List ℕ × List ℕ) → Result Head Refusal
-with_fields (Ok target) fields =
+abbrev pub with_target : Target → List (List ℕ × List ℕ) → Result Head Refusal
+with_target target fields =
     if is_post target then with_length target (length_of fields) else Ok (record { target = target; length = 0 })
+
+abbrev pub with_fields : Result Target Refusal → List (List ℕ × List ℕ) → Result Head Refusal
+with_fields (Ok target) fields = with_target target fields
 with_fields (Err why) fields = Err why
 
 -- what a head of this method, this target and these header lines asks for

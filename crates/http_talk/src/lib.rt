@@ -4,6 +4,7 @@
 
 mod answer;
 mod ends;
+mod head;
 mod length;
 mod place;
 mod refusal;
