@@ -4,3 +4,5 @@ pub mod Asked
 pub mod Request
 pub mod Texts
 pub mod Answers
+pub mod Whole
+pub mod Reading

@@ -4,14 +4,20 @@
 
 mod answer;
 mod ends;
+mod fed;
 mod head;
 mod length;
 mod place;
+mod reader;
 mod refusal;
 mod target;
 mod texts;
+mod whole;
 
 pub use answer::{Answer, HeadBytes, answer_head};
+pub use fed::Fed;
+pub use reader::HeadReader;
 pub use refusal::{Allow, BodyFault, Refusal};
 pub use target::{Head, Target};
 pub use texts::{BodyFaultText, RefusalText, body_fault_text, refusal_text};
+pub use whole::{Asked, request_of};
