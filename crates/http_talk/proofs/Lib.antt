@@ -2,3 +2,4 @@ pub mod Places
 pub mod Scans
 pub mod Fronts
 pub mod Heads
+pub mod Feeding

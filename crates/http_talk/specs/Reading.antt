@@ -1,9 +1,11 @@
 -- What a reader of heads keeps, and what it answers to a piece of the input: what the definition has for each input that
 -- begins with the bytes so far.
-use Rattle.std.specs.Prelude.{◌≡◌, ℕ, ◌+◌, ◌≤◌, List, [], ◌++◌, length, Ok}
+use Rattle.std.specs.Prelude.{◌≡◌, ℕ, ◌+◌, ◌≤◌, List, [], ◌++◌, length, Result, Ok, Err}
 use Rattle.http_talk.specs.declared.place.Place.{Place}
 use Rattle.http_talk.specs.declared.fed.Fed.{Fed}
 use Rattle.http_talk.specs.declared.fed.Fed.TheVariants.{More, Whole, Refused}
+use Rattle.http_talk.specs.declared.refusal.Refusal.{Refusal}
+use Rattle.http_talk.specs.declared.target.Head.{Head}
 use Rattle.http_talk.specs.Ends.{IsOpen}
 use Rattle.http_talk.specs.Places.{place_of}
 use Rattle.http_talk.specs.Request.{IsHead, IsRefused}
@@ -27,3 +29,8 @@ abbrev pub held_after : List ℕ → List ℕ → Fed → List ℕ
 held_after held piece More = held ++ piece
 held_after held piece (Whole used head) = []
 held_after held piece (Refused why) = []
+
+-- the answer where the head ends behind so many bytes of the piece
+abbrev pub fed_of : ℕ → Result Head Refusal → Fed
+fed_of used (Ok head) = Whole used head
+fed_of used (Err why) = Refused why

@@ -1,6 +1,6 @@
 //! Where in a head its last byte stands, so that each byte is looked at once, in whatever pieces it comes. What a place
 //! means is `place_of` of `specs/Places.antt`, over all bytes so far.
-ghost use Rattle.std.specs.Prelude.{◌≡◌, ℕ, List, false, length};
+ghost use Rattle.std.specs.Prelude.{◌≡◌, ℕ, List, false};
 ghost use Rattle.http_talk.specs.Ends.{ends_head};
 ghost use Rattle.http_talk.specs.Places as places;
 
@@ -61,11 +61,9 @@ fn after(place: Place, byte: u8) -> Option<Place>
     }
 }
 
-/// What the bytes behind a place come to. Each is looked at once, up to the head's end.
-pub(crate) fn look_on(place: Place, bytes: &[u8]) -> Scan
-    ensures value { result ≡ places.scanned place 0 bytes.now }
-    ensures means { (before : List ℕ) → ends_head before ≡ false → places.place_of before ≡ place
-        → places.ScanMeans before 0 bytes.now result }
+// What the bytes behind a place come to. Each is looked at once, up to the head's end.
+fn moved(place: Place, bytes: &[u8]) -> Scan
+    ensures { result ≡ places.scanned place 0 bytes.now }
 {
     let mut at = place;
     let mut count = 0;
@@ -79,4 +77,12 @@ pub(crate) fn look_on(place: Place, bytes: &[u8]) -> Scan
         rest = behind;
     }
     Scan::Open(at)
+}
+
+/// What the bytes come to that follow others, which are no whole head and leave this place.
+pub(crate) fn look_on(place: Place, bytes: &[u8]) -> Scan
+    ensures { (before : List ℕ) → ends_head before ≡ false → places.place_of before ≡ place
+        → places.ScanMeans before 0 bytes.now result }
+{
+    moved(place, bytes)
 }

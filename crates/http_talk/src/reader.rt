@@ -3,6 +3,7 @@
 ghost use Rattle.std.specs.Prelude.{◌≡◌, ◌++◌, ◌+◌, ◌≤◌, [], length, IfOk, vec_capacity, vec_len};
 ghost use Rattle.http_talk.specs.Asked.{IsAnswer};
 ghost use Rattle.http_talk.specs.Ends.{IsHeadLength};
+ghost use Rattle.http_talk.specs.Reading as reading;
 ghost use Rattle.http_talk.specs.Reading.{Feeds, held_after};
 ghost use Rattle.http_talk.specs.Request.{IsRequest, Refused};
 
@@ -35,6 +36,14 @@ impl Model for HeadReader {
     ghost invariant = { λ r. IsReader r.held.items (vec_capacity r.held) r.place };
 }
 
+// How many bytes are held.
+fn held_len(held: &Vec<u8>) -> usize
+    ensures items { result ≡ length held.now.items }
+    ensures len { result ≡ vec_len held.now }
+{
+    held.as_slice().len()
+}
+
 // Adds bytes for which there is room.
 fn keep(held: &mut Vec<u8>, bytes: &[u8])
     requires { vec_len held.old + length bytes.now ≤ vec_capacity held.old }
@@ -58,6 +67,16 @@ fn ended(held: &mut Vec<u8>, front: &[u8]) -> Result<Head, Refusal>
     answer
 }
 
+// The answer where the head ends behind so many bytes of a piece.
+fn fed_of(used: usize, answer: Result<Head, Refusal>) -> Fed
+    ensures { result ≡ reading.fed_of used answer }
+{
+    match answer {
+        Ok(head) => Fed::Whole { used, head },
+        Err(why) => Fed::Refused(why),
+    }
+}
+
 impl HeadReader {
     /// A reader that holds nothing. Takes the memory for a whole head, 16,384 bytes; no other call takes any.
     pub fn make(alloc: Global) -> Result<HeadReader, AllocError>
@@ -74,7 +93,7 @@ impl HeadReader {
         ensures says { Feeds self.old piece.now result }
         ensures held { self.new ≡ held_after self.old piece.now result }
     {
-        let room = HEAD_LIMIT - self.held.len();
+        let room = HEAD_LIMIT - held_len(&self.held);
         let (seen, _) = piece.split_at(room.min(piece.len()));
         match look_on(self.place, seen) {
             Scan::Open(place) => {
@@ -90,10 +109,7 @@ impl HeadReader {
             Scan::Ended(used) => {
                 let (front, _) = seen.split_at(used);
                 self.place = Place::Blank;
-                match ended(&mut self.held, front) {
-                    Ok(head) => Fed::Whole { used, head },
-                    Err(why) => Fed::Refused(why),
-                }
+                fed_of(used, ended(&mut self.held, front))
             }
         }
     }

@@ -1,7 +1,7 @@
 -- What is left comes to what the whole comes to.
 use Rattle.std.proofs.Common.{◌≡◌, ◌+◌, length}
 use Rattle.http_talk.specs.Places as places
-use Rattle.http_talk.proofs.place.look_on.Given as goal
+use Rattle.http_talk.proofs.place.moved.Given as goal
 
 abbrev pub invariant-loop-byte : goal.invariant-loop-byte
 invariant-loop-byte l = record {
