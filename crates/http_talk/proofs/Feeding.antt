@@ -1,8 +1,7 @@
 -- What the scan over a piece says of each input that begins with the bytes so far.
-use Rattle.std.proofs.Common.{◌≡◌, ◌≢◌, ℕ, ◌+◌, ◌-◌, ◌<◌, ◌≤◌, ◌⊎◌, min, true, false, List, [], ◌∷◌, ◌++◌, length, take, drop, Result, Ok, Err, refl, ap, sym, ◌∙◌, subst, arith, append_assoc, append-nil, inl, inr, length-append}
+use Rattle.std.proofs.Common.{◌≡◌, ◌≢◌, ℕ, ◌+◌, ◌-◌, ◌<◌, ◌≤◌, min, true, false, List, [], ◌++◌, length, take, drop, Result, Ok, Err, refl, ap, sym, ◌∙◌, subst, arith, append_assoc, inl, inr}
 use Rattle.std.proofs.Math.Seq.{take-length}
 use Rattle.std.proofs.lemmas.List.{take-append-drop, length-take}
-
 use Rattle.http_talk.specs.declared.place.Place.{Place}
 use Rattle.http_talk.specs.declared.place.Scan.TheVariants.{Open, Ended}
 use Rattle.http_talk.specs.declared.refusal.Refusal.{Refusal}
@@ -10,7 +9,7 @@ use Rattle.http_talk.specs.declared.refusal.Refusal.TheVariants.{TooManyFields}
 use Rattle.http_talk.specs.declared.target.Head.{Head}
 use Rattle.http_talk.specs.Asked.{IsAnswer}
 use Rattle.http_talk.specs.Ends.{ends_head, IsHeadLength, IsOpen, IsTooLong}
-use Rattle.http_talk.specs.Places.{place_of, ScanMeans}
+use Rattle.http_talk.specs.Places.{ScanMeans}
 use Rattle.http_talk.specs.Request.{IsHead, IsRefused}
 use Rattle.http_talk.specs.Reading.{IsReader, Feeds, held_after, fed_of}
 use Rattle.http_talk.proofs.Fronts.{front_is, is_head_length, head_alone, still_open, too_long}
@@ -53,7 +52,7 @@ pub more_says : (held piece seen : List ℕ) (room : ℕ) (place : Place) → Is
     → length seen ≢ room → ScanMeans held 0 seen (Open place) → IsOpen (held ++ piece)
 more_says held piece seen room place opens is fewer means =
     subst (λ v. IsOpen (held ++ v)) (whole_piece held piece seen room is fewer)
-      (still_open held seen opens.none means.0 (omega (arith, opens.short, is.room_is, seen_length held piece seen room is)))
+    (still_open held seen opens.none means.0 (omega (arith, opens.short, is.room_is, seen_length held piece seen room is)))
 
 pub reader_is : (held piece seen : List ℕ) (room capacity : ℕ) (place : Place) → IsOpen held → IsSeen held piece seen room
     → length seen ≢ room → ScanMeans held 0 seen (Open place) → 16384 ≤ capacity → IsReader (held ++ seen) capacity place
@@ -68,7 +67,7 @@ pub long_says : (held piece seen : List ℕ) (room : ℕ) (place : Place) → Is
 long_says held piece seen room place opens is full means more =
     inl (
       subst IsTooLong (input_is held piece seen room is more)
-        (too_long held seen (drop (min room (length piece)) piece ++ more) opens.none means.0 (omega (arith, opens.short, is.room_is))),
+          (too_long held seen (drop (min room (length piece)) piece ++ more) opens.none means.0 (omega (arith, opens.short, is.room_is))),
       refl,
     )
 
@@ -88,13 +87,13 @@ shortest_in : (held piece seen : List ℕ) (room used : ℕ) → IsOpen held →
     → (rest : List ℕ) → IsHeadLength (held ++ (seen ++ rest)) (length held + used)
 shortest_in held piece seen room used opens is at rest =
     is_head_length held seen rest used opens.none at.within
-      (omega (arith, at.within, opens.short, is.room_is, seen_length held piece seen room is)) at.ends at.first
+    (omega (arith, at.within, opens.short, is.room_is, seen_length held piece seen room is)) at.ends at.first
 
 pub front_whole : (held piece seen : List ℕ) (room used : ℕ) → IsOpen held → IsSeen held piece seen room → EndsAt held seen used
     → IsHeadLength (held ++ take used seen) (length (held ++ take used seen))
 front_whole held piece seen room used opens is at =
     subst (λ v. IsHeadLength v (length v)) (front_is held seen [] used at.within)
-      (head_alone (held ++ (seen ++ [])) (length held + used) (shortest_in held piece seen room used opens is at []))
+    (head_alone (held ++ (seen ++ [])) (length held + used) (shortest_in held piece seen room used opens is at []))
 
 pub whole_says : (held piece seen : List ℕ) (room used : ℕ) (answer : Result Head Refusal) → IsOpen held
     → IsSeen held piece seen room → EndsAt held seen used → IsAnswer (held ++ take used seen) answer

@@ -1,5 +1,5 @@
 -- The fronts of an input that comes in pieces: bytes held, bytes seen behind them, and what follows.
-use Rattle.std.proofs.Common.{◌≡◌, ℕ, ◌+◌, ◌-◌, ◌<◌, ◌≤◌, ◌⊎◌, true, false, List, [], ◌∷◌, ◌++◌, length, take, drop, refl, ap, sym, ◌∙◌, subst, arith, append_assoc, append-nil, inl, inr, length-append}
+use Rattle.std.proofs.Common.{◌≡◌, ℕ, ◌+◌, ◌-◌, ◌<◌, ◌≤◌, true, false, List, ◌++◌, length, take, drop, ap, sym, ◌∙◌, subst, arith, inl, inr, length-append}
 use Rattle.std.proofs.Math.Seq.{take-append-add, take-length}
 use Rattle.std.proofs.lemmas.List.{take-append-le, take-append-drop, length-take-le}
 use Rattle.std.proofs.lemmas.Bool.{cases_lt}
@@ -18,9 +18,9 @@ pub none_among : (held seen rest : List ℕ) → HasNoEnd held → (limit : ℕ)
     → ends_head (take count (held ++ (seen ++ rest))) ≡ false
 none_among held seen rest none limit along count most below within =
     elim (cases_lt count (length held)) as (λ _. ends_head (take count (held ++ (seen ++ rest))) ≡ false) [
-      inl short ↦ subst (λ v. ends_head v ≡ false) (sym (take-append-le count held (seen ++ rest) (omega arith))) (none count most)
-    | inr long ↦
-        subst (λ v. ends_head v ≡ false)
+      | inl short ↦ subst (λ v. ends_head v ≡ false) (sym (take-append-le count held (seen ++ rest) (omega arith))) (none count most)
+      | inr long ↦
+          subst (λ v. ends_head v ≡ false)
           (sym (past held (seen ++ rest) count long ∙ ap (λ v. held ++ v) (take-append-le (count - length held) seen rest (omega arith))))
           (along (count - length held) (omega arith))
     ]
@@ -52,7 +52,7 @@ head_alone input count head = record {
   within = omega arith;
   ends = subst (λ v. ends_head v ≡ true) (sym (take-length (take count input))) head.ends;
   shortest = λ fewer below.
-    subst (λ v. ends_head v ≡ false) (front_of_front input count fewer (omega arith))
+      subst (λ v. ends_head v ≡ false) (front_of_front input count fewer (omega arith))
       (head.shortest fewer (omega (arith, length-take-le count input head.within)));
 }
 
@@ -60,8 +60,8 @@ pub still_open : (held seen : List ℕ) → HasNoEnd held → ((front : ℕ) →
     → length held + length seen < 16384 → IsOpen (held ++ seen)
 still_open held seen none along short = record {
   none = λ count most. elim (cases_lt count (length held)) as (λ _. ends_head (take count (held ++ seen)) ≡ false) [
-    inl below ↦ subst (λ v. ends_head v ≡ false) (sym (take-append-le count held seen (omega arith))) (none count most)
-  | inr long ↦ subst (λ v. ends_head v ≡ false) (sym (past held seen count long)) (along (count - length held))
+    | inl below ↦ subst (λ v. ends_head v ≡ false) (sym (take-append-le count held seen (omega arith))) (none count most)
+    | inr long ↦ subst (λ v. ends_head v ≡ false) (sym (past held seen count long)) (along (count - length held))
   ];
   short = omega (arith, length-append held seen);
 }

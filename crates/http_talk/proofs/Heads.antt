@@ -1,5 +1,5 @@
 -- A request head of the grammar as bytes: how many lines it has, and that it ends a head.
-use Rattle.std.proofs.Common.{◌≡◌, ℕ, ◌+◌, ◌<◌, ◌≤◌, ◌==◌, if◌then◌else◌, true, false, List, [], ◌∷◌, ◌++◌, length, take, reverse, refl, ap, sym, ◌∙◌, subst, arith, append_assoc, append-nil, length-append}
+use Rattle.std.proofs.Common.{◌≡◌, ℕ, ◌+◌, ◌≤◌, ◌==◌, if◌then◌else◌, true, false, List, [], ◌∷◌, ◌++◌, length, take, reverse, refl, ap, sym, ◌∙◌, subst, arith, append_assoc, append-nil, length-append}
 use Rattle.std.specs.List.{flat_map, count_by}
 use Rattle.std.proofs.Math.Seq.{take-append_seam}
 use Rattle.std.proofs.lemmas.List.{reverse-append}
@@ -8,7 +8,7 @@ use Rattle.httparse.specs.Grammar.{LineEnd, crlf, lf, print_end, print_blank, pr
 use Rattle.httparse.specs.Pieces.{Stops, is_newline}
 use Rattle.httparse.proofs.PieceLemmas.{Stops_token}
 use Rattle.httparse.proofs.GrammarLemmas.{print_request-append, cons-append}
-use Rattle.http_talk.specs.Ends.{begins_empty, skip_empty, is_end, ends_head, IsHeadLength, line_count}
+use Rattle.http_talk.specs.Ends.{skip_empty, is_end, ends_head, IsHeadLength, line_count}
 
 -- ---- without the empty lines at the front
 
@@ -70,9 +70,18 @@ feeds_head h rest =
     let l = print_end h.line_end ++ s in
     let v = print_version h.minor ++ l in
     let t = h.target ++ 32 ∷ v in
-    omega (arith, feeds_section h.fields h.last, feeds_before (print_section h.fields h.last) rest,
-      feeds_append (print_end h.line_end) s, feeds_end h.line_end, feeds_behind (print_version h.minor) l, feeds_cons 32 v,
-      feeds_behind h.target (32 ∷ v), feeds_cons 32 t, feeds_behind h.method (32 ∷ t))
+    omega (
+      arith,
+      feeds_section h.fields h.last,
+      feeds_before (print_section h.fields h.last) rest,
+      feeds_append (print_end h.line_end) s,
+      feeds_end h.line_end,
+      feeds_behind (print_version h.minor) l,
+      feeds_cons 32 v,
+      feeds_behind h.target (32 ∷ v),
+      feeds_cons 32 t,
+      feeds_behind h.method (32 ∷ t),
+    )
 
 -- a head has a line for each field, the request line and the empty line
 pub lines_of_head : (bytes : List ℕ) (h : RequestHead) (rest : List ℕ) → ReadsRequest bytes h rest
@@ -100,7 +109,7 @@ fields_feed : (a : List ℕ) (fields : List Field) → HasFeed a → HasFeed (a 
 fields_feed a [] has = subst HasFeed (sym (append-nil a)) has
 fields_feed a (f ∷ fields) has =
     subst HasFeed (append_assoc a (print_field f) (flat_map print_field fields))
-      (fields_feed (a ++ print_field f) fields (feed_behind a (print_field f) (field_feed f)))
+    (fields_feed (a ++ print_field f) fields (feed_behind a (print_field f) (field_feed f)))
 
 end_is : (front : List ℕ) (last : LineEnd) → is_end (reverse ((front ++ 10 ∷ []) ++ print_end last)) ≡ true
 end_is front crlf =
@@ -124,9 +133,9 @@ grouped h =
 head_ends : (h : RequestHead) → IsRequestHead h → ends_head (print_request h) ≡ true
 head_ends h is =
     subst (λ v. is_end (reverse v) ≡ true) (grouped h ∙ sym (ap skip_empty (sym (append-nil (print_request h))) ∙ head_skipped h [] is))
-      (feed_ends ((h.method ++ 32 ∷ (h.target ++ 32 ∷ print_version h.minor)) ++ print_end h.line_end ++ flat_map print_field h.fields) h.last
-        (fields_feed ((h.method ++ 32 ∷ (h.target ++ 32 ∷ print_version h.minor)) ++ print_end h.line_end) h.fields
-          (feed_behind (h.method ++ 32 ∷ (h.target ++ 32 ∷ print_version h.minor)) (print_end h.line_end) (end_feed h.line_end))))
+    (feed_ends ((h.method ++ 32 ∷ (h.target ++ 32 ∷ print_version h.minor)) ++ print_end h.line_end ++ flat_map print_field h.fields) h.last
+    (fields_feed ((h.method ++ 32 ∷ (h.target ++ 32 ∷ print_version h.minor)) ++ print_end h.line_end) h.fields
+    (feed_behind (h.method ++ 32 ∷ (h.target ++ 32 ∷ print_version h.minor)) (print_end h.line_end) (end_feed h.line_end))))
 
 -- nothing follows the head of the grammar that a shortest front begins with
 pub nothing_follows : (bytes : List ℕ) (h : RequestHead) (rest : List ℕ) → IsHeadLength bytes (length bytes) → ReadsRequest bytes h rest
@@ -134,9 +143,9 @@ pub nothing_follows : (bytes : List ℕ) (h : RequestHead) (rest : List ℕ) →
 nothing_follows bytes h [] shortest reads = refl
 nothing_follows bytes h (byte ∷ rest) shortest reads =
     let longer : length bytes ≡ length (print_request h) + length (byte ∷ rest) =
-      ap length reads.1 ∙ length-append (print_request h) (byte ∷ rest) in
+    ap length reads.1 ∙ length-append (print_request h) (byte ∷ rest) in
     let early : ends_head (take (length (print_request h)) bytes) ≡ false = shortest.shortest (length (print_request h)) (omega arith) in
     let front : take (length (print_request h)) bytes ≡ print_request h =
-      ap (take (length (print_request h))) reads.1 ∙ take-append_seam (print_request h) (byte ∷ rest) in
+    ap (take (length (print_request h))) reads.1 ∙ take-append_seam (print_request h) (byte ∷ rest) in
     let ends : ends_head (print_request h) ≡ true = head_ends h reads.0 in
     absurd (cc (early, front, ends))

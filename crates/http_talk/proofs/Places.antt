@@ -1,10 +1,9 @@
 -- A byte more moves the place as `after` says, and the head ends exactly where there is no place.
-use Rattle.std.proofs.Common.{◌≡◌, ℕ, zero, suc, ◌+◌, ◌<◌, ◌≤◌, Bool, true, false, ◌&&◌, ◌==◌, if◌then◌else◌, List, [], ◌∷◌, ◌++◌, length, take, reverse, Option, Some, None, refl, ap, sym, ◌∙◌, subst, arith, append_assoc}
+use Rattle.std.proofs.Common.{◌≡◌, ℕ, Bool, true, false, ◌&&◌, ◌==◌, if◌then◌else◌, List, [], ◌∷◌, ◌++◌, reverse, Option, Some, None, refl, ap, sym, ◌∙◌, subst, arith}
 use Rattle.std.proofs.lemmas.List.{reverse-append}
 use Rattle.http_talk.specs.declared.place.Place.{Place}
-use Rattle.http_talk.specs.declared.place.Place.TheVariants.{Blank, BlankReturn, Inside, Start, StartReturn}
-use Rattle.http_talk.specs.Ends.{begins_feed, begins_empty, skip_empty, is_end, ends_head}
-use Rattle.http_talk.specs.Places.{return_place, place_behind, place_of, after_feed, after_return, after, scanned, ScanMeans}
+use Rattle.http_talk.specs.Ends.{skip_empty, is_end}
+use Rattle.http_talk.specs.Places.{place_behind, place_of, after}
 
 -- the bytes are none, or a CR alone
 abbrev pub is_blank : List ℕ → Bool

@@ -1,5 +1,5 @@
 -- What `scanned` comes to means what it says of all bytes so far.
-use Rattle.std.proofs.Common.{◌≡◌, ℕ, zero, suc, ◌+◌, ◌<◌, ◌≤◌, true, false, List, [], ◌∷◌, ◌++◌, length, take, reverse, Option, Some, None, refl, ap, sym, ◌∙◌, subst, arith, append_assoc, append-nil}
+use Rattle.std.proofs.Common.{◌≡◌, ℕ, zero, suc, ◌+◌, ◌<◌, true, false, List, [], ◌∷◌, ◌++◌, take, reverse, Option, Some, None, refl, ap, sym, ◌∙◌, subst, arith, append_assoc, append-nil}
 use Rattle.std.proofs.Math.Seq.{take-nil}
 use Rattle.http_talk.specs.declared.place.Place.{Place}
 use Rattle.http_talk.specs.declared.place.Scan.{Scan}
@@ -62,11 +62,11 @@ step before count byte bytes calm None goes rest =
     (1, refl, omega arith, omega arith, first_ends before byte bytes goes, none_before before (byte ∷ bytes) calm)
 step before count byte bytes calm (Some place) goes rest =
     lift before count byte bytes calm (scanned place (count + 1) bytes)
-      (subst (λ p. ScanMeans (before ++ byte ∷ []) (count + 1) bytes (scanned p (count + 1) bytes)) goes.1 (rest goes.0))
+    (subst (λ p. ScanMeans (before ++ byte ∷ []) (count + 1) bytes (scanned p (count + 1) bytes)) goes.1 (rest goes.0))
 
 pub scan_means : (before : List ℕ) (count : ℕ) (bytes : List ℕ) → ends_head before ≡ false
     → ScanMeans before count bytes (scanned (place_of before) count bytes)
 scan_means before count [] calm = (at_front before calm, ap place_of (append-nil before))
 scan_means before count (byte ∷ bytes) calm =
     step before count byte bytes calm (after (place_of before) byte) (next_means before byte)
-      (scan_means (before ++ byte ∷ []) (count + 1) bytes)
+    (scan_means (before ++ byte ∷ []) (count + 1) bytes)

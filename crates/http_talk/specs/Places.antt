@@ -1,5 +1,5 @@
 -- Where in a head its last byte stands, as said of all bytes so far, and how a byte more moves it.
-use Rattle.std.specs.Prelude.{◌≡◌, ℕ, ◌+◌, ◌<◌, ◌≤◌, Bool, true, false, ◌==◌, if◌then◌else◌, List, [], ◌∷◌, ◌++◌, length, take, reverse, Option, Some, None}
+use Rattle.std.specs.Prelude.{◌≡◌, ℕ, ◌+◌, ◌<◌, ◌≤◌, true, false, ◌==◌, if◌then◌else◌, List, [], ◌∷◌, ◌++◌, length, take, reverse, Option, Some, None}
 use Rattle.http_talk.specs.declared.place.Place.{Place}
 use Rattle.http_talk.specs.declared.place.Place.TheVariants.{Blank, BlankReturn, Inside, Start, StartReturn}
 use Rattle.http_talk.specs.declared.place.Scan.{Scan}

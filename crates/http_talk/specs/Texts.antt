@@ -4,7 +4,6 @@ use Rattle.gw_base.specs.Member.{member_name}
 use Rattle.gw_base.specs.Required.{required_name}
 use Rattle.gw_base.specs.declared.wire_kind.WireKind.{WireKind}
 use Rattle.gw_base.specs.declared.wire_kind.WireKind.TheVariants.{Truncated, LongVarint, BadTag, BadGroup, DeepGroup}
-use Rattle.http_talk.specs.declared.refusal.Allow.{Allow}
 use Rattle.http_talk.specs.declared.refusal.BodyFault.{BodyFault}
 use Rattle.http_talk.specs.declared.refusal.BodyFault.TheVariants.{NotJson, NotDelivery, Wire, MissingField, NotText, EntityTooLong, Differential, TooManyCalls}
 use Rattle.http_talk.specs.declared.refusal.Refusal.{Refusal}

@@ -131,5 +131,10 @@ fn head_of(status: &str, content_type: &str, size: u64, allow: &str) -> HeadByte
 pub fn answer_head(answer: &Answer, len: u64) -> HeadBytes
     ensures { result ≡ answers.answer_head answer.now len }
 {
-    head_of(status(answer), content_type(answer), len, allow_line(answer))
+    head_of(
+        status(answer),
+        content_type(answer),
+        len,
+        allow_line(answer),
+    )
 }

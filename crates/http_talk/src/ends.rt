@@ -38,7 +38,10 @@ pub(crate) fn skip_empty(bytes: &[u8]) -> &[u8]
 pub(crate) fn line_count(head: &[u8]) -> usize
     ensures { result ≡ ends.line_count head.now }
 {
-    skip_empty(head).iter().filter(|byte| **byte == b'\n').count()
+    skip_empty(head)
+        .iter()
+        .filter(|byte| **byte == b'\n')
+        .count()
 }
 
 // Whether LF stands at the end.

@@ -47,11 +47,10 @@ fn asked(
     }
 }
 
-// What a head with few enough lines asks for.
+// What a head asks for that has few enough lines.
 fn parsed(bytes: &[u8]) -> Result<Head, Refusal>
-    requires few { line_count bytes.now ≤ 64 + 2 }
-    requires whole { IsHeadLength bytes.now (length bytes.now) }
-    ensures { asked.IsAnswer bytes.now result }
+    requires { IsHeadLength bytes.now (length bytes.now) }
+    ensures { line_count bytes.now ≤ 64 + 2 → asked.IsAnswer bytes.now result }
 {
     let mut headers = [EMPTY_HEADER_SPAN; MOST_FIELDS];
     match parse_request(bytes, &mut headers) {

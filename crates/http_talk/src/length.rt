@@ -15,6 +15,7 @@ const BODY_LIMIT: u64 = 16_777_216;
 
 // The header lines that say how long the body is.
 const CONTENT_LENGTH: &[u8] = b"content-length";
+
 const TRANSFER_ENCODING: &[u8] = b"transfer-encoding";
 
 // Whether a header line has the name, in any case.

@@ -11,6 +11,8 @@ mod place;
 mod reader;
 mod refusal;
 mod target;
+#[cfg(test)]
+mod tests;
 mod texts;
 mod whole;
 

@@ -29,11 +29,14 @@ pub struct Head {
 
 // The paths.
 const FEED: &[u8] = b"/gtfs-rt";
+
 const TIMETABLE: &[u8] = b"/siri/et";
+
 const SITUATIONS: &[u8] = b"/siri/sx";
 
 // The methods.
 const GET: &[u8] = b"GET";
+
 const POST: &[u8] = b"POST";
 
 impl Target {

@@ -34,8 +34,8 @@ fn head_len(input: &[u8]) -> Option<usize>
     None
 }
 
-// What is asked, with the body.
-fn with_rest<'a>(head: Head, rest: &'a [u8]) -> Result<Asked<'a>, Refusal>
+/// What is asked, with the body, where the head is followed by the rest.
+pub(crate) fn with_rest<'a>(head: Head, rest: &'a [u8]) -> Result<Asked<'a>, Refusal>
     ensures { told result ≡ with_body (Ok head) rest.now }
 {
     let target = head.target;

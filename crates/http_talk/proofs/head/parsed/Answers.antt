@@ -1,7 +1,7 @@
 -- The parser finds each head of the grammar that has at most 64 fields, and a head with few enough lines has no more.
-use Rattle.std.proofs.Common.{◌≡◌, ℕ, ◌+◌, ◌<◌, ◌≤◌, List, [], ◌++◌, length, take, drop, map, Result, Ok, Err, refl, sym, ◌∙◌, subst, arith, append-nil, rules}
-use Rattle.httparse.specs.Grammar.{RequestHead, ReadsRequest}
-use Rattle.httparse.specs.Spans.{RequestOverflows, IsRequestOf, name_and_value, span_bytes, header_bytes}
+use Rattle.std.proofs.Common.{◌≡◌, ℕ, ◌≤◌, List, [], length, take, drop, map, Result, refl, sym, ◌∙◌, subst, arith, append-nil}
+use Rattle.httparse.specs.Grammar.{ReadsRequest}
+use Rattle.httparse.specs.Spans.{RequestOverflows, IsRequestOf, span_bytes, header_bytes}
 use Rattle.httparse.specs.declared.spans.HeaderSpan.{HeaderSpan}
 use Rattle.httparse.specs.declared.spans.RequestSpans.{RequestSpans}
 use Rattle.http_talk.specs.declared.target.Head.{Head}
@@ -27,14 +27,14 @@ answered bytes headers spans method target answer few whole found methods target
     let h = found.0 in
     let at = found.1 in
     asked.asks few h
-      (subst (λ v. ReadsRequest bytes h v) (nothing_follows bytes h (drop spans.len bytes) whole at.reads) at.reads)
-      (is ∙ same (methods ∙ at.method) (targets ∙ at.path) at.fields)
+    (subst (λ v. ReadsRequest bytes h v) (nothing_follows bytes h (drop spans.len bytes) whole at.reads) at.reads)
+    (is ∙ same (methods ∙ at.method) (targets ∙ at.path) at.fields)
 
 pub returns-in-Err : goal.returns-in-Err
-returns-in-Err c = asked.no_head c.requires.few (no_head c.args.bytes.now c.requires.few c.in-Err.ensures.no_room) refl
+returns-in-Err c = λ few. asked.no_head few (no_head c.args.bytes.now few c.in-Err.ensures.no_room) refl
 
 pub returns-in-Ok-Complete : goal.returns-in-Ok-Complete
-returns-in-Ok-Complete c =
+returns-in-Ok-Complete c = λ few.
     answered c.args.bytes.now c.parse_request.new.headers c.in-Ok-Complete.spans c.of.result.now c.of-in-Ok-Complete.result.now c.asked.result
-      c.requires.few c.requires.whole (rw c.in-Ok-Complete.field-0-is at c.in-Ok-Complete.ensures.complete) c.of.ensures
-      c.of-in-Ok-Complete.ensures c.asked.ensures
+    few c.requires (rw c.in-Ok-Complete.field-0-is at c.in-Ok-Complete.ensures.complete) c.of.ensures
+    c.of-in-Ok-Complete.ensures c.asked.ensures

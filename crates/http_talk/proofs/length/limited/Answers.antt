@@ -1,8 +1,7 @@
 -- Digits that follow make no number less.
-use Rattle.std.proofs.Common.{◌≡◌, ℕ, ◌+◌, ◌*◌, ◌<◌, ◌≤◌, List, [], ◌∷◌, Bool, true, false, Err, Result, nat_le, cond, arith, rules, subst}
+use Rattle.std.proofs.Common.{◌≡◌, ℕ, ◌+◌, ◌*◌, ◌<◌, ◌≤◌, List, [], ◌∷◌, Err, arith, rules}
 use Rattle.std.specs.Char.{digit_value}
-use Rattle.std.specs.Str.Parse.{digits_value, digits_value_after}
-use Rattle.http_talk.specs.declared.refusal.Refusal.{Refusal}
+use Rattle.std.specs.Str.Parse.{digits_value_after}
 use Rattle.http_talk.specs.declared.refusal.Refusal.TheVariants.{TooLarge}
 use Rattle.http_talk.specs.Asked as asked
 use Rattle.http_talk.proofs.length.limited.Goals as goal

@@ -7,5 +7,5 @@ use Rattle.http_talk.proofs.place.look_on.Goals as goal
 pub returns : goal.returns
 returns c = λ before calm at.
     subst (λ s. places.ScanMeans before 0 c.args.bytes.now s)
-      (ap (λ p. places.scanned p 0 c.args.bytes.now) at ∙ sym c.moved.ensures)
-      (scan_means before 0 c.args.bytes.now calm)
+    (ap (λ p. places.scanned p 0 c.args.bytes.now) at ∙ sym c.moved.ensures)
+    (scan_means before 0 c.args.bytes.now calm)
