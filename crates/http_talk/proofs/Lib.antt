@@ -3,3 +3,4 @@ pub mod Scans
 pub mod Fronts
 pub mod Heads
 pub mod Feeding
+pub mod OneRequest

@@ -6,6 +6,7 @@ mod answer;
 mod ends;
 mod fed;
 mod head;
+mod laws;
 mod length;
 mod place;
 mod reader;
@@ -18,6 +19,7 @@ mod whole;
 
 pub use answer::{Answer, HeadBytes, answer_head};
 pub use fed::Fed;
+pub use laws::an_input_asks_for_one_thing;
 pub use reader::HeadReader;
 pub use refusal::{Allow, BodyFault, Refusal};
 pub use target::{Head, Target};
