@@ -1,7 +1,6 @@
 -- An input has one head, which asks for one thing.
-use Rattle.std.proofs.Common.{◌≡◌, ℕ, ◌+◌, ◌<◌, ◌≤◌, ◌⊎◌, true, false, List, [], length, take, drop, Result, refl, ap, sym, ◌∙◌, subst, arith, inl, inr}
+use Rattle.std.proofs.Common.{◌≡◌, ℕ, true, false, List, [], take, drop, Result, ap, sym, ◌∙◌, subst, arith, inl, inr}
 use Rattle.std.proofs.lemmas.Bool.{cases_lt}
-use Rattle.httparse.specs.Grammar.{RequestHead, ReadsRequest}
 use Rattle.httparse.proofs.GrammarLemmas.{request_unique}
 use Rattle.http_talk.specs.declared.target.Head.{Head}
 use Rattle.http_talk.specs.declared.refusal.Refusal.{Refusal}
@@ -15,10 +14,10 @@ not_both bytes holds fails = cc (holds, fails)
 one_length : (input : List ℕ) (a b : ℕ) → IsHeadLength input a → IsHeadLength input b → a ≡ b
 one_length input a b p q =
     elim (cases_lt a b) as (λ _. a ≡ b) [
-      inl less ↦ absurd (not_both (take a input) p.ends (q.shortest a less))
-    | inr more ↦ elim (cases_lt b a) as (λ _. a ≡ b) [
-        inl less ↦ absurd (not_both (take b input) q.ends (p.shortest b less))
-      | inr same ↦ omega arith
+      | inl less ↦ absurd (not_both (take a input) p.ends (q.shortest a less))
+      | inr more ↦ elim (cases_lt b a) as (λ _. a ≡ b) [
+        | inl less ↦ absurd (not_both (take b input) q.ends (p.shortest b less))
+        | inr same ↦ omega arith
       ]
     ]
 
@@ -49,5 +48,5 @@ one_request input a b (headed count answer head p) (too_long q r) = absurd (no_h
 one_request input a b (headed count answer head p) (headed other told tail r) =
     let same : count ≡ other = one_length input count other head.shortest tail.shortest in
     let answers : answer ≡ told =
-      one_answer (take other input) answer told (subst (λ n. IsAnswer (take n input) answer) same head.answers) tail.answers in
+    one_answer (take other input) answer told (subst (λ n. IsAnswer (take n input) answer) same head.answers) tail.answers in
     p ∙ (λ i. with_body (answers i) (drop (same i) input)) ∙ sym r
