@@ -97,8 +97,9 @@ asked_by head = asked head.method head.target (map name_and_value head.fields)
 abbrev pub IsNoHead : List ℕ → Type 0
 IsNoHead bytes = (head : RequestHead) → ¬ (ReadsRequest bytes head [])
 
--- what a head's bytes ask for: at most 64 lines stand between the request line and the empty line, which is tested first
+-- what a head's bytes ask for; that at most 64 lines stand between the request line and the empty line is tested first
 pub data IsAnswer (bytes : List ℕ) (answer : Result Head Refusal) : Type 0 where
   many_lines : 64 + 2 < line_count bytes → answer ≡ Err refusal.TooManyFields → IsAnswer bytes answer
   no_head : line_count bytes ≤ 64 + 2 → IsNoHead bytes → answer ≡ Err refusal.Head → IsAnswer bytes answer
-  asks : line_count bytes ≤ 64 + 2 → (head : RequestHead) → ReadsRequest bytes head [] → answer ≡ asked_by head → IsAnswer bytes answer
+  asks : line_count bytes ≤ 64 + 2 → (head : RequestHead) → ReadsRequest bytes head [] → answer ≡ asked_by head
+      → IsAnswer bytes answer

@@ -1,4 +1,4 @@
--- Where the head of a request ends (RFC 9112, sections 2.1 and 2.2). A line ends in LF, and an empty line is LF or CR LF.
+-- Where the head of a request ends (RFC 9112, sections 2.1 and 2.2). A line ends in LF; an empty line is LF or CR LF.
 use Rattle.std.specs.Prelude.{◌≡◌, ℕ, ◌<◌, ◌≤◌, Bool, true, false, ◌&&◌, ◌||◌, ◌==◌, if◌then◌else◌, List, [], ◌∷◌, length, take, reverse, count_by}
 
 -- the bytes begin with LF

@@ -38,7 +38,8 @@ after_return StartReturn = Inside
 
 -- the place behind a byte, where the head goes on
 abbrev pub after : Place → ℕ → Option Place
-after place byte = if byte == 10 then after_feed place else (if byte == 13 then Some (after_return place) else Some Inside)
+after place byte =
+    if byte == 10 then after_feed place else (if byte == 13 then Some (after_return place) else Some Inside)
 
 -- what bytes come to behind a place and so many bytes
 abbrev pub scanned : Place → ℕ → List ℕ → Scan
@@ -51,5 +52,6 @@ abbrev pub ScanMeans : List ℕ → ℕ → List ℕ → Scan → Type 0
 ScanMeans before count bytes (Open place) =
     ((front : ℕ) → ends_head (before ++ take front bytes) ≡ false) × (place_of (before ++ bytes) ≡ place)
 ScanMeans before count bytes (Ended end) =
-    (more : ℕ) × (end ≡ count + more) × (0 < more) × (more ≤ length bytes) × (ends_head (before ++ take more bytes) ≡ true)
+    (more : ℕ) × (end ≡ count + more) × (0 < more) × (more ≤ length bytes)
+    × (ends_head (before ++ take more bytes) ≡ true)
     × ((front : ℕ) → front < more → ends_head (before ++ take front bytes) ≡ false)

@@ -1,5 +1,5 @@
--- What a reader of heads keeps, and what it answers to a piece of the input: what the definition has for each input that
--- begins with the bytes so far.
+-- What a reader of heads keeps, and what it answers to a piece of the input: what the definition has for each input
+-- that begins with the bytes so far.
 use Rattle.std.specs.Prelude.{◌≡◌, ℕ, ◌+◌, ◌≤◌, List, [], ◌++◌, length, Result, Ok, Err}
 use Rattle.http_talk.specs.declared.place.Place.{Place}
 use Rattle.http_talk.specs.declared.fed.Fed.{Fed}
@@ -10,7 +10,7 @@ use Rattle.http_talk.specs.Ends.{IsOpen}
 use Rattle.http_talk.specs.Places.{place_of}
 use Rattle.http_talk.specs.Request.{IsHead, IsRefused}
 
--- the bytes held are no whole head and may become one, the place is the one behind them, and there is room for a whole head
+-- the bytes held are no whole head and may become one, the place is the one behind them, and a whole head has room
 pub record IsReader (held : List ℕ) (room : ℕ) (place : Place) : Type 0 where
   pub opens : IsOpen held
   pub place_is : place_of held ≡ place

@@ -39,7 +39,8 @@ fn asked(
     headers: &[HeaderSpan],
 ) -> Result<Head, Refusal>
     requires { All (IsHeaderWithin (length bytes.now)) headers.now }
-    ensures { result ≡ asked.asked method.now target.now (map (header_bytes bytes.now) headers.now) }
+    ensures { result
+        ≡ asked.asked method.now target.now (map (header_bytes bytes.now) headers.now) }
 {
     match target_of(method, target) {
         Ok(target) => with_fields(bytes, target, headers),

@@ -29,7 +29,8 @@ fn is_named(bytes: &[u8], header: &HeaderSpan, name: &[u8]) -> bool
 // Whether one of the header lines has the name.
 fn has_name(bytes: &[u8], headers: &[HeaderSpan], name: &[u8]) -> bool
     requires { All (IsHeaderWithin (length bytes.now)) headers.now }
-    ensures { result ≡ list_any (asked.is_named name.now) (map (header_bytes bytes.now) headers.now) }
+    ensures { result
+        ≡ list_any (asked.is_named name.now) (map (header_bytes bytes.now) headers.now) }
 {
     match headers.split_first() {
         Some((header, rest)) => is_named(bytes, header, name) || has_name(bytes, rest, name),
@@ -41,7 +42,8 @@ fn has_name(bytes: &[u8], headers: &[HeaderSpan], name: &[u8]) -> bool
 fn is_agreed(bytes: &[u8], headers: &[HeaderSpan], value: &[u8]) -> bool
     requires { All (IsHeaderWithin (length bytes.now)) headers.now }
     ensures { result
-        ≡ list_all (bytes_eq value.now) (asked.values_of CONTENT_LENGTH.now (map (header_bytes bytes.now) headers.now)) }
+        ≡ list_all (bytes_eq value.now)
+        (asked.values_of CONTENT_LENGTH.now (map (header_bytes bytes.now) headers.now)) }
 {
     match headers.split_first() {
         Some((header, rest)) => {
@@ -97,7 +99,9 @@ fn limited(digits: &[u8]) -> Result<u64, Refusal>
 // The length that the first of these header lines gives, where the others of that name agree.
 fn length_said(bytes: &[u8], headers: &[HeaderSpan]) -> Result<u64, Refusal>
     requires { All (IsHeaderWithin (length bytes.now)) headers.now }
-    ensures { result ≡ asked.length_said (asked.values_of CONTENT_LENGTH.now (map (header_bytes bytes.now) headers.now)) }
+    ensures { result
+        ≡ asked.length_said
+        (asked.values_of CONTENT_LENGTH.now (map (header_bytes bytes.now) headers.now)) }
 {
     let Some((header, rest)) = headers.split_first() else {
         return Err(Refusal::NeedLength);

@@ -56,7 +56,7 @@ fn keep(held: &mut Vec<u8>, bytes: &[u8])
 // What the bytes held ask for with those that end the head; none are held then.
 fn ended(held: &mut Vec<u8>, front: &[u8]) -> Result<Head, Refusal>
     requires room { vec_len held.old + length front.now ≤ vec_capacity held.old }
-    requires whole { IsHeadLength (held.old.items ++ front.now) (length (held.old.items ++ front.now)) }
+    requires whole { let head = held.old.items ++ front.now in IsHeadLength head (length head) }
     ensures answer { IsAnswer (held.old.items ++ front.now) result }
     ensures empty { held.new.items ≡ [] }
     ensures kept { vec_capacity held.old ≤ vec_capacity held.new }

@@ -8,7 +8,7 @@ pub enum Allow {
     Post,
 }
 
-/// Why the body of a request is neither a delivery nor a feed that is taken. Places are bytes from the body's first one.
+/// Why the body of a request is neither a delivery nor a feed that is taken. Places are bytes from its first one.
 #[derive(Clone, Copy, Debug, PartialEq, Eq)]
 pub enum BodyFault {
     /// The body is no JSON text.
