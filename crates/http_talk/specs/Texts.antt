@@ -1,0 +1,47 @@
+-- The texts of refusals: the status, the refusal's name, and its arguments, each behind a space, numbers in decimal.
+use Rattle.std.specs.Prelude.{ℕ, List, [], ◌∷◌, ◌++◌, codes, decimal}
+use Rattle.gw_base.specs.Member.{member_name}
+use Rattle.gw_base.specs.Required.{required_name}
+use Rattle.gw_base.specs.declared.wire_kind.WireKind.{WireKind}
+use Rattle.gw_base.specs.declared.wire_kind.WireKind.TheVariants.{Truncated, LongVarint, BadTag, BadGroup, DeepGroup}
+use Rattle.http_talk.specs.declared.refusal.BodyFault.{BodyFault}
+use Rattle.http_talk.specs.declared.refusal.BodyFault.TheVariants.{NotJson, NotDelivery, Wire, MissingField, NotText, EntityTooLong, Differential, TooManyCalls}
+use Rattle.http_talk.specs.declared.refusal.Refusal.{Refusal}
+use Rattle.http_talk.specs.declared.refusal.Refusal.TheVariants.{Head, Cut, Length, NotFound, Method, NeedLength, TooLarge, TooManyFields, Clock, Memory, Body}
+
+-- the name of a kind of break in protobuf's encoding
+abbrev pub kind_name : WireKind → List ℕ
+kind_name Truncated = codes "Truncated"
+kind_name LongVarint = codes "LongVarint"
+kind_name BadTag = codes "BadTag"
+kind_name BadGroup = codes "BadGroup"
+kind_name DeepGroup = codes "DeepGroup"
+
+-- the text of a body's fault
+abbrev pub fault_text : BodyFault → List ℕ
+fault_text NotJson = codes "NotJson"
+fault_text (NotDelivery member) = codes "NotDelivery " ++ member_name member
+fault_text (Wire at kind) = codes "Wire " ++ decimal at ++ codes " " ++ kind_name kind
+fault_text (MissingField at field) = codes "MissingField " ++ decimal at ++ codes " " ++ required_name field
+fault_text (NotText at) = codes "NotText " ++ decimal at
+fault_text (EntityTooLong at) = codes "EntityTooLong " ++ decimal at
+fault_text Differential = codes "Differential"
+fault_text (TooManyCalls count) = codes "TooManyCalls " ++ decimal count
+
+-- the text of a refusal, before its LF
+abbrev pub refusal_line : Refusal → List ℕ
+refusal_line Head = codes "H400 Head"
+refusal_line Cut = codes "H400 Cut"
+refusal_line Length = codes "H400 Length"
+refusal_line NotFound = codes "H404 NotFound"
+refusal_line (Method allow) = codes "H405 Method"
+refusal_line NeedLength = codes "H411 NeedLength"
+refusal_line TooLarge = codes "H413 TooLarge"
+refusal_line TooManyFields = codes "H431 TooManyFields"
+refusal_line Clock = codes "H500 Clock"
+refusal_line Memory = codes "H503 Memory"
+refusal_line (Body fault) = codes "H400 " ++ fault_text fault
+
+-- the body of a refusal's answer
+abbrev pub refusal_text : Refusal → List ℕ
+refusal_text refusal = refusal_line refusal ++ 10 ∷ []

@@ -1,0 +1,27 @@
+//! Request heads and answers of HTTP/1.1 (RFC 9112): what a connection's bytes ask for, which is `request` of
+//! `specs/Request.antt`, and the bytes of an answer, which are those of `specs/Answers.antt`.
+#![tactic(auto)]
+
+mod answer;
+mod ends;
+mod fed;
+mod head;
+mod laws;
+mod length;
+mod place;
+mod reader;
+mod refusal;
+mod target;
+#[cfg(test)]
+mod tests;
+mod texts;
+mod whole;
+
+pub use answer::{Answer, HeadBytes, answer_head};
+pub use fed::Fed;
+pub use laws::an_input_asks_for_one_thing;
+pub use reader::HeadReader;
+pub use refusal::{Allow, BodyFault, Refusal};
+pub use target::{Head, Target};
+pub use texts::{BodyFaultText, RefusalText, body_fault_text, refusal_text};
+pub use whole::{Asked, request_of};

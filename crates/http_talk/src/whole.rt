@@ -1,0 +1,76 @@
+//! The request of a whole input, read as its definition says it, front by front. It is slow on many empty lines, and
+//! serves to compare: a connection is read by `HeadReader`.
+ghost use Rattle.std.specs.Prelude.{◌≡◌, ◌≤◌, Ok, MatchOption};
+ghost use Rattle.http_talk.specs.Ends.{IsHeadLength, HasNoEnd};
+ghost use Rattle.http_talk.specs.Request.{IsRequest, Refused, with_body};
+ghost use Rattle.http_talk.specs.Whole.{told};
+
+use crate::ends::ends_head;
+use crate::head::answer_of;
+use crate::refusal::Refusal;
+use crate::target::{Head, Target};
+
+/// The most bytes that a head may have, with the empty lines at its front.
+const HEAD_LIMIT: usize = 16_384;
+
+/// A target that is asked for, with the body, which is empty for a GET.
+#[derive(Clone, Copy, Debug)]
+pub struct Asked<'a> {
+    pub target: Target,
+    pub body: &'a [u8],
+}
+
+// The length of the input's head.
+fn head_len(input: &[u8]) -> Option<usize>
+    ensures { MatchOption result (HasNoEnd input.now)
+        (λ count. IsHeadLength input.now count × (count ≤ 16384)) }
+{
+    for count in 0..HEAD_LIMIT.min(input.len()) + 1 {
+        let (front, _) = input.split_at(count);
+        if ends_head(front) {
+            return Some(count);
+        }
+    }
+    None
+}
+
+/// What is asked, with the body, where the head is followed by the rest.
+pub(crate) fn with_rest<'a>(head: Head, rest: &'a [u8]) -> Result<Asked<'a>, Refusal>
+    ensures { told result ≡ with_body (Ok head) rest.now }
+{
+    let target = head.target;
+    if !target.is_post() {
+        return Ok(Asked { target, body: b"" });
+    }
+    if head.length > rest.len() as u64 {
+        return Err(Refusal::Cut);
+    }
+    let (body, _) = rest.split_at(head.length as usize);
+    Ok(Asked { target, body })
+}
+
+/// What a connection's whole input asks for (RFC 9112). Takes no memory.
+pub fn request_of<'a>(input: &'a [u8]) -> Result<Asked<'a>, Refusal>
+    ensures { IsRequest input.now (told result) }
+{
+    let Some(count) = head_len(input) else {
+        return Err(no_head(input));
+    };
+    let (head, rest) = input.split_at(count);
+    match answer_of(head) {
+        Ok(head) => with_rest(head, rest),
+        Err(why) => Err(why),
+    }
+}
+
+// The refusal of an input without a head.
+fn no_head(input: &[u8]) -> Refusal
+    requires { HasNoEnd input.now }
+    ensures { IsRequest input.now (Refused result) }
+{
+    if input.len() < HEAD_LIMIT {
+        Refusal::Head
+    } else {
+        Refusal::TooManyFields
+    }
+}
