@@ -1,7 +1,38 @@
-//! The words of the command line as texts.
+//! The words of the command line as texts, and what `--help` says of them.
 use gw_base::Text;
 use std::alloc::{AllocError, Global};
 use std::env::{Env, FillError};
+
+/// What `--help` prints. The launcher shows it from here before the program is proved.
+pub const USAGE: &str = "\
+usage: gateway to-gtfsrt SCHEDULE --at MOMENT [--et FILE | --sx FILE]...
+       gateway to-siri   SCHEDULE --at MOMENT --feed FILE
+       gateway show      SCHEDULE --feed FILE
+       gateway --help | --version
+
+SCHEDULE  --gtfs DIR ZONE --from DAY --days N: a GTFS Schedule folder, its zone,
+          the first service day, and how many service days, from 1 to 32
+ZONE      --zone-rule RULE, a POSIX rule, or --zone-file FILE, a TZif file
+MOMENT    when the result is made, in UTC
+FILE      a delivery in JSON (--et, --sx), or a feed in protobuf (--feed)
+
+to-gtfsrt makes a GTFS Realtime feed of SIRI timetables and situations:
+  ./gateway to-gtfsrt --gtfs examples/sample \\
+    --zone-rule CET-1CEST,M3.5.0,M10.5.0/3 --from 2024-05-01 --days 2 \\
+    --at 2024-05-01T06:00:00Z --et examples/late.json > late.pb
+to-siri makes a SIRI delivery with every call of the journeys of a feed:
+  ./gateway to-siri --gtfs examples/sample \\
+    --zone-rule CET-1CEST,M3.5.0,M10.5.0/3 --from 2024-05-01 --days 2 \\
+    --at 2024-05-01T06:00:00Z --feed examples/late.pb > late.json
+show prints how each stop of the journeys of a feed reads:
+  ./gateway show --gtfs examples/sample \\
+    --zone-rule CET-1CEST,M3.5.0,M10.5.0/3 --from 2024-05-01 --days 2 \\
+    --feed examples/late.pb
+
+Standard output gets the result, standard error a report on each file or why
+there is no result; of show, the report ends the result. Statuses: 0 done,
+2 bad words, 65 bad input, 66 a missing file, 71 no memory, 74 a failed device.
+";
 
 // The most bytes of a word, which Linux takes no longer.
 const MOST_BYTES: usize = 131_072;

@@ -15,35 +15,10 @@ mod top;
 mod words;
 mod work;
 
-use command_line::words_of;
+use command_line::{USAGE, words_of};
 use devices::{DirFiles, StdSink};
 use gw_base::{NoClock, NoDoor};
 use std::process::ExitCode;
-
-const USAGE: &str = "\
-usage: gateway to-gtfsrt --gtfs DIR ZONE --from DAY --days N --at MOMENT
-                         [--et FILE | --sx FILE]...
-       gateway to-siri   --gtfs DIR ZONE --from DAY --days N --at MOMENT
-                         --feed FILE
-       gateway show      --gtfs DIR ZONE --from DAY --days N --feed FILE
-       gateway --help | --version
-
-to-gtfsrt  makes a GTFS Realtime feed of SIRI deliveries: estimated timetables
-           (--et) and situations (--sx)
-to-siri    makes a SIRI delivery with every call of the journeys of a feed
-show       prints how each stop of the journeys of a feed reads
-
-DIR        a GTFS Schedule folder
-ZONE       its time zone: --zone-file FILE, a TZif file, or --zone-rule RULE, a
-           POSIX rule such as 'CET-1CEST,M3.5.0,M10.5.0/3'
-DAY, N     the first service day, as 2024-05-01, and the number of days: 1 to 32
-MOMENT     when the result is made, in UTC, as 2024-05-01T06:00:00Z
-FILE       a delivery in JSON (--et, --sx), or a feed in protobuf (--feed)
-
-Standard output gets the result, and standard error a report on each file or why
-there is no result; of show, the report ends the result. Statuses: 0 done,
-2 bad words, 65 bad input, 66 a missing file, 71 no memory, 74 a failed device.
-";
 
 const VERSION: &str = concat!("gateway ", "0.1.0", "\n");
 
