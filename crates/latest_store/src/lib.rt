@@ -7,5 +7,5 @@ mod preparing;
 mod tests;
 mod winning;
 
-pub use preparing::record_entity;
+pub use preparing::{Prepared, prepare_record, record_entity};
 pub use winning::wins;

@@ -75,6 +75,15 @@ fn entity_of(
     entity_bytes(alloc, &entity)
 }
 
+/// A record with the bytes of its entity.
+#[derive(Debug, Drop)]
+pub struct Prepared {
+    /// The record.
+    pub rec: JourneyRecord,
+    /// Its entity's bytes; none where nothing is known of any stop.
+    pub entity: Bytes,
+}
+
 /// The bytes of a record's entity as a field of a feed (GTFS Realtime, FeedEntity): they mean an entity that a reader
 /// over the same timetable, zone and window takes for just this journey with just this reading; there are none exactly
 /// where nothing is known of any stop.
@@ -93,4 +102,21 @@ pub fn record_entity(
         unreachable!();
     };
     entity_of(alloc, context, &dated, rec)
+}
+
+/// A record with the bytes of its entity, which are those that `record_entity` answers.
+pub fn prepare_record(
+    alloc: Global,
+    context: &Context<'_>,
+    rec: JourneyRecord,
+) -> Result<Prepared, AllocError>
+    requires { IsServable (schedule_of context.now) rec.trip.0 rec.day rec.reading }
+    ensures rec { IfOk result (λ made. made.rec ≡ rec) }
+    ensures bytes { IfOk result (λ made. made.entity ≡ spec.entity (schedule_of context.now) (recorded rec)) }
+    ensures means { IfOk result (λ made. (before : List ℕ) (feed : Feed) → MeansFeed before feed
+        → MeansFeed (before ++ made.entity) (with_messages feed (spec.messages (schedule_of context.now) (recorded rec)))) }
+    ensures says { IfOk result (λ _. SaysItself (schedule_of context.now) (recorded rec)) }
+{
+    let entity = record_entity(alloc, context, &rec)?;
+    Ok(Prepared { rec, entity })
 }

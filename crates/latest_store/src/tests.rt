@@ -1,5 +1,5 @@
 //! The record of a cancelled journey over a small folder, and which of two records counts.
-use crate::{record_entity, wins};
+use crate::{prepare_record, record_entity, wins};
 use gw_base::{Bytes, List, MemoryFiles, Text};
 use journey_model::{Context, JourneyReading, JourneyRecord};
 use service_day::{DayForm, Instant, Window, Zone, read_day};
@@ -60,7 +60,12 @@ fn cancelled(alloc: Global, context: &Context<'_>, day: &str) -> Option<Bytes> {
         },
         reading: JourneyReading::Cancelled,
     };
-    record_entity(alloc, context, &rec).ok()
+    let entity = record_entity(alloc, context, &rec).ok()?;
+    let made = prepare_record(alloc, context, rec).ok()?;
+    if made.entity.as_slice() != entity.as_slice() {
+        return None;
+    }
+    Some(made.entity)
 }
 
 // A window of two days from 2024-05-01 on.
