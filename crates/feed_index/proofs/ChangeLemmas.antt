@@ -1,6 +1,7 @@
 -- The rows of an index and its pool after a row came, took another one's place, or went.
 use Rattle.std.proofs.Common.{◌≡◌, ◌∙◌, ◌++◌, ◌∷◌, [], ◌+◌, ◌-◌, ◌<◌, ◌≤◌, ℕ, zero, suc, List, map, length, take, drop, set, get_or, Option, Some, None, option_map, IsSome, unwrap_or, sym, ap, refl, subst, arith, append_assoc}
-use Rattle.std.proofs.lemmas.List.{length-map, set_split, take-append-drop, take-map, drop-map}
+use Rattle.std.proofs.lemmas.List.{append-nil, drop_all, length-drop, length-map, length-take-le, set_split, take-append-drop, take-take, take-map, drop-map}
+use Rattle.std.proofs.lemmas.List.Edits.{remove-append_right}
 use Rattle.std.specs.Prelude.{insert, remove, slice_get}
 use Rattle.span_pool.specs.Spans.{bytes_of, without, live_bytes}
 use Rattle.feed_index.specs.declared.entry.Entry.{Entry}
@@ -104,3 +105,15 @@ module _ {K R : Type 0} where
   value_is [] at old within is_old = absurd (omega arith)
   value_is (row ∷ rows) zero old within is_old = ap (λ (one : Row K R). Some one.value) (sym is_old)
   value_is (row ∷ rows) (suc at) old within is_old = value_is rows at old (omega arith) is_old
+
+-- the last of the rows that go
+pub cut_more : {X : Type 0} (xs : List X) (n i : ℕ) → i < n → n ≤ length xs → remove (drop n xs ++ take (n - i) xs) (length xs - i - 1) ≡ drop n xs ++ take (n - (i + 1)) xs
+cut_more xs n i lt le =
+    let k = n - (i + 1) in
+    let first : length (drop n xs) ≡ length xs - n = length-drop n xs in
+    let right : length xs - n ≤ length xs - i - 1 = omega arith in
+    let place : length xs - i - 1 - (length xs - n) ≡ k = omega arith in
+    let more : n - i ≡ suc k = omega arith in
+    let short : length (take (suc k) xs) ≤ suc k = omega (arith, length-take-le (suc k) xs (omega arith)) in
+    remove-append_right (drop n xs) (take (n - i) xs) (length xs - n) (length xs - i - 1) first right
+    ∙ rw (place, more, take-take k (suc k) xs (omega arith), drop_all (suc k) (take (suc k) xs) short) (ap (λ (ys : List _). drop n xs ++ ys) (append-nil (take k xs)))

@@ -8,7 +8,7 @@ use Rattle.std.specs.Prelude.{◌==◌, is_some, count_by, sum_by, IsPermutation
 use Rattle.span_pool.specs.Spans.{bytes_of, without, live_bytes}
 use Rattle.feed_index.specs.declared.entry.Entry.{Entry}
 use Rattle.feed_index.specs.declared.row.Row.{Row}
-use Rattle.feed_index.specs.Entries.{total}
+use Rattle.feed_index.specs.Entries.{AreSpansOf, total}
 use Rattle.feed_index.specs.Rows.{AreHeld, entries_of, entry_of, lives}
 use Rattle.feed_index.proofs.SpanLemmas.{added_new, added_other, lives-added, lives-without, same_number, without_gone, without_other}
 use borrow.Author.Tests.{eqb-true, eqb-false}
@@ -141,4 +141,25 @@ module _ {K R : Type 0} where
   held_moved rows moved spans moves held = record {
     once = λ slot. sum_by-IsPermutation (λ (row : Row K R). cond (row.slot == slot) 1 0) rows moved moves ∙ held.once slot;
     total_is = held.total_is ∙ sym (sum_by-IsPermutation (λ (one : Entry K R). length one.bytes) (entries_of spans rows) (entries_of spans moved) (IsPermutation-map (entry_of spans) rows moved moves));
+  }
+
+  -- the spans of rows are those of their entries
+  pub slots_shown : (spans : List (ℕ × List ℕ)) (rows : List (Row K R)) → ((slot : ℕ) → 1 ≤ count rows slot → (bytes : List ℕ) × (bytes_of spans slot ≡ Some bytes)) →
+      map (bytes_of spans) (map (λ (row : Row K R). row.slot) rows) ≡ map (λ (one : Entry K R). Some one.bytes) (entries_of spans rows)
+  slots_shown spans [] live = refl
+  slots_shown spans (row ∷ rows) live =
+      let here = live row.slot (omega (arith, count-own row rows)) in
+      rw (here.1, slots_shown spans rows (λ slot h. live slot (omega (arith, count-cons row rows slot)))) refl
+
+  slots_count : (rows : List (Row K R)) (slot : ℕ) → count_by (λ (each : ℕ). each == slot) (map (λ (row : Row K R). row.slot) rows) ≡ count rows slot
+  slots_count [] slot = refl
+  slots_count (row ∷ rows) slot =
+      let rest = slots_count rows slot in
+      omega (arith, count-cons row rows slot, sum_by-cons (λ (each : ℕ). cond (each == slot) 1 0) row.slot (map (λ (one : Row K R). one.slot) rows))
+
+  pub spans_of_entries : (rows : List (Row K R)) (spans : List (ℕ × List ℕ)) → AreHeld rows spans → AreSpansOf spans (entries_of spans rows)
+  spans_of_entries rows spans held = record {
+    slots = map (λ (row : Row K R). row.slot) rows;
+    bytes = slots_shown spans rows (live_from_count rows spans held);
+    once = λ slot. slots_count rows slot ∙ held.once slot;
   }

@@ -6,3 +6,4 @@ pub mod OrderLemmas
 pub mod RisingLemmas
 pub mod SpanLemmas
 pub mod SetLemmas
+pub mod WriteLemmas

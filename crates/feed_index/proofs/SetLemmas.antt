@@ -8,13 +8,14 @@ use Rattle.std.specs.List.Sorted.{IsStrictlySortedBy}
 use Rattle.std.specs.Ordering.{is_lt, is_gt, is_eq}
 use Rattle.std.specs.declared.cmp.Ordering.{Ordering}
 use Rattle.std.specs.declared.cmp.Ordering.TheVariants.{Equal}
+use Rattle.span_pool.specs.Spans.{bytes_of}
 use Rattle.feed_index.specs.declared.entry.Entry.{Entry}
 use Rattle.feed_index.specs.declared.row.Row.{Row}
-use Rattle.feed_index.specs.Entries.{Rising, entry_at, put, removed, value_at}
+use Rattle.feed_index.specs.Entries.{Rising, entry_at, bytes_at, put, removed, value_at}
 use Rattle.feed_index.specs.Order.{above, below}
 use Rattle.feed_index.specs.Rows.{AreSorted, IsGapAt, StandsAt, entries_of, entry_of}
 use Rattle.feed_index.proofs.MapLemmas.{filter-map, find-map}
-use Rattle.feed_index.proofs.RisingLemmas.{find_at, find_gap, rising_one, rising_without, split_at}
+use Rattle.feed_index.proofs.RisingLemmas.{find_at, find_gap, rising_drop, rising_one, rising_without, split_at}
 
 module _ {X Y : Type 0} (show : X → Y) where
   each_shown : (P : Y → Type 0) (xs : List X) → AllByRecursion (λ x. P (show x)) xs → AllByRecursion P (map show xs)
@@ -107,6 +108,24 @@ module _ {K R : Type 0} {cmp : K → K → Ordering} (o : IsTotalOrder cmp) wher
       let P : List (Entry K R) → Type 0 = λ all. Rising cmp all in
       sorted_rows now new (subst P (sym e) (rising_without (λ (each : Entry K R). each.key) o key (entries_of spans rows) (rising_entries spans rows h)))
 
-  pub sorted_none : AreSorted {K = K} {R = R} cmp []
-  unfolding IsStrictlySortedBy
-  sorted_none = tt
+  read : (rows : List (Row K R)) (at : ℕ) → at < length rows → (row : Row K R) → row ≡ get_or rows at row → slice_get rows at ≡ Some row
+  read [] at h row e = absurd (omega arith)
+  read (first ∷ rows) zero h row e = ap Some (sym e)
+  read (first ∷ rows) (suc at) h row e = read rows at (omega arith) row e
+
+  pub bytes_found : (spans : List (ℕ × List ℕ)) (rows : List (Row K R)) (key : K) (at : ℕ) (row : Row K R) (bytes : List ℕ) → AreSorted cmp rows → StandsAt cmp rows key at →
+      row ≡ get_or rows at row → bytes_of spans row.slot ≡ Some bytes → Some bytes ≡ bytes_at cmp (entries_of spans rows) key
+  bytes_found spans rows key at row bytes sorted h is_row held =
+      sym (ap (option_map (λ (one : Entry K R). one.bytes)) (entry_found spans rows key at sorted h) ∙ rw (read rows at h.within row is_row, held) refl)
+
+  pub bytes_gap : (spans : List (ℕ × List ℕ)) (rows : List (Row K R)) (key : K) (at : ℕ) → IsGapAt cmp rows key at → bytes_at cmp (entries_of spans rows) key ≡ None
+  bytes_gap spans rows key at h = ap (option_map (λ (one : Entry K R). one.bytes)) (entry_gap spans rows key at h)
+
+  pub sorted_cut : (spans now : List (ℕ × List ℕ)) (rows new : List (Row K R)) (n : ℕ) → AreSorted cmp rows → entries_of now new ≡ drop n (entries_of spans rows) → AreSorted cmp new
+  sorted_cut spans now rows new n h e =
+      let P : List (Entry K R) → Type 0 = λ all. Rising cmp all in
+      sorted_rows now new (subst P (sym e) (rising_drop (λ (each : Entry K R). each.key) o n (entries_of spans rows) (rising_entries spans rows h)))
+
+pub sorted_none : (K R : Type 0) (cmp : K → K → Ordering) → AreSorted {K = K} {R = R} cmp []
+unfolding IsStrictlySortedBy
+sorted_none K R cmp = tt

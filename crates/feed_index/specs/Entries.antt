@@ -35,12 +35,15 @@ module _ {K R : Type 0} where
     abbrev pub removed : List (Entry K R) → K → List (Entry K R)
     removed entries key = below (λ each. each.key) cmp key entries ++ above (λ each. each.key) cmp key entries
 
-    -- the entry of a key, if it has one, and its value
+    -- the entry of a key, if it has one, its value and its bytes
     abbrev pub entry_at : List (Entry K R) → K → Option (Entry K R)
     entry_at entries key = find (λ one. is_eq (cmp one.key key)) entries
 
     abbrev pub value_at : List (Entry K R) → K → Option R
     value_at entries key = option_map (λ one. one.value) (entry_at entries key)
+
+    abbrev pub bytes_at : List (Entry K R) → K → Option (List ℕ)
+    bytes_at entries key = option_map (λ one. one.bytes) (entry_at entries key)
 
 -- how many bytes may be dead beside so many that live
 abbrev pub most_dead : ℕ → ℕ

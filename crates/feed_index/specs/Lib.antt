@@ -1,3 +1,4 @@
+pub mod Chosen
 pub mod Entries
 pub mod Order
 pub mod Rows

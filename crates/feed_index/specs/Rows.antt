@@ -52,5 +52,6 @@ module _ {K R : Type 0} where
       pub high : above (λ row. row.key) cmp key rows ≡ drop at rows
 
 -- the bytes that were given back between two moments, when so many were put, are dead
-abbrev pub GaveBack : Spans → ℕ → Spans → Type 0
-GaveBack before added now = now.dead ≡ before.dead + (live_bytes before.spans + added - live_bytes now.spans)
+pub record GaveBack (before : Spans) (added : ℕ) (now : Spans) : Type 0 where
+  pub never_falls : before.dead ≤ now.dead
+  pub sums : now.dead + live_bytes now.spans ≡ before.dead + live_bytes before.spans + added

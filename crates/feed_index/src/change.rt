@@ -1,5 +1,5 @@
 //! How a row comes, takes the place of another one, or goes, together with its span.
-ghost use Rattle.std.specs.Prelude.{◌≡◌, ◌+◌, ◌-◌, ◌<◌, ◌≤◌, length, insert, remove, slice_set, slice_get, Some, vec_len, vec_capacity, option_map, map};
+ghost use Rattle.std.specs.Prelude.{◌≡◌, ◌+◌, ◌-◌, ◌<◌, ◌≤◌, length, insert, remove, slice_set, slice_get, Some, vec_len, vec_capacity, option_map, map, drop};
 ghost use Rattle.span_pool.specs.Spans.{live_bytes};
 ghost use Rattle.feed_index.specs.Entries.{most_dead, settled};
 ghost use Rattle.feed_index.specs.Rows.{AreHeld, entries_of, GaveBack};
@@ -90,6 +90,25 @@ pub fn take_out<K: Drop, R>(rows: &mut Vec<Row<K, R>>, pool: &mut SpanPool, at: 
     } = rows.remove(at);
     pool.give_back(slot);
     value
+}
+
+/// Takes the first so many rows out.
+pub fn cut<K: Drop, R: Drop>(rows: &mut Vec<Row<K, R>>, pool: &mut SpanPool, n: usize)
+    requires within { n ≤ vec_len rows.old }
+    requires held { AreHeld rows.old.items pool.old.spans }
+    ensures held { AreHeld rows.new.items pool.new.spans }
+    ensures entries { entries_of pool.new.spans rows.new.items ≡ drop n (entries_of pool.old.spans rows.old.items) }
+    ensures len { vec_len rows.new + n ≡ vec_len rows.old }
+    ensures capacity { vec_capacity rows.new ≡ vec_capacity rows.old }
+    ensures dead { GaveBack pool.old 0 pool.new }
+    ensures spare_bytes { pool.old.spare_bytes ≤ pool.new.spare_bytes }
+    ensures spare_spans { pool.old.spare_spans ≤ pool.new.spare_spans }
+{
+    let len = rows.len();
+    rows.rotate_left(n);
+    for i in 0..n {
+        let _value = take_out(rows, pool, len - i - 1);
+    }
 }
 
 /// Makes room of the dead bytes where they are too many. Takes no memory.

@@ -1,12 +1,17 @@
 //! The index.
-ghost use Rattle.std.specs.Prelude.{◌≡◌, ◌+◌, ◌-◌, ◌<◌, ◌≤◌, ◌==◌, [], Some, None, length, drop, take, slice_get, option_map, OnOk, OnErr, IsOk};
+ghost use Rattle.std.specs.Prelude.{◌≡◌, ◌+◌, ◌-◌, ◌<◌, ◌≤◌, ◌==◌, [], Some, None, length, drop, take, slice_get, option_map, OnOk, IsErr, IsOk};
+ghost use Rattle.gw_base.specs.Count.{Counts, Rose};
+ghost use Rattle.gw_base.specs.Told.{PutsUnless, with_bytes};
 ghost use Rattle.span_pool.specs.Spans.{live_bytes};
-ghost use Rattle.feed_index.specs.Entries.{AreSpansOf, Rising, dead_after, entry_at, most_dead, put, removed, total, value_at};
+ghost use Rattle.feed_index.specs.Chosen.{chosen};
+ghost use Rattle.feed_index.specs.Entries.{AreSpansOf, Rising, bytes_at, dead_after, most_dead, put, removed, total, value_at};
 
-use crate::change::settle;
+use crate::change::{cut, settle};
 use crate::place::place;
 use crate::row::Row;
 use crate::set::{set, unset};
+use crate::write::{Choice, write_rows};
+use gw_base::{Failed, Sink};
 use span_pool::SpanPool;
 use std::alloc::{AllocError, Global};
 use std::marker::Model;
@@ -90,7 +95,8 @@ impl<K: Ord, R> FeedIndex<K, R> {
 
     /// The value and the bytes of a key, if it has an entry.
     pub fn find(&self, key: &K) -> Option<(&R, &[u8])>
-        ensures entry { option_map (λ found. (found.0.now, found.1.now)) result ≡ option_map (λ one. (one.value, one.bytes)) (entry_at K.cmp self.now.entries key.now) }
+        ensures value { option_map (λ found. found.0.now) result ≡ value_at K.cmp self.now.entries key.now }
+        ensures bytes { option_map (λ found. found.1.now) result ≡ bytes_at K.cmp self.now.entries key.now }
     {
         match place(&self.rows, key) {
             Ok(at) => {
@@ -127,6 +133,19 @@ impl<K: Ord, R> FeedIndex<K, R> {
     }
 }
 
+impl<K: Ord, R> FeedIndex<K, R> {
+    /// Writes the bytes of the entries whose value passes, in the order of the keys, in large pieces. After a failure a
+    /// front of them is written. Takes no memory.
+    pub fn write<C: Choice<R>, S: Sink>(&self, choice: &C, sink: &mut S) -> Result<(), Failed>
+        ensures all { OnOk result (S.told sink.new ≡ with_bytes (S.told sink.old) (chosen (C.test choice.now) self.now.entries)) }
+        ensures front { PutsUnless (Rose (S.faults sink.old) (S.faults sink.new)) (S.told sink.old) (S.told sink.new) (chosen (C.test choice.now) self.now.entries) }
+        ensures counts { Counts (IsErr result) (S.faults sink.old) (S.faults sink.new) }
+        ensures others { S.beside sink.new ≡ S.beside sink.old }
+    {
+        write_rows(&self.rows, &self.pool, choice, sink)
+    }
+}
+
 impl<K: Ord + Drop, R> FeedIndex<K, R> {
     /// Sets the entry of a key, and answers the value that the key had. Takes no memory.
     pub fn put(&mut self, key: K, value: R, bytes: &[u8]) -> Option<R>
@@ -157,5 +176,20 @@ impl<K: Ord + Drop, R> FeedIndex<K, R> {
         let old = unset(&mut self.rows, &mut self.pool, key);
         settle(&mut self.pool);
         old
+    }
+}
+
+impl<K: Ord + Drop, R: Drop> FeedIndex<K, R> {
+    /// Takes the first so many entries out. Takes no memory.
+    pub fn cut_front(&mut self, n: u64)
+        requires within { n ≤ length self.old.entries }
+        ensures entries { self.new.entries ≡ drop n self.old.entries }
+        ensures dead { self.new.dead ≡ dead_after self.old 0 self.new.entries }
+        ensures bounded { self.new.dead ≤ most_dead (total self.new.entries) }
+        ensures spare_entries { self.old.spare_entries ≤ self.new.spare_entries }
+        ensures spare_bytes { self.old.spare_bytes ≤ self.new.spare_bytes }
+    {
+        cut(&mut self.rows, &mut self.pool, n as usize);
+        settle(&mut self.pool);
     }
 }

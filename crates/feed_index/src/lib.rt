@@ -8,6 +8,8 @@ mod index;
 mod place;
 mod row;
 mod set;
+mod write;
 
 pub use entry::Entry;
 pub use index::FeedIndex;
+pub use write::Choice;
