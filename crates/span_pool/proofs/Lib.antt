@@ -1,0 +1,5 @@
+pub mod OrderLemmas
+pub mod PackLemmas
+pub mod PlaceLemmas
+pub mod RegionLemmas
+pub mod SpanLemmas
