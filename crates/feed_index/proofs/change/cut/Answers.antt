@@ -1,6 +1,7 @@
-use Rattle.std.proofs.Common.{◌≡◌, ◌∙◌, ◌<◌, ◌≤◌, ◌+◌, ◌-◌, ap, refl, sym, length, take, drop, arith}
-use Rattle.std.proofs.lemmas.List.{length-map, take-map, drop-map}
-use Rattle.std.specs.Prelude.{remove}
+use Rattle.std.proofs.Common.{◌≡◌, ◌∙◌, ◌<◌, ◌≤◌, ◌+◌, ◌-◌, ◌++◌, ap, refl, sym, length, take, drop, arith}
+use Rattle.std.proofs.lemmas.List.{length-map, take-append-drop, take-map, drop-map}
+use Rattle.std.proofs.lemmas.List.Sorted.{IsPermutation-append_comm}
+use Rattle.std.specs.Prelude.{IsPermutation, remove}
 use Rattle.feed_index.specs.Rows.{entries_of, entry_of}
 use Rattle.feed_index.proofs.ChangeLemmas.{cut_more}
 use Rattle.feed_index.proofs.HeldLemmas.{entries-append, held_moved}
@@ -10,10 +11,12 @@ pub loop-i-init : goal.loop-i-init
 loop-i-init g c =
     let rows = c.args.rows.now.items in
     let spans = c.args.pool.now.spans in
+    let turned : IsPermutation (take c.args.n rows ++ drop c.args.n rows) (drop c.args.n rows ++ take c.args.n rows) = IsPermutation-append_comm (take c.args.n rows) (drop c.args.n rows) in
+    let moved : IsPermutation rows c.rotate_left.new.self.items = rw c.rotate_left.ensures.items (rw take-append-drop at turned) in
     let all : c.args.n - 0 ≡ c.args.n = omega arith in
     record {
-      held = held_moved rows c.rotate_left.new.self.items spans c.rotate_left.ensures.permutation c.requires.held;
-      entries = ap (entries_of spans) c.rotate_left.ensures.after ∙ entries-append spans (drop c.args.n rows) (take c.args.n rows)
+      held = held_moved rows c.rotate_left.new.self.items spans moved c.requires.held;
+      entries = ap (entries_of spans) c.rotate_left.ensures.items ∙ entries-append spans (drop c.args.n rows) (take c.args.n rows)
           ∙ rw (all, take-map (entry_of spans) c.args.n rows, drop-map (entry_of spans) c.args.n rows) refl;
       len = omega arith;
       capacity = c.rotate_left.ensures.capacity;
@@ -27,7 +30,7 @@ pub loop-i-preserved : goal.loop-i-preserved
 loop-i-preserved g c =
     let entries = entries_of c.args.pool.now.spans c.args.rows.now.items in
     let long : length entries ≡ length c.args.rows.now.items = length-map c.args.rows.now.items (entry_of c.args.pool.now.spans) in
-    let len : c.len.result ≡ length entries = omega arith in
+    let len : c.len-len.result ≡ length entries = omega arith in
     let within : c.args.n ≤ length entries = omega arith in
     let lt : c.loop-i.i < c.args.n = omega arith in
     record {
