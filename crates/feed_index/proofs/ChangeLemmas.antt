@@ -93,7 +93,7 @@ module _ {K R : Type 0} where
             ap (entries_of now) whole
             ∙ entries-append now (take at rows ++ row ∷ []) (drop (suc at) rows)
             ∙ rw (one.front, one.back, entries-append mid (take at rows) (row ∷ []), two.front, two.back, two.own)
-                (append_assoc (take at (entries_of spans rows)) (new ∷ []) (drop (suc at) (entries_of spans rows)) ∙ sym (set_split (entries_of spans rows) at new longer));
+            (append_assoc (take at (entries_of spans rows)) (new ∷ []) (drop (suc at) (entries_of spans rows)) ∙ sym (set_split (entries_of spans rows) at new longer));
       }
 
   pub is_live_then : (rows : List (Row K R)) (spans mid : List (ℕ × List ℕ)) (at : ℕ) (old row : Row K R) (bytes : List ℕ) →

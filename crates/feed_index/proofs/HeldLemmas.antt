@@ -41,8 +41,10 @@ module _ {K R : Type 0} where
   pub same_entries : (spans now : List (ℕ × List ℕ)) (rows : List (Row K R)) → ((slot : ℕ) → 1 ≤ count rows slot → bytes_of now slot ≡ bytes_of spans slot) → entries_of now rows ≡ entries_of spans rows
   same_entries spans now [] same = refl
   same_entries spans now (row ∷ rows) same =
-      rw (same row.slot (omega (arith, count-own row rows)),
-          same_entries spans now rows (λ slot h. same slot (omega (arith, count-cons row rows slot)))) refl
+      rw (
+        same row.slot (omega (arith, count-own row rows)),
+        same_entries spans now rows (λ slot h. same slot (omega (arith, count-cons row rows slot))),
+      ) refl
 
   -- a slot of a row has a live span
   pub live_from_count : (rows : List (Row K R)) (spans : List (ℕ × List ℕ)) → AreHeld rows spans → (slot : ℕ) → 1 ≤ count rows slot → (bytes : List ℕ) × (bytes_of spans slot ≡ Some bytes)
@@ -67,8 +69,8 @@ module _ {K R : Type 0} where
       Added before row behind spans now bytes
   added before row behind spans now bytes held none is more =
       let kept : (slot : ℕ) → 1 ≤ count (before ++ behind) slot → bytes_of now slot ≡ bytes_of spans slot = λ slot h.
-          let live = live_from_count (before ++ behind) spans held slot h in
-          rw is (added_other spans row.slot bytes slot live.0 live.1 ∙ sym live.1) in
+      let live = live_from_count (before ++ behind) spans held slot h in
+      rw is (added_other spans row.slot bytes slot live.0 live.1 ∙ sym live.1) in
       let front = same_entries spans now before (λ slot h. kept slot (omega (arith, count-append before behind slot))) in
       let back = same_entries spans now behind (λ slot h. kept slot (omega (arith, count-append before behind slot))) in
       let own : bytes_of now row.slot ≡ Some bytes = rw is (added_new spans row.slot bytes none) in
@@ -109,9 +111,9 @@ module _ {K R : Type 0} where
   gone before row behind spans now held is less =
       let own = own_is_live before row behind spans held in
       let each : (slot : ℕ) → count (before ++ behind) slot ≡ lives now slot = λ slot.
-          let was : count (before ++ row ∷ behind) slot ≡ lives spans slot = held.once slot in
-          let one : lives spans slot ≡ lives now slot + cond (row.slot == slot) 1 0 = rw is (lives-without spans row.slot own slot) in
-          omega (arith, count-round before row behind slot) in
+      let was : count (before ++ row ∷ behind) slot ≡ lives spans slot = held.once slot in
+      let one : lives spans slot ≡ lives now slot + cond (row.slot == slot) 1 0 = rw is (lives-without spans row.slot own slot) in
+      omega (arith, count-round before row behind slot) in
       let kept : (slot : ℕ) → 1 ≤ count (before ++ behind) slot → bytes_of now slot ≡ bytes_of spans slot = λ slot h. stays slot (row.slot == slot) refl (each slot) h in
       let front = same_entries spans now before (λ slot h. kept slot (omega (arith, count-append before behind slot))) in
       let back = same_entries spans now behind (λ slot h. kept slot (omega (arith, count-append before behind slot))) in

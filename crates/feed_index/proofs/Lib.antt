@@ -7,3 +7,8 @@ pub mod RisingLemmas
 pub mod SpanLemmas
 pub mod SetLemmas
 pub mod WriteLemmas
+pub mod RunLemmas
+pub mod StageLemmas
+pub mod TurnLemmas
+pub mod TakeLemmas
+pub mod StepLemmas

@@ -27,7 +27,7 @@ module _ {X Y : Type 0} (show : X → Y) where
     pub one-map : (xs : List X) (x : X) → with_one key_of cmp (map show xs) (show x) ≡ map show (with_one (λ y. key_of (show y)) cmp xs x)
     one-map xs x =
         rw (filter-map (λ y. is_lt (cmp (key_of y) (key_of (show x)))) xs, filter-map (λ y. is_gt (cmp (key_of y) (key_of (show x)))) xs)
-           (sym (map-append show _ _))
+        (sym (map-append show _ _))
 
     pub all-map : (xs more : List X) → with_all key_of cmp (map show xs) (map show more) ≡ map show (with_all (λ y. key_of (show y)) cmp xs more)
     all-map xs [] = refl

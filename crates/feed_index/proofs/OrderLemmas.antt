@@ -193,11 +193,16 @@ module _ {K X : Type 0} (key_of : X → K) {cmp : K → K → Ordering} (o : IsT
   -- two elements in either order
   pub either_order : (xs : List X) (x y : X) → IsBelow (key_of y) x → with_one key_of cmp (with_one key_of cmp xs x) y ≡ with_one key_of cmp (with_one key_of cmp xs y) x
   either_order xs x y h =
-      rw (below_one (key_of y) x h xs, above_one (key_of y) x h xs, below_below (key_of x) (key_of y) h xs,
-          below_one_above (key_of x) y (turned_less o (key_of x) (key_of y) h) xs, above_one_above (key_of x) y (turned_less o (key_of x) (key_of y) h) xs,
-          above_above (key_of x) (key_of y) h xs,
-          filter_comm (λ z. is_gt (cmp (key_of z) (key_of x))) (λ z. is_lt (cmp (key_of z) (key_of y))) xs)
-         (append_assoc (below key_of cmp (key_of x) xs) _ _)
+      rw (
+        below_one (key_of y) x h xs,
+        above_one (key_of y) x h xs,
+        below_below (key_of x) (key_of y) h xs,
+        below_one_above (key_of x) y (turned_less o (key_of x) (key_of y) h) xs,
+        above_one_above (key_of x) y (turned_less o (key_of x) (key_of y) h) xs,
+        above_above (key_of x) (key_of y) h xs,
+        filter_comm (λ z. is_gt (cmp (key_of z) (key_of x))) (λ z. is_lt (cmp (key_of z) (key_of y))) xs,
+      )
+      (append_assoc (below key_of cmp (key_of x) xs) _ _)
 
   -- ---- several more elements
 
@@ -222,9 +227,14 @@ module _ {K X : Type 0} (key_of : X → K) {cmp : K → K → Ordering} (o : IsT
       let lt : cmp (key_of b) (key_of x) ≡ Less = turned_greater o (key_of x) (key_of b) k in
       let front : AllByRecursion (λ y. is_lt (cmp (key_of y) (key_of x)) ≡ true) low = each_weaker _ _ (λ y e. ap is_lt (o.trans (key_of y) (key_of b) (key_of x) e lt)) low h in
       let back : AllByRecursion (λ y. is_gt (cmp (key_of y) (key_of x)) ≡ false) low = each_weaker _ _ (λ y e. ap is_gt (o.trans (key_of y) (key_of b) (key_of x) e lt)) low h in
-      rw (filter-append (λ y. is_lt (cmp (key_of y) (key_of x))) low (b ∷ high), filter-append (λ y. is_gt (cmp (key_of y) (key_of x))) low (b ∷ high),
-          filter_all (λ y. is_lt (cmp (key_of y) (key_of x))) low front, filter_none (λ y. is_gt (cmp (key_of y) (key_of x))) low back, lt)
-         (append_assoc low _ _)
+      rw (
+        filter-append (λ y. is_lt (cmp (key_of y) (key_of x))) low (b ∷ high),
+        filter-append (λ y. is_gt (cmp (key_of y) (key_of x))) low (b ∷ high),
+        filter_all (λ y. is_lt (cmp (key_of y) (key_of x))) low front,
+        filter_none (λ y. is_gt (cmp (key_of y) (key_of x))) low back,
+        lt,
+      )
+      (append_assoc low _ _)
 
   behind_all : (low : List X) (b : X) (high more : List X) → AreBelow (key_of b) low → AreAbove (key_of b) more →
       with_all key_of cmp (low ++ b ∷ high) more ≡ low ++ b ∷ with_all key_of cmp high more

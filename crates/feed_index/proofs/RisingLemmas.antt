@@ -106,8 +106,7 @@ module _ {K X : Type 0} (key_of : X → K) {cmp : K → K → Ordering} (o : IsT
       let parts = rising_parts xs x ys h in
       let same : (y : X) → cmp (key_of y) (key_of x) ≡ cmp (key_of y) k = λ y. alike_right o (key_of x) k (key_of y) e in
       let low : AreBelow key_of o k xs = each_weaker _ _ (λ y g. sym (same y) ∙ g) xs parts.low in
-      let high : AreAbove key_of o k ys = each_weaker _ _ (λ y g. sym (same y) ∙ g) ys parts.high in
-      (
+      let high : AreAbove key_of o k ys = each_weaker _ _ (λ y g. sym (same y) ∙ g) ys parts.high in (
         filter-append _ xs (x ∷ ys) ∙ rw (e, filter_all (λ y. is_lt (cmp (key_of y) k)) xs (each_weaker _ _ (λ y g. ap is_lt g) xs low), filter_none (λ y. is_lt (cmp (key_of y) k)) ys (each_weaker _ _ (λ y g. ap is_lt g) ys high)) (append-nil xs),
         filter-append _ xs (x ∷ ys) ∙ rw (e, filter_none (λ y. is_gt (cmp (key_of y) k)) xs (each_weaker _ _ (λ y g. ap is_gt g) xs low), filter_all (λ y. is_gt (cmp (key_of y) k)) ys (each_weaker _ _ (λ y g. ap is_gt g) ys high)) refl,
       )
@@ -157,3 +156,7 @@ module _ {K X : Type 0} (key_of : X → K) {cmp : K → K → Ordering} (o : IsT
   find_gap k xs h =
       let P : List X → Type 0 = λ ys. find (λ y. is_eq (cmp (key_of y) k)) ys ≡ None in
       subst P h (none_below k (below key_of cmp k xs) (above key_of cmp k xs) (low_parts k xs) ∙ none_above k (above key_of cmp k xs) (high_parts k xs))
+
+pub rising_none : {K X : Type 0} (key_of : X → K) (cmp : K → K → Ordering) → AreRising key_of cmp []
+unfolding IsStrictlySortedBy
+rising_none key_of cmp = tt

@@ -18,11 +18,11 @@ use Rattle.feed_index.proofs.MapLemmas.{filter-map, find-map}
 use Rattle.feed_index.proofs.RisingLemmas.{find_at, find_gap, rising_drop, rising_one, rising_without, split_at}
 
 module _ {X Y : Type 0} (show : X → Y) where
-  each_shown : (P : Y → Type 0) (xs : List X) → AllByRecursion (λ x. P (show x)) xs → AllByRecursion P (map show xs)
+  pub each_shown : (P : Y → Type 0) (xs : List X) → AllByRecursion (λ x. P (show x)) xs → AllByRecursion P (map show xs)
   each_shown P [] h = tt
   each_shown P (x ∷ xs) h = (h.0, each_shown P xs h.1)
 
-  each_seen : (P : Y → Type 0) (xs : List X) → AllByRecursion P (map show xs) → AllByRecursion (λ x. P (show x)) xs
+  pub each_seen : (P : Y → Type 0) (xs : List X) → AllByRecursion P (map show xs) → AllByRecursion (λ x. P (show x)) xs
   each_seen P [] h = tt
   each_seen P (x ∷ xs) h = (h.0, each_seen P xs h.1)
 
@@ -44,10 +44,10 @@ module _ {K R : Type 0} {cmp : K → K → Ordering} (o : IsTotalOrder cmp) wher
   pub sorted_rows : (spans : List (ℕ × List ℕ)) (rows : List (Row K R)) → Rising cmp (entries_of spans rows) → AreSorted cmp rows
   sorted_rows spans rows h = sorted_seen (entry_of spans) (λ a b. cmp a.key b.key) rows h
 
-  low_entries : (spans : List (ℕ × List ℕ)) (rows : List (Row K R)) (key : K) (at : ℕ) → below (λ (row : Row K R). row.key) cmp key rows ≡ take at rows → below (λ (one : Entry K R). one.key) cmp key (entries_of spans rows) ≡ take at (entries_of spans rows)
+  pub low_entries : (spans : List (ℕ × List ℕ)) (rows : List (Row K R)) (key : K) (at : ℕ) → below (λ (row : Row K R). row.key) cmp key rows ≡ take at rows → below (λ (one : Entry K R). one.key) cmp key (entries_of spans rows) ≡ take at (entries_of spans rows)
   low_entries spans rows key at h = filter-map (entry_of spans) (λ one. is_lt (cmp one.key key)) rows ∙ rw h (sym (take-map (entry_of spans) at rows))
 
-  high_entries : (spans : List (ℕ × List ℕ)) (rows : List (Row K R)) (key : K) (at : ℕ) → above (λ (row : Row K R). row.key) cmp key rows ≡ drop at rows → above (λ (one : Entry K R). one.key) cmp key (entries_of spans rows) ≡ drop at (entries_of spans rows)
+  pub high_entries : (spans : List (ℕ × List ℕ)) (rows : List (Row K R)) (key : K) (at : ℕ) → above (λ (row : Row K R). row.key) cmp key rows ≡ drop at rows → above (λ (one : Entry K R). one.key) cmp key (entries_of spans rows) ≡ drop at (entries_of spans rows)
   high_entries spans rows key at h = filter-map (entry_of spans) (λ one. is_gt (cmp one.key key)) rows ∙ rw h (sym (drop-map (entry_of spans) at rows))
 
   pub put_found : (spans : List (ℕ × List ℕ)) (rows : List (Row K R)) (one : Entry K R) (at : ℕ) → StandsAt cmp rows one.key at → set (entries_of spans rows) at one ≡ put cmp (entries_of spans rows) one

@@ -43,6 +43,7 @@ lives-added spans s b h t = by (s == t) refl
     by_found : (o : Option (List ℕ)) → bytes_of spans t ≡ o → (s == t) ≡ false → lives (spans ++ (s, b) ∷ []) t ≡ lives spans t + 0
     by_found None e g = rw (added_none spans s b t e g, e) refl
     by_found (Some x) e g = rw (added_other spans s b t x e, e) refl
+
     by : (c : Bool) → (s == t) ≡ c → lives (spans ++ (s, b) ∷ []) t ≡ lives spans t + cond c 1 0
     by true e = let same : s ≡ t = eqb-true s t e in rw (← same, added_new spans s b h, h) refl
     by false e = by_found (bytes_of spans t) refl e
@@ -70,6 +71,7 @@ lives-without spans s h t = by (s == t) refl
     by_found : (o : Option (List ℕ)) → bytes_of spans s ≡ o → IsSome o → lives spans s ≡ 1
     by_found None e g = absurd (true≢false (sym g))
     by_found (Some x) e g = rw e refl
+
     by : (c : Bool) → (s == t) ≡ c → lives spans t ≡ lives (without spans s) t + cond c 1 0
     by true e = let same : s ≡ t = eqb-true s t e in rw (← same, without_gone spans s) (by_found (bytes_of spans s) refl h)
     by false e = let same : lives (without spans s) t ≡ lives spans t = rw (without_other spans s t e) refl in omega arith

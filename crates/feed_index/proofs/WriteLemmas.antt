@@ -41,7 +41,7 @@ pub sends_front : (P Q : Type 0) (before mid now : Option (List ℕ)) (gathered 
 sends_front P Q before mid now gathered text more first wider puts =
     let T : List ℕ → Type 0 = λ all. PutsUnless Q before now all in
     subst T (sym (append_assoc first.sent gathered more) ∙ ap (λ (front : List ℕ). front ++ more) first.rest)
-      (puts_more Q before mid now first.sent (gathered ++ more) first.told (puts_wider P Q mid now (gathered ++ more) wider puts))
+    (puts_more Q before mid now first.sent (gathered ++ more) first.told (puts_wider P Q mid now (gathered ++ more) wider puts))
 
 pub sends_part : (P Q : Type 0) (before mid now : Option (List ℕ)) (gathered text : List ℕ) → Sends before mid gathered text → (P → Q) → PutsUnless P mid now gathered → PutsUnless Q before now text
 sends_part P Q before mid now gathered text first wider puts =

@@ -2,3 +2,4 @@ pub mod Chosen
 pub mod Entries
 pub mod Order
 pub mod Rows
+pub mod Staged

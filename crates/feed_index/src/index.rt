@@ -1,12 +1,14 @@
 //! The index.
-ghost use Rattle.std.specs.Prelude.{◌≡◌, ◌+◌, ◌-◌, ◌<◌, ◌≤◌, ◌==◌, [], Some, None, length, drop, take, slice_get, option_map, OnOk, IsErr, IsOk};
+ghost use Rattle.std.specs.Prelude.{◌≡◌, ◌+◌, ◌-◌, ◌<◌, ◌≤◌, ◌==◌, [], Some, None, length, drop, take, slice_get, option_map, OnOk, IsErr, IsOk, vec_len};
 ghost use Rattle.gw_base.specs.Count.{Counts, Rose};
 ghost use Rattle.gw_base.specs.Told.{PutsUnless, with_bytes};
 ghost use Rattle.span_pool.specs.Spans.{live_bytes};
 ghost use Rattle.feed_index.specs.Chosen.{chosen};
-ghost use Rattle.feed_index.specs.Entries.{AreSpansOf, Rising, bytes_at, dead_after, most_dead, put, removed, total, value_at};
+ghost use Rattle.feed_index.specs.Entries.{AreSpansOf, Rising, bytes_at, dead_after, most_dead, put, put_all, removed, total, value_at};
 
 use crate::change::{cut, settle};
+use crate::entry::Entry;
+use crate::merge::merge_items;
 use crate::place::place;
 use crate::row::Row;
 use crate::set::{set, unset};
@@ -193,6 +195,22 @@ impl<K: Ord + Drop, R: Drop> FeedIndex<K, R> {
         ensures spare_bytes { self.old.spare_bytes ≤ self.new.spare_bytes }
     {
         cut(&mut self.rows, &mut self.pool, n as usize);
+        settle(&mut self.pool);
+    }
+
+    /// Puts many entries at once, as `put` would one after the other: of equal keys the later one counts. It is quick
+    /// where they stand in the order of their keys. Takes no memory.
+    pub fn merge(&mut self, items: Vec<Entry<K, R>>)
+        requires entries_room { vec_len items ≤ self.old.spare_entries }
+        requires bytes_room { total items.items ≤ self.old.spare_bytes }
+        ensures entries { self.new.entries ≡ put_all K.cmp self.old.entries items.items }
+        ensures dead { self.new.dead ≡ dead_after self.old (total items.items) self.new.entries }
+        ensures bounded { self.new.dead ≤ most_dead (total self.new.entries) }
+        ensures spare_entries { self.old.spare_entries ≤ self.new.spare_entries + vec_len items }
+        ensures spare_bytes { self.old.spare_bytes ≤ self.new.spare_bytes + total items.items }
+    {
+        self.spare -= items.len();
+        merge_items(&mut self.rows, &mut self.pool, items);
         settle(&mut self.pool);
     }
 }

@@ -5,8 +5,10 @@
 mod change;
 mod entry;
 mod index;
+mod merge;
 mod place;
 mod row;
+mod runs;
 mod set;
 mod write;
 

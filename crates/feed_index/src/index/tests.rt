@@ -10,7 +10,12 @@ use std::alloc::AllocError;
 use std::process::Abort;
 use std::test::Fail;
 
-fn put(index: &mut FeedIndex<u32, u8>, key: u32, value: u8, bytes: &[u8]) -> Result<Option<u8>, AllocError> {
+fn put(
+    index: &mut FeedIndex<u32, u8>,
+    key: u32,
+    value: u8,
+    bytes: &[u8],
+) -> Result<Option<u8>, AllocError> {
     index.prepare(1, bytes.len() as u64)?;
     Ok(index.put(key, value, bytes))
 }
@@ -84,6 +89,10 @@ fn has_these_fields_alone(rt: HostRuntime) -> Result<(), Fail> {
     let mut pool = SpanPool::make(rt.alloc());
     pool.reserve(1, 1)?;
     let slot = pool.put(b"a");
-    take_row_apart(Row { key: 1, value: 2, slot });
+    take_row_apart(Row {
+        key: 1,
+        value: 2,
+        slot,
+    });
     Ok(())
 }

@@ -7,8 +7,10 @@ give_back-requires g c =
     let within : c.args.at < length c.args.rows.now.items = omega arith in
     let old = c.replace-old.result in
     let is_old : old ≡ get_or c.args.rows.now.items c.args.at old = search rules in
-    record { held = is_live_then _ _ _ _ _ _ _ (joined c.args.rows.now.items c.args.pool.now.spans c.put-slot.new.self.spans c.args.at old (record { key = c.args.key; value = c.args.value; slot = c.put-slot.result }) c.args.bytes.now
-        within is_old c.requires.held c.put-slot.ensures.apart c.put-slot.ensures.added c.put-slot.ensures.live) }
+    record {
+      held = is_live_then _ _ _ _ _ _ _ (joined c.args.rows.now.items c.args.pool.now.spans c.put-slot.new.self.spans c.args.at old (record { key = c.args.key; value = c.args.value; slot = c.put-slot.result }) c.args.bytes.now
+          within is_old c.requires.held c.put-slot.ensures.apart c.put-slot.ensures.added c.put-slot.ensures.live);
+    }
 
 pub returns-clause-held : goal.returns-clause-held
 returns-clause-held g c =
@@ -16,7 +18,7 @@ returns-clause-held g c =
     let old = c.replace-old.result in
     let is_old : old ≡ get_or c.args.rows.now.items c.args.at old = search rules in
     let two = joined c.args.rows.now.items c.args.pool.now.spans c.put-slot.new.self.spans c.args.at old (record { key = c.args.key; value = c.args.value; slot = c.put-slot.result }) c.args.bytes.now
-        within is_old c.requires.held c.put-slot.ensures.apart c.put-slot.ensures.added c.put-slot.ensures.live in
+    within is_old c.requires.held c.put-slot.ensures.apart c.put-slot.ensures.added c.put-slot.ensures.live in
     let one = exchanged _ _ _ c.give_back.new.self.spans _ _ _ _ within two c.give_back.ensures.spans c.give_back.ensures.live in
     rw c.replace-old.ensures.after one.held
 
@@ -26,7 +28,7 @@ returns-clause-entries g c =
     let old = c.replace-old.result in
     let is_old : old ≡ get_or c.args.rows.now.items c.args.at old = search rules in
     let two = joined c.args.rows.now.items c.args.pool.now.spans c.put-slot.new.self.spans c.args.at old (record { key = c.args.key; value = c.args.value; slot = c.put-slot.result }) c.args.bytes.now
-        within is_old c.requires.held c.put-slot.ensures.apart c.put-slot.ensures.added c.put-slot.ensures.live in
+    within is_old c.requires.held c.put-slot.ensures.apart c.put-slot.ensures.added c.put-slot.ensures.live in
     let one = exchanged _ _ _ c.give_back.new.self.spans _ _ _ _ within two c.give_back.ensures.spans c.give_back.ensures.live in
     rw c.replace-old.ensures.after one.entries_are
 

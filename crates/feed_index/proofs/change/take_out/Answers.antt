@@ -6,14 +6,14 @@ pub returns-clause-held : goal.returns-clause-held
 returns-clause-held g c =
     let within : c.args.at < length c.args.rows.now.items = omega arith in
     let one = taken c.args.rows.now.items c.args.pool.now.spans c.give_back.new.self.spans c.args.at c.remove-value.result within c.remove-value.ensures.value
-        c.requires.held c.give_back.ensures.spans c.give_back.ensures.live in
+    c.requires.held c.give_back.ensures.spans c.give_back.ensures.live in
     rw c.remove-value.ensures.items one.held
 
 pub returns-clause-entries : goal.returns-clause-entries
 returns-clause-entries g c =
     let within : c.args.at < length c.args.rows.now.items = omega arith in
     let one = taken c.args.rows.now.items c.args.pool.now.spans c.give_back.new.self.spans c.args.at c.remove-value.result within c.remove-value.ensures.value
-        c.requires.held c.give_back.ensures.spans c.give_back.ensures.live in
+    c.requires.held c.give_back.ensures.spans c.give_back.ensures.live in
     rw c.remove-value.ensures.items one.entries_are
 
 pub returns-clause-old : goal.returns-clause-old

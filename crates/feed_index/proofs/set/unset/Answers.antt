@@ -12,7 +12,7 @@ pub returns-in-Ok-clause-sorted : goal.returns-in-Ok-clause-sorted
 returns-in-Ok-clause-sorted g c =
     let stands : StandsAt g.K.Ord.cmp c.args.rows.now.items c.args.key.now c.in-Ok.at = rw c.deref.ensures.value at c.in-Ok.ensures.parts in
     sorted_removed g.met.K.Ord.total c.args.pool.now.spans c.take_out.new.pool.spans c.args.rows.now.items c.take_out.new.rows.items c.args.key.now c.requires.sorted
-        (c.take_out.ensures.entries ∙ removed_found g.met.K.Ord.total c.args.pool.now.spans c.args.rows.now.items c.args.key.now c.in-Ok.at stands)
+    (c.take_out.ensures.entries ∙ removed_found g.met.K.Ord.total c.args.pool.now.spans c.args.rows.now.items c.args.key.now c.in-Ok.at stands)
 
 pub returns-in-Ok-clause-old : goal.returns-in-Ok-clause-old
 returns-in-Ok-clause-old g c =

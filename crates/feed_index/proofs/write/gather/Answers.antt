@@ -29,4 +29,4 @@ returns-in-Err-put_all-clause-front g c =
     let P = Rose (faults c.put_all.new.sink) (faults c.put_all-2.new.sink) in
     let Q = Rose (faults c.args.sink.now) (faults c.put_all-2.new.sink) in
     puts_more Q (told c.args.sink.now) (told c.put_all.new.sink) (told c.put_all-2.new.sink) before piece first
-        (puts_wider P Q (told c.put_all.new.sink) (told c.put_all-2.new.sink) piece (rose-after (faults c.args.sink.now) (faults c.put_all.new.sink) (faults c.put_all-2.new.sink) c.in-Ok.ensures.counts.never_falls) c.in-Err-put_all.ensures.front)
+    (puts_wider P Q (told c.put_all.new.sink) (told c.put_all-2.new.sink) piece (rose-after (faults c.args.sink.now) (faults c.put_all.new.sink) (faults c.put_all-2.new.sink) c.in-Ok.ensures.counts.never_falls) c.in-Err-put_all.ensures.front)

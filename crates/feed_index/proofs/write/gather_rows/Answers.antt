@@ -40,4 +40,4 @@ returns-in-Err-clause-front g c =
     let T : List ℕ → Type 0 = λ text. PutsUnless Q (told c.args.sink.now) (told c.offer.new.sink) text in
     let here = sends_front P Q (told c.args.sink.now) (told c.loop-row.sink) (told c.offer.new.sink) c.loop-row.gathered.items (chosen test (take i entries)) (cond (test row.value) piece []) c.loop-row.invariant.sent rose c.in-Err.ensures.front in
     subst T (chosen_whole test entries (i + 1))
-      (puts_front Q (told c.args.sink.now) (told c.offer.new.sink) (chosen test (take (i + 1) entries)) (chosen test (drop (i + 1) entries)) (rose (c.in-Err.ensures.counts.cause refl)) (subst T (sym next) here))
+    (puts_front Q (told c.args.sink.now) (told c.offer.new.sink) (chosen test (take (i + 1) entries)) (chosen test (drop (i + 1) entries)) (rose (c.in-Err.ensures.counts.cause refl)) (subst T (sym next) here))
