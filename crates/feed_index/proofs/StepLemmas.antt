@@ -35,9 +35,9 @@ module _ {K R : Type 0} {cmp : K → K → Ordering} (o : IsTotalOrder cmp) wher
       let Q : Row K R → Type 0 = λ row. IsGapAt cmp low row.key at in
       let here = subst Q (parts.2 one) (subst P low_is (gap one)) in
       let whole : rows ≡ take at low ++ (drop at low ++ (runs.run ++ runs.done)) =
-          runs.is ∙ ap (λ (ys : List (Row K R)). ys ++ (runs.run ++ runs.done)) (sym (take-append-drop at low)) ∙ append_assoc (take at low) (drop at low) (runs.run ++ runs.done) in
+      runs.is ∙ ap (λ (ys : List (Row K R)). ys ++ (runs.run ++ runs.done)) (sym (take-append-drop at low)) ∙ append_assoc (take at low) (drop at low) (runs.run ++ runs.done) in
       let short : length (take at low) ≡ at = length-take-le at low (omega arith) in
       let rest : length (drop at low) ≡ length low - at = length-drop at low in
       let moved = turned (take at low) (drop at low) runs.run runs.done whole short (omega arith) (omega arith) in
       runs_more (λ (row : Row K R). row.key) o rows now first behind front end runs one lt
-        (last (λ (row : Row K R). row.key) o rows first behind front end runs lt one (sym (parts.2 one))) at at_le here.low here.high moved
+      (last (λ (row : Row K R). row.key) o rows first behind front end runs lt one (sym (parts.2 one))) at at_le here.low here.high moved

@@ -8,7 +8,7 @@ ghost use Rattle.feed_index.specs.Entries.{AreSpansOf, Rising, bytes_at, dead_af
 
 use crate::change::{cut, settle};
 use crate::entry::Entry;
-use crate::merge::merge_items;
+use crate::merge::{bytes_of, merge_items};
 use crate::place::place;
 use crate::row::Row;
 use crate::set::{set, unset};
@@ -74,6 +74,21 @@ impl<K: Ord, R> FeedIndex<K, R> {
         self.pool.reserve(bytes, more as u64)?;
         self.spare = more;
         Ok(())
+    }
+
+    /// Makes room for these items, as `prepare` does.
+    pub fn prepare_for(&mut self, items: &[Entry<K, R>]) -> Result<(), AllocError>
+        ensures same { self.new.entries ≡ self.old.entries }
+        ensures dead { self.new.dead ≡ self.old.dead }
+        ensures entries_room { OnOk result (length items.now ≤ self.new.spare_entries) }
+        ensures bytes_room { OnOk result (total items.now ≤ self.new.spare_bytes) }
+        ensures no_less_entries { self.old.spare_entries ≤ self.new.spare_entries }
+        ensures no_less_bytes { self.old.spare_bytes ≤ self.new.spare_bytes }
+    {
+        match bytes_of(items) {
+            Some(bytes) => self.prepare(items.len() as u64, bytes),
+            None => Err(AllocError),
+        }
     }
 
     /// That the keys are distinct and rising, and that the dead bytes are not too many.

@@ -1,6 +1,6 @@
 //! Many items at once: each is put in place of the row of its key, or behind all rows, and those behind are merged into
 //! the others at the end.
-ghost use Rattle.std.specs.Prelude.{◌≡◌, ◌+◌, ◌-◌, ◌<◌, ◌≤◌, ⊤, length, drop, slice_index_or, vec_len, vec_capacity, reverse};
+ghost use Rattle.std.specs.Prelude.{◌≡◌, ◌+◌, ◌-◌, ◌<◌, ◌≤◌, ⊤, length, drop, slice_index_or, vec_len, vec_capacity, reverse, IfSome};
 ghost use Rattle.std.specs.List.{AllByRecursion};
 ghost use Rattle.std.specs.Ordering.{MatchOrdering};
 ghost use Rattle.feed_index.specs.Entries.{put_all, total};
@@ -164,4 +164,15 @@ pub fn merge_items<K: Ord + Drop, R: Drop>(
         front = take_item(rows, pool, front, key, value, bytes.as_slice());
     }
     join(rows, pool, front);
+}
+
+/// The bytes of items together, where the number has room.
+pub fn bytes_of<K, R>(items: &[Entry<K, R>]) -> Option<u64>
+    ensures sum { IfSome result (λ sum. sum ≡ total items.now) }
+{
+    let mut sum: u64 = 0;
+    for item in items {
+        sum = sum.checked_add(item.bytes.len() as u64)?;
+    }
+    Some(sum)
 }

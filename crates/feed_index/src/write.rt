@@ -109,12 +109,12 @@ pub fn write_rows<K, R, C: Choice<R>, S: Sink>(
     ensures counts { Counts (IsErr result) (S.faults sink.old) (S.faults sink.new) }
     ensures others { S.beside sink.new ≡ S.beside sink.old }
 {
-    let mut gathered = ArrayVec::<u8, ROOM>::new();
-    match gather_rows(rows, pool, choice, &mut gathered, sink) {
+    let mut rest = ArrayVec::<u8, ROOM>::new();
+    match gather_rows(rows, pool, choice, &mut rest, sink) {
         Ok(()) => {}
         Err(end) => return Err(end),
     }
-    match put_all(sink, gathered.as_slice()) {
+    match put_all(sink, rest.as_slice()) {
         Ok(()) => Ok(()),
         Err(end) => Err(end),
     }

@@ -21,11 +21,11 @@ pub returns-clause-sorted : goal.returns-clause-sorted
 returns-clause-sorted g c =
     let merged = rw c.deref_mut.ensures.value at c.merge_runs.ensures.merged in
     rw (kept c.merge_runs.new.rows c.args.rows.now.items c.args.rows.now.len (omega arith) (omega arith), merged)
-       (rising_all (λ (row : Row _ _). row.key) g.met.K.Ord.total (take c.args.front c.args.rows.now.items) (drop c.args.front c.args.rows.now.items)
-         (front_sorted g.met.K.Ord.total c.args.pool.now.spans c.args.rows.now.items c.args.front c.requires.staged.front_rises))
+    (rising_all (λ (row : Row _ _). row.key) g.met.K.Ord.total (take c.args.front c.args.rows.now.items) (drop c.args.front c.args.rows.now.items)
+    (front_sorted g.met.K.Ord.total c.args.pool.now.spans c.args.rows.now.items c.args.front c.requires.staged.front_rises))
 
 pub returns-clause-entries : goal.returns-clause-entries
 returns-clause-entries g c =
     let merged = rw c.deref_mut.ensures.value at c.merge_runs.ensures.merged in
     rw (kept c.merge_runs.new.rows c.args.rows.now.items c.args.rows.now.len (omega arith) (omega arith))
-       (merged_entries g.met.K.Ord.total c.args.pool.now.spans c.args.rows.now.items c.merge_runs.new.rows c.args.front merged)
+    (merged_entries g.met.K.Ord.total c.args.pool.now.spans c.args.rows.now.items c.merge_runs.new.rows c.args.front merged)
