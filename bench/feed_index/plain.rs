@@ -16,7 +16,7 @@ type Map = BTreeMap<u64, (u64, Vec<u8>)>;
 
 fn deliver(map: &mut Map, random: &mut Random, count: u64) {
     for i in 0..count {
-        let key = random.next() * 65_536 + i % 65_536;
+        let key = random.next().wrapping_mul(65_536).wrapping_add(i % 65_536);
         map.insert(key, (key, PIECE[..77].to_vec()));
     }
 }

@@ -1,5 +1,5 @@
 -- The rows of an index and its pool after a row came, took another one's place, or went.
-use Rattle.std.proofs.Common.{◌≡◌, ◌∙◌, ◌++◌, ◌∷◌, [], ◌+◌, ◌-◌, ◌<◌, ◌≤◌, ℕ, zero, suc, List, map, length, take, drop, set, get_or, Option, Some, None, option_map, IsSome, unwrap_or, sym, ap, refl, subst, arith, append_assoc}
+use Rattle.std.proofs.Common.{◌≡◌, ◌∙◌, ◌++◌, ◌∷◌, [], ◌+◌, ◌-◌, ◌<◌, ◌≤◌, ℕ, zero, suc, List, length, take, drop, set, get_or, Some, None, option_map, IsSome, unwrap_or, sym, ap, refl, subst, arith, append_assoc}
 use Rattle.std.proofs.lemmas.List.{append-nil, drop_all, length-drop, length-map, length-take-le, set_split, take-append-drop, take-take, take-map, drop-map}
 use Rattle.std.proofs.lemmas.List.Edits.{remove-append_right}
 use Rattle.std.specs.Prelude.{insert, remove, slice_get}

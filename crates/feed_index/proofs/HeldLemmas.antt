@@ -1,17 +1,16 @@
 -- The rows of an index and the spans of its pool, when a row comes and when one goes.
-use Rattle.std.proofs.Common.{◌≡◌, ◌∙◌, ◌++◌, ◌∷◌, [], ◌+◌, ◌-◌, ◌<◌, ◌≤◌, ℕ, Bool, true, false, cond, List, map, length, Option, Some, None, IsSome, unwrap_or, sym, ap, refl, subst, arith}
-use Rattle.std.proofs.lemmas.Bool.{true≢false}
+use Rattle.std.proofs.Common.{◌≡◌, ◌∙◌, ◌++◌, ◌∷◌, [], ◌+◌, ◌≤◌, ℕ, Bool, true, false, cond, List, map, length, Option, Some, None, IsSome, unwrap_or, sym, refl, arith}
 use Rattle.std.proofs.lemmas.List.{map-append}
 use Rattle.std.proofs.lemmas.List.Sums.{sum_by-append, sum_by-cons}
 use Rattle.std.proofs.lemmas.List.Sorted.{IsPermutation-map, sum_by-IsPermutation}
-use Rattle.std.specs.Prelude.{◌==◌, is_some, count_by, sum_by, IsPermutation}
+use Rattle.std.specs.Prelude.{◌==◌, count_by, IsPermutation}
 use Rattle.span_pool.specs.Spans.{bytes_of, without, live_bytes}
 use Rattle.feed_index.specs.declared.entry.Entry.{Entry}
 use Rattle.feed_index.specs.declared.row.Row.{Row}
 use Rattle.feed_index.specs.Entries.{AreSpansOf, total}
 use Rattle.feed_index.specs.Rows.{AreHeld, entries_of, entry_of, lives}
 use Rattle.feed_index.proofs.SpanLemmas.{added_new, added_other, lives-added, lives-without, same_number, without_gone, without_other}
-use borrow.Author.Tests.{eqb-true, eqb-false}
+use borrow.Author.Tests.{eqb-true}
 
 module _ {K R : Type 0} where
   -- how many rows have a slot

@@ -1,10 +1,10 @@
 -- A list in the order of its keys, seen by what each element shows.
-use Rattle.std.proofs.Common.{◌≡◌, ◌∙◌, ◌++◌, ◌∷◌, [], Bool, true, false, cond, List, map, Option, Some, None, option_map, sym, ap, refl}
+use Rattle.std.proofs.Common.{◌≡◌, ◌∙◌, ◌∷◌, [], Bool, true, false, cond, List, map, Some, option_map, sym, ap, refl}
 use Rattle.std.proofs.lemmas.List.{map-append}
 use Rattle.std.specs.Prelude.{filter, find}
-use Rattle.std.specs.Ordering.{is_lt, is_gt, is_eq}
+use Rattle.std.specs.Ordering.{is_lt, is_gt}
 use Rattle.std.specs.declared.cmp.Ordering.{Ordering}
-use Rattle.feed_index.specs.Order.{below, above, with_one, with_all}
+use Rattle.feed_index.specs.Order.{with_one, with_all}
 
 module _ {X Y : Type 0} (show : X → Y) where
   pub filter-map : (p : Y → Bool) (xs : List X) → filter p (map show xs) ≡ map show (filter (λ x. p (show x)) xs)

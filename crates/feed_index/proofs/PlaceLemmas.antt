@@ -1,5 +1,5 @@
 -- Where a search for a key ends.
-use Rattle.std.proofs.Common.{◌≡◌, ◌<◌, ◌≤◌, ℕ, List, length, Result, Ok, Err, MatchResult}
+use Rattle.std.proofs.Common.{ℕ, List, length, Result, Ok, Err, MatchResult}
 use Rattle.std.specs.Cmp.{IsTotalOrder}
 use Rattle.std.specs.List.Sorted.{IsBinarySearchResult, IsSearchInRange}
 use Rattle.std.specs.declared.cmp.Ordering.{Ordering}

@@ -1,20 +1,20 @@
 -- Lists in the order of their keys: their parts, and where a search in them ends.
-use Rattle.std.proofs.Common.{◌≡◌, ◌∙◌, ◌++◌, ◌∷◌, [], ℕ, zero, ◌<◌, ◌≤◌, ◌+◌, suc, Bool, true, false, cond, List, map, length, get_or, take, drop, Option, Some, None, Ok, Err, sym, ap, refl, subst, arith, append_assoc}
-use Rattle.std.proofs.lemmas.Cmp.{tied_itself, tied_back, alike_right}
+use Rattle.std.proofs.Common.{◌≡◌, ◌∙◌, ◌++◌, ◌∷◌, [], ℕ, zero, ◌<◌, ◌≤◌, ◌+◌, suc, Bool, List, length, get_or, take, drop, Some, None, sym, ap, refl, subst, arith}
+use Rattle.std.proofs.lemmas.Cmp.{alike_right}
 use Rattle.std.proofs.lemmas.List.{append-nil, get_or-take, get_or-drop, take-append-drop, length-take-le, length-drop}
-use Rattle.std.proofs.lemmas.List.Elements.{All-from_recursion, recursion_from_All, filter-append}
+use Rattle.std.proofs.lemmas.List.Elements.{recursion_from_All, filter-append}
 use Rattle.std.proofs.lemmas.List.Kept.{IsStrictlySortedBy-filter}
 use Rattle.std.proofs.lemmas.List.Sorted.{searchable_from_sorted}
 use Rattle.std.proofs.lemmas.Map.Keys.{Less-from_sorted}
-use Rattle.std.specs.Prelude.{filter, find, fold}
+use Rattle.std.specs.Prelude.{filter, find}
 use Rattle.std.specs.Cmp.{IsTotalOrder}
-use Rattle.std.specs.List.{AllByRecursion, AllWithin, HoldsAt}
-use Rattle.std.specs.List.Sorted.{IsStrictlySortedBy, IsSortedBy, IsNonDecreasingBy, IsPartitionPoint}
+use Rattle.std.specs.List.{AllByRecursion, HoldsAt}
+use Rattle.std.specs.List.Sorted.{IsStrictlySortedBy, IsNonDecreasingBy, IsPartitionPoint}
 use Rattle.std.specs.Ordering.{is_lt, is_gt, is_eq, ordering_index}
 use Rattle.std.specs.declared.cmp.Ordering.{Ordering}
 use Rattle.std.specs.declared.cmp.Ordering.TheVariants.{Less, Equal, Greater}
 use Rattle.feed_index.specs.Order.{AreRising, below, above, with_one, with_all}
-use Rattle.feed_index.proofs.OrderLemmas.{AreBelow, AreAbove, IsBelow, IsAbove, each_weaker, each_front, each_back, each_joined, each_passes, filter_all, filter_none, is_less, is_greater, turned_less, turned_greater, greater_trans}
+use Rattle.feed_index.proofs.OrderLemmas.{AreBelow, AreAbove, each_weaker, each_front, each_back, each_joined, each_passes, filter_all, filter_none, is_less, is_greater, turned_less, turned_greater}
 
 -- a list at an index
 pub split_at : {X : Type 0} (xs : List X) (i : ℕ) → i < length xs → (x : X) × (xs ≡ take i xs ++ x ∷ drop (suc i) xs) × ((d : X) → get_or xs i d ≡ x)

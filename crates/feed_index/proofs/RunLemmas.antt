@@ -1,13 +1,11 @@
 -- Two runs in one list, of which the second is merged into the first from its end.
-use Rattle.std.proofs.Common.{◌≡◌, ◌∙◌, ◌++◌, ◌∷◌, [], ◌<◌, ◌≤◌, ◌+◌, ◌-◌, ℕ, Bool, false, List, length, get_or, take, drop, sym, ap, refl, subst, arith, append_assoc, length-append}
-use Rattle.std.proofs.lemmas.List.{append-nil, get_or_at, get_or-append-add, length-take-le, length-drop, nil_from_length, take-append-drop}
-use Rattle.std.proofs.lemmas.List.Elements.{filter-append}
-use Rattle.std.specs.Prelude.{filter}
+use Rattle.std.proofs.Common.{◌≡◌, ◌∙◌, ◌++◌, ◌∷◌, [], ◌<◌, ◌≤◌, ◌+◌, ◌-◌, ℕ, false, List, length, get_or, take, drop, sym, ap, refl, subst, arith, append_assoc, length-append}
+use Rattle.std.proofs.lemmas.List.{append-nil, get_or_at, length-take-le, length-drop, nil_from_length, take-append-drop}
 use Rattle.std.specs.Cmp.{IsTotalOrder}
 use Rattle.std.specs.List.{AllByRecursion}
 use Rattle.std.specs.Ordering.{is_eq, is_lt}
 use Rattle.std.specs.declared.cmp.Ordering.{Ordering}
-use Rattle.feed_index.specs.Order.{AreRising, above, below, with_all, with_one}
+use Rattle.feed_index.specs.Order.{AreRising, above, below, with_all}
 use Rattle.feed_index.specs.Staged.{IsNew}
 use Rattle.feed_index.proofs.OrderLemmas.{AreBelow, all_round, each_back, each_filter, each_front, each_weaker}
 use Rattle.feed_index.proofs.RisingLemmas.{rising_parts, rising_take}

@@ -1,7 +1,7 @@
 -- The entries of rows when the row of a key is set or goes.
-use Rattle.std.proofs.Common.{◌≡◌, ◌∙◌, ◌++◌, ◌∷◌, [], ◌<◌, ◌≤◌, ℕ, zero, suc, List, map, length, get_or, take, drop, set, Option, Some, None, option_map, sym, ap, refl, subst, arith}
+use Rattle.std.proofs.Common.{◌≡◌, ◌∙◌, ◌∷◌, [], ◌<◌, ℕ, zero, suc, List, map, length, get_or, take, drop, set, Option, Some, None, option_map, sym, ap, refl, subst, arith}
 use Rattle.std.proofs.lemmas.List.{length-map, set_split, take-append-drop, take-map, drop-map}
-use Rattle.std.specs.Prelude.{filter, find, insert, remove, slice_get}
+use Rattle.std.specs.Prelude.{find, insert, remove, slice_get}
 use Rattle.std.specs.Cmp.{IsTotalOrder}
 use Rattle.std.specs.List.{AllByRecursion}
 use Rattle.std.specs.List.Sorted.{IsStrictlySortedBy}

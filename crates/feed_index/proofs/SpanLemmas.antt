@@ -1,10 +1,10 @@
 -- The spans of a pool when one more is put and when one is given back.
-use Rattle.std.proofs.Common.{◌≡◌, ◌∙◌, ◌++◌, ◌∷◌, [], ◌+◌, ◌≢◌, ℕ, Bool, true, false, cond, not, List, Option, Some, None, IsSome, unwrap_or, sym, ap, refl, arith, eq-eqb, nat_eq}
+use Rattle.std.proofs.Common.{◌≡◌, ◌++◌, ◌∷◌, [], ◌+◌, ℕ, Bool, true, false, cond, not, List, Option, Some, None, IsSome, sym, ap, refl, arith, eq-eqb}
 use Rattle.std.proofs.lemmas.Bool.{true≢false}
-use Rattle.std.specs.Prelude.{◌==◌, is_some, filter}
+use Rattle.std.specs.Prelude.{◌==◌, is_some}
 use Rattle.span_pool.specs.Spans.{bytes_of, without}
 use Rattle.feed_index.specs.Rows.{lives}
-use borrow.Author.Tests.{eqb-true, eqb-false}
+use borrow.Author.Tests.{eqb-true}
 
 pub same_number : (s : ℕ) → (s == s) ≡ true
 same_number s = eq-eqb s s refl

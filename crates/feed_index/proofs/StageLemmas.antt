@@ -1,16 +1,16 @@
 -- Two runs that stand for a list, when one more element comes.
-use Rattle.std.proofs.Common.{◌≡◌, ◌∙◌, ◌++◌, ◌∷◌, [], ◌<◌, ◌≤◌, ◌+◌, ◌-◌, ℕ, Bool, false, zero, suc, List, length, get_or, take, drop, set, sym, ap, refl, subst, arith, append_assoc, length-append}
-use Rattle.std.proofs.lemmas.Cmp.{alike_right, tied_back}
-use Rattle.std.proofs.lemmas.List.{append-nil, drop-append-le, drop_all, drop_at, get_or_at, length-drop, length-set, length-take-le, set-append_left, set_at, take-append-drop, take-append-le, take_all, take_at}
+use Rattle.std.proofs.Common.{◌≡◌, ◌∙◌, ◌++◌, ◌∷◌, [], ◌<◌, ◌≤◌, ◌+◌, ◌-◌, ℕ, false, List, length, get_or, take, drop, set, sym, ap, refl, subst, arith, append_assoc, length-append}
+use Rattle.std.proofs.lemmas.Cmp.{alike_right}
+use Rattle.std.proofs.lemmas.List.{drop-append-le, drop_all, drop_at, get_or_at, length-drop, length-set, length-take-le, set-append_left, set_at, take-append-drop, take-append-le, take_all, take_at}
 use Rattle.std.proofs.lemmas.List.Sums.{fold_push}
 use Rattle.std.specs.Cmp.{IsTotalOrder}
 use Rattle.std.specs.List.{AllByRecursion}
 use Rattle.std.specs.Ordering.{is_eq}
 use Rattle.std.specs.declared.cmp.Ordering.{Ordering}
-use Rattle.std.specs.declared.cmp.Ordering.TheVariants.{Less, Equal, Greater}
-use Rattle.feed_index.specs.Order.{AreRising, above, below, with_all, with_one}
+use Rattle.std.specs.declared.cmp.Ordering.TheVariants.{Equal, Greater}
+use Rattle.feed_index.specs.Order.{above, below, with_all, with_one}
 use Rattle.feed_index.specs.Staged.{AreStaged, IsNew, Stages}
-use Rattle.feed_index.proofs.OrderLemmas.{AreAbove, AreBelow, all_round, each_back, each_filter, each_front, each_joined, each_weaker, later_counts, one_before, turned_less, turned_greater}
+use Rattle.feed_index.proofs.OrderLemmas.{AreBelow, each_back, each_filter, each_front, each_joined, each_weaker, later_counts, one_before, turned_less}
 use Rattle.feed_index.proofs.TurnLemmas.{last_of}
 use Rattle.feed_index.proofs.RisingLemmas.{high_parts, low_parts, rising_all, rising_none, rising_one, rising_parts, rising_round}
 

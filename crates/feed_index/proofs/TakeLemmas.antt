@@ -1,5 +1,5 @@
 -- What the steps of the merging call know of rows and of their entries.
-use Rattle.std.proofs.Common.{◌≡◌, ◌≢◌, ◌∙◌, ◌++◌, ◌∷◌, [], ◌<◌, ◌≤◌, ◌+◌, ◌-◌, ℕ, Bool, true, false, suc, List, map, length, get_or, take, drop, set, sym, ap, refl, subst, arith, append_assoc, length-append}
+use Rattle.std.proofs.Common.{◌≡◌, ◌∙◌, ◌++◌, ◌∷◌, [], ◌<◌, ◌+◌, ◌-◌, ℕ, false, List, map, length, get_or, take, drop, set, sym, ap, refl, subst, arith, append_assoc, length-append}
 use Rattle.std.proofs.lemmas.Bool.{true≢false}
 use Rattle.std.proofs.lemmas.List.{get_or-map, get_or_at, length-drop, length-map, length-take-le, take-append-drop, take-map, drop-map}
 use Rattle.std.proofs.lemmas.List.Elements.{All-from_recursion}
@@ -12,11 +12,11 @@ use Rattle.std.specs.declared.cmp.Ordering.TheVariants.{Less, Equal, Greater}
 use Rattle.feed_index.specs.declared.entry.Entry.{Entry}
 use Rattle.feed_index.specs.declared.row.Row.{Row}
 use Rattle.feed_index.specs.Entries.{Rising, put_all}
-use Rattle.feed_index.specs.Order.{AreRising, above, below, with_all, with_one}
+use Rattle.feed_index.specs.Order.{with_all, with_one}
 use Rattle.feed_index.specs.Rows.{AreSorted, IsGapAt, StandsAt, entries_of, entry_of}
 use Rattle.feed_index.specs.Staged.{AreStaged, IsNew}
 use Rattle.feed_index.proofs.MapLemmas.{all-map}
-use Rattle.feed_index.proofs.OrderLemmas.{AreBelow, each_joined, each_weaker}
+use Rattle.feed_index.proofs.OrderLemmas.{each_joined, each_weaker}
 use Rattle.feed_index.proofs.RisingLemmas.{rising_parts, split_at}
 use Rattle.feed_index.proofs.SetLemmas.{each_seen, each_shown, high_entries, low_entries, put_found, sorted_rows}
 use Rattle.feed_index.proofs.StageLemmas.{new_at_gap}

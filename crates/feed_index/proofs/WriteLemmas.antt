@@ -1,15 +1,13 @@
 -- What a sink got while some bytes are still gathered.
-use Rattle.std.proofs.Common.{◌≡◌, ◌∙◌, ◌++◌, ◌∷◌, [], ◌<◌, ◌≤◌, ◌+◌, ℕ, Bool, true, false, cond, List, Option, Some, None, take, drop, length, sym, ap, refl, subst, arith, append_assoc, get_or}
+use Rattle.std.proofs.Common.{◌≡◌, ◌∙◌, ◌++◌, ◌∷◌, [], ◌<◌, ◌+◌, ℕ, Bool, true, false, cond, List, Option, Some, None, take, drop, length, sym, ap, refl, subst, arith, append_assoc, get_or}
 use Rattle.std.proofs.lemmas.List.{append-nil, get_or-map, length-map, take_more, take-append-drop}
 use Rattle.std.proofs.Math.Seq.{take-length}
 use Rattle.std.proofs.lemmas.List.Concat.{flat_map-append}
 use Rattle.std.proofs.lemmas.List.Elements.{filter-append}
 use Rattle.std.specs.Prelude.{filter}
 use Rattle.std.specs.List.{flat_map}
-use Rattle.gw_base.specs.Count.{Counts, Rose}
 use Rattle.gw_base.specs.Told.{PutsUnless, with_bytes}
-use Rattle.gw_base.proofs.CountLemmas.{rose-after}
-use Rattle.gw_base.proofs.ToldLemmas.{puts_front, puts_more, puts_wider, with_bytes-with_bytes}
+use Rattle.gw_base.proofs.ToldLemmas.{puts_more, puts_wider, with_bytes-with_bytes}
 use Rattle.feed_index.specs.Chosen.{Sends, chosen}
 use Rattle.span_pool.specs.Spans.{bytes_of}
 use Rattle.feed_index.specs.declared.entry.Entry.{Entry}

@@ -1,6 +1,5 @@
 -- How an index keeps its entries: rows in the order of their keys, whose bytes are spans of a pool.
-use Rattle.std.specs.Prelude.{◌≡◌, ◌==◌, ◌+◌, ◌-◌, ◌<◌, ◌≤◌, ℕ, suc, List, [], Option, option_map, is_some, unwrap_or, length, map, count_by, take, drop, slice_index_or, if◌then◌else◌}
-use Rattle.std.specs.Ordering.{is_lt}
+use Rattle.std.specs.Prelude.{◌≡◌, ◌==◌, ◌+◌, ◌<◌, ◌≤◌, ℕ, suc, List, [], is_some, unwrap_or, length, map, count_by, take, drop, slice_index_or, if◌then◌else◌}
 use Rattle.std.specs.declared.cmp.Ordering.{Ordering}
 use Rattle.std.specs.declared.cmp.Ordering.TheVariants.{Equal}
 use Rattle.span_pool.specs.Spans.{Spans, bytes_of, live_bytes}

@@ -1,7 +1,7 @@
-use Rattle.std.proofs.Common.{◌≡◌, ◌∙◌, ◌<◌, ◌≤◌, ◌+◌, ◌-◌, ◌++◌, ap, refl, sym, length, take, drop, arith}
+use Rattle.std.proofs.Common.{◌≡◌, ◌∙◌, ◌<◌, ◌≤◌, ◌-◌, ◌++◌, ap, refl, length, take, drop, arith}
 use Rattle.std.proofs.lemmas.List.{length-map, take-append-drop, take-map, drop-map}
 use Rattle.std.proofs.lemmas.List.Sorted.{IsPermutation-append_comm}
-use Rattle.std.specs.Prelude.{IsPermutation, remove}
+use Rattle.std.specs.Prelude.{IsPermutation}
 use Rattle.feed_index.specs.Rows.{entries_of, entry_of}
 use Rattle.feed_index.proofs.ChangeLemmas.{cut_more}
 use Rattle.feed_index.proofs.HeldLemmas.{entries-append, held_moved}

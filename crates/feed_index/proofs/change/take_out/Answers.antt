@@ -1,5 +1,5 @@
-use Rattle.std.proofs.Common.{◌≡◌, ◌<◌, length, arith}
-use Rattle.feed_index.proofs.ChangeLemmas.{taken, is_live_at, value_is}
+use Rattle.std.proofs.Common.{◌<◌, length, arith}
+use Rattle.feed_index.proofs.ChangeLemmas.{taken, value_is}
 use Rattle.feed_index.proofs.change.take_out.Goals as goal
 
 pub returns-clause-held : goal.returns-clause-held

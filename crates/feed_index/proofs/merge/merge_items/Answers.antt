@@ -1,7 +1,6 @@
-use Rattle.std.proofs.Common.{◌≡◌, ◌≤◌, [], length, take, drop, refl, arith}
+use Rattle.std.proofs.Common.{◌≡◌, [], length, take, drop, refl, arith}
 use Rattle.std.proofs.lemmas.List.{drop_all, length-map, reverse-reverse, take_all}
 use Rattle.std.proofs.lemmas.List.Sorted.{sum_by-IsPermutation}
-use Rattle.std.specs.Prelude.{reverse}
 use Rattle.feed_index.specs.declared.entry.Entry.{Entry}
 use Rattle.feed_index.specs.Entries.{total}
 use Rattle.feed_index.specs.Rows.{entries_of, entry_of}

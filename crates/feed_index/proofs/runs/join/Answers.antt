@@ -1,8 +1,5 @@
-use Rattle.std.proofs.Common.{◌≡◌, List, length, take, drop, subst, sym, arith}
-use Rattle.std.specs.Prelude.{IsPermutation}
+use Rattle.std.proofs.Common.{take, drop, arith}
 use Rattle.feed_index.specs.declared.row.Row.{Row}
-use Rattle.feed_index.specs.Order.{with_all}
-use Rattle.feed_index.specs.Rows.{AreSorted}
 use Rattle.feed_index.proofs.HeldLemmas.{held_moved}
 use Rattle.feed_index.proofs.RisingLemmas.{rising_all}
 use Rattle.feed_index.proofs.StepLemmas.{kept}

@@ -1,4 +1,4 @@
-use Rattle.std.proofs.Common.{◌≡◌, ◌∙◌, sym}
+use Rattle.std.proofs.Common.{◌∙◌, sym}
 use Rattle.feed_index.specs.Rows.{IsGapAt, StandsAt}
 use Rattle.feed_index.proofs.SetLemmas.{put_found, put_gap, sorted_put, value_found, value_gap}
 use Rattle.feed_index.proofs.set.set.Goals as goal

@@ -1,4 +1,4 @@
-use Rattle.std.proofs.Common.{◌≡◌, ◌∙◌, sym}
+use Rattle.std.proofs.Common.{◌∙◌, sym}
 use Rattle.feed_index.specs.Rows.{IsGapAt, StandsAt}
 use Rattle.feed_index.proofs.SetLemmas.{removed_found, removed_gap, sorted_removed, value_found, value_gap}
 use Rattle.feed_index.proofs.set.unset.Goals as goal

@@ -1,7 +1,5 @@
 -- The last of what is gathered.
-use Rattle.std.proofs.Common.{◌≡◌, List, ℕ, rules}
 use Rattle.gw_base.specs.Count.{Rose}
-use Rattle.gw_base.specs.Told.{PutsUnless, with_bytes}
 use Rattle.gw_base.proofs.CountLemmas.{rose-after}
 use Rattle.feed_index.specs.Chosen.{chosen}
 use Rattle.feed_index.specs.Rows.{entries_of}

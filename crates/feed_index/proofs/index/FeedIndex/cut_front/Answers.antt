@@ -1,4 +1,4 @@
-use Rattle.std.proofs.Common.{arith, length}
+use Rattle.std.proofs.Common.{arith}
 use Rattle.feed_index.proofs.SetLemmas.{sorted_cut}
 use Rattle.feed_index.proofs.index.FeedIndex.cut_front.Goals as goal
 

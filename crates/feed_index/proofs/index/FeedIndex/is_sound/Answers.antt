@@ -1,5 +1,3 @@
-use Rattle.std.proofs.Common.{List}
-use Rattle.feed_index.specs.Entries.{Kept, Rising}
 use Rattle.feed_index.proofs.SetLemmas.{rising_entries}
 use Rattle.feed_index.proofs.index.FeedIndex.is_sound.Goals as goal
 
