@@ -1,0 +1,14 @@
+pub mod ChangeLemmas
+pub mod HeldLemmas
+pub mod PlaceLemmas
+pub mod MapLemmas
+pub mod OrderLemmas
+pub mod RisingLemmas
+pub mod SpanLemmas
+pub mod SetLemmas
+pub mod WriteLemmas
+pub mod RunLemmas
+pub mod StageLemmas
+pub mod TurnLemmas
+pub mod TakeLemmas
+pub mod StepLemmas

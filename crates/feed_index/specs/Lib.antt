@@ -1,0 +1,5 @@
+pub mod Chosen
+pub mod Entries
+pub mod Order
+pub mod Rows
+pub mod Staged

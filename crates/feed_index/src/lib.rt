@@ -1,0 +1,17 @@
+//! A list of entries in the order of their keys, each with a value and with bytes that stand in a pool of spans.
+//! A contract sees the list of (key, value, bytes), as `specs/Entries.antt` says.
+#![tactic(auto)]
+
+mod change;
+mod entry;
+mod index;
+mod merge;
+mod place;
+mod row;
+mod runs;
+mod set;
+mod write;
+
+pub use entry::Entry;
+pub use index::FeedIndex;
+pub use write::Choice;
