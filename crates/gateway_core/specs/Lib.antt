@@ -1,7 +1,10 @@
 pub mod Alerts
+pub mod Arrivals
 pub mod Deliveries
 pub mod Feeds
 pub mod Gives
 pub mod Reports
 pub mod Settings
+pub mod Standing
+pub mod Taking
 pub mod Winners
