@@ -1,7 +1,10 @@
 mod FeedLemmas
 mod GivesLemmas
 mod HeldLemmas
+mod LatestLemmas
 mod OneLemmas
+mod OrderedLemmas
 mod ReportLemmas
+mod RoomLemmas
 mod TakenLemmas
 mod WinnerLemmas

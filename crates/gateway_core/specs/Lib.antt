@@ -3,6 +3,7 @@ pub mod Arrivals
 pub mod Deliveries
 pub mod Feeds
 pub mod Gives
+pub mod Keeping
 pub mod Reports
 pub mod Settings
 pub mod Standing
