@@ -5,6 +5,8 @@ mod LatestLemmas
 mod OneLemmas
 mod OrderedLemmas
 mod ReportLemmas
+mod RollLemmas
 mod RoomLemmas
 mod TakenLemmas
+mod WindowLemmas
 mod WinnerLemmas
