@@ -1,6 +1,7 @@
 mod FeedLemmas
 mod GivesLemmas
 mod HeldLemmas
+mod KeepsLemmas
 mod LatestLemmas
 mod OneLemmas
 mod OrderedLemmas

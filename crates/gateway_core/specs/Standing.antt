@@ -1,6 +1,6 @@
 -- What a gateway keeps, and the arrivals that it stands for (SIRI 2.0, EstimatedVehicleJourney and PtSituationElement; GTFS
 -- Realtime, FeedMessage).
-use Rattle.std.specs.Prelude.{◌≡◌, ℕ, ℤ, pos, Bool, true, List, [], ◌∷◌, map, find}
+use Rattle.std.specs.Prelude.{◌≡◌, ℕ, ℤ, pos, Bool, List, [], ◌∷◌}
 use Rattle.gw_base.specs.declared.messages.Feed.{Feed}
 use Rattle.feed_messages.specs.Written.{written}
 use Rattle.journey_model.specs.Records.{Recorded}
@@ -14,9 +14,11 @@ use Rattle.reverse_calls.specs.Siri.{IsSiri}
 use Rattle.service_day.specs.Windows.{DayStarts}
 use Rattle.alert_map.specs.Alerts.{alert_message}
 use Rattle.latest_store.specs.Entities.{entity}
-use Rattle.latest_store.specs.Latest.{HasLatest, HasNewest, has_number, is_of}
+use Rattle.latest_store.specs.Latest.{has_number, is_newer, was_later}
 use Rattle.gateway_core.specs.Arrivals.{Arrival, EachCanBeServed, Given, admitted_situations, feed, journeys, moments_of, present, schedule_at, situations, window_at}
-use Rattle.gateway_core.specs.Feeds.{are_ordered_by, comes_before, has_lesser_number}
+use Rattle.gateway_core.specs.Feeds.{comes_before, has_lesser_number}
+use Rattle.gateway_core.specs.Keeping.{Keeps}
+use Rattle.gateway_core.specs.Winners.{has_key}
 use Rattle.gateway_core.specs.declared.setting.Setting.{Setting}
 
 -- what is kept under a key: a value and bytes
@@ -40,6 +42,14 @@ abbrev pub situation_entry : Table → Situation → SituationEntry
 situation_entry table one =
     record { key = one.number; value = (one.version, one.served); bytes = written (alert_message table one) }
 
+-- entries are those of the latest of these records, one for each journey, by service day and then trip number
+abbrev pub KeepsJourneys : Schedule → List Recorded → List JourneyEntry → Type 0
+KeepsJourneys schedule records entries = Keeps has_key was_later comes_before (journey_entry schedule) records entries
+
+-- and entries are those of the newest of these situations, one for each number, by its bytes
+abbrev pub KeepsSituations : Table → List Situation → List SituationEntry → Type 0
+KeepsSituations table all entries = Keeps has_number is_newer has_lesser_number (situation_entry table) all entries
+
 -- a gateway as contracts see it
 pub record Kept : Type 0 where
   pub setting : Setting
@@ -60,18 +70,11 @@ IsLastSiri setting [] text = text ≡ delivery_text (schedule_at setting []) (po
 IsLastSiri setting (one ∷ earlier) text =
     OfFeedOr (schedule_at setting (one.moment ∷ moments_of earlier)) one.moment one.gives text (IsLastSiri setting earlier text)
 
--- a gateway stands for what arrived: its window is the one of that moment; of each journey present it keeps the entity of the latest
--- record, by service day and trip number, and of each number admitted the alert of the newest situation, by its bytes; its text is
--- that of the last feed
+-- a gateway stands for what arrived: its window is the one of that moment; it keeps the entity of the latest record of each journey
+-- present, and the alert of the newest situation of each number admitted; its text is that of the last feed
 pub record Stands (kept : Kept) (arrivals : List Arrival) : Type 0 where
   pub judged : EachCanBeServed kept.setting arrivals
-  pub window : kept.window ≡ window_at kept.setting (moments_of arrivals)
-  pub ordered : List Recorded
-  pub in_order : are_ordered_by comes_before ordered ≡ true
-  pub latest : (trip : ℕ) (day : ℤ) → HasLatest (present kept.setting arrivals) trip day (find (is_of trip day) ordered)
-  pub journeys_are : kept.journeys ≡ map (journey_entry (schedule_at kept.setting (moments_of arrivals))) ordered
-  pub numbered : List Situation
-  pub by_number : are_ordered_by has_lesser_number numbered ≡ true
-  pub newest : (number : List ℕ) → HasNewest (admitted_situations arrivals) number (find (has_number number) numbered)
-  pub situations_are : kept.situations ≡ map (situation_entry (seen kept.setting.table)) numbered
+  pub window_is : kept.window ≡ window_at kept.setting (moments_of arrivals)
+  pub journeys_are : KeepsJourneys (schedule_at kept.setting (moments_of arrivals)) (present kept.setting arrivals) kept.journeys
+  pub situations_are : KeepsSituations (seen kept.setting.table) (admitted_situations arrivals) kept.situations
   pub text_is : IsLastSiri kept.setting arrivals kept.text
