@@ -1,10 +1,12 @@
 -- What is kept of each key while more is admitted.
 use Rattle.std.proofs.Common.{◌≡◌, ◌∙◌, ◌++◌, ◌∷◌, ◌||◌, ◌&&◌, [], ℕ, suc, Bool, true, false, cond, not, List, map, Option, Some, None, option_map, ap, sym, refl, subst, Result, Ok, Err}
+use Rattle.std.proofs.lemmas.Bool.{and_parts, both_ways}
 use Rattle.std.proofs.lemmas.Cmp.{eq_by_cmp_equiv}
+use Rattle.std.proofs.lemmas.Option.{none-some, same_Some}
 use Rattle.std.proofs.lemmas.List.{append-nil, append_assoc}
 use Rattle.std.proofs.lemmas.List.Elements.{filter-append, filter_map-append}
 use Rattle.std.specs.Prelude.{filter, find, is_some, length, nat_lt}
-use Rattle.std.specs.List.{AllByRecursion, filter_map, list_any}
+use Rattle.std.specs.List.{AllByRecursion, filter_map, list_all, list_any}
 use Rattle.std.specs.Ordering.{is_eq, is_lt}
 use Rattle.std.specs.Result.{result_ok}
 use Rattle.std.specs.declared.cmp.Ordering.{Ordering}
@@ -14,12 +16,13 @@ use Rattle.journey_model.specs.declared.fault.Fault.TheVariants.{Full}
 use Rattle.latest_store.specs.Latest.{HasLatestOf, IsLatestOf}
 use Rattle.gateway_core.specs.Arrivals.{has_room}
 use Rattle.gateway_core.specs.Deliveries.{taken}
+use Rattle.gateway_core.specs.Feeds.{are_ordered_by}
 use Rattle.gateway_core.specs.Keeping.{AreLatest, Keeps, at_key, with_one}
 use Rattle.gateway_core.specs.Taking.{with_room}
 use Rattle.gateway_core.specs.Winners.{IsKeyed, counts_by}
 use Rattle.gateway_core.proofs.HeldLemmas.{all_among}
-use Rattle.gateway_core.proofs.LatestLemmas.{latest_filter, latest_put, latest_same, room_is}
-use Rattle.gateway_core.proofs.OrderedLemmas.{map-put}
+use Rattle.gateway_core.proofs.LatestLemmas.{key_is, latest_filter, latest_put, latest_same, none_behind, own, room_is}
+use Rattle.gateway_core.proofs.OrderedLemmas.{map-put, some_found}
 use Rattle.gateway_core.proofs.RollLemmas.{all_with_room, filter_all}
 
 -- ---- what has room, verdict by verdict
@@ -157,3 +160,87 @@ module _ {A Q E : Type 0} (cmp : Q → Q → Ordering) (key_of : A → Q) (is_it
     are_latest = latest_filter cmp key_of is_its is_later keyed comes_before by_key p passes same all h.ordered h.are_latest;
     entries_are = refl;
   }
+
+  -- what holds of all holds of what is kept
+  pub all_latest : (P : A → Type 0) (all xs : List A) → AreLatest is_its is_later comes_before all xs → AllByRecursion P all → AllByRecursion P xs
+  all_latest P all xs h holds = each_found xs h.in_order (λ q x e. of (find (is_its q) xs) q (h.latest q) x e)
+    where
+      of : (found : Option A) (q : Q) → HasLatestOf (is_its q) is_later all found → (x : A) → found ≡ Some x → P x
+      of None q none x e = absurd (none-some x e)
+      of (Some one) q l x e = subst P (same_Some one x e) (all_among P l.before one l.behind (subst (AllByRecursion P) l.among holds))
+
+      each_found : (xs : List A) → are_ordered_by comes_before xs ≡ true → ((q : Q) (x : A) → find (is_its q) xs ≡ Some x → P x) → AllByRecursion P xs
+      each_found [] order f = tt
+      each_found (x ∷ xs) order f =
+          let both = and_parts (list_all (comes_before x) xs) (are_ordered_by comes_before xs) order in
+          (f (key_of x) x (ap (λ (b : Bool). cond b (Some x) (find (is_its (key_of x)) xs)) (own cmp key_of is_its is_later keyed comes_before by_key x)),
+          each_found xs both.1 (λ q y e. f q y (by q y (is_its q x) refl both.0 e)))
+        where
+          by : (q : Q) (y : A) (b : Bool) → is_its q x ≡ b → list_all (comes_before x) xs ≡ true → find (is_its q) xs ≡ Some y → cond b (Some x) (find (is_its q) xs) ≡ Some y
+          by q y false its before e = e
+          by q y true its before e =
+              let none : list_any (is_its q) xs ≡ false =
+              ap (λ (key : Q). list_any (is_its key) xs) (key_is cmp key_of is_its is_later keyed comes_before by_key q x its) ∙ none_behind cmp key_of is_its is_later keyed comes_before by_key x xs before in
+              absurd (both_ways (list_any (is_its q) xs) none (some_found (is_its q) xs y e))
+
+  -- ---- a delivery's verdicts, one by one
+
+  module _ (counts : A → Bool) (passes : Q → Bool) (same : (a : A) → counts a ≡ passes (key_of a)) (limit : ℕ) (before : List A) where
+    abbrev pub is_same : A → A → Bool
+    is_same a b = is_its (key_of a) b
+
+    -- entries are those of what counts of before and of what so far has room
+    abbrev pub KeepsAfter : List (Result A Fault) → List E → Type 0
+    KeepsAfter so_far entries = IsKept (filter counts before ++ taken (roomy is_same counts limit before so_far)) entries
+
+    pub after_none : (entries : List E) → IsKept (filter counts before) entries → KeepsAfter [] entries
+    after_none entries h = subst (λ (all : List A). IsKept all entries) (sym (append-nil (filter counts before))) h
+
+    after_same : (so_far more : List (Result A Fault)) (entries : List E) → taken (roomy is_same counts limit before more) ≡ taken (roomy is_same counts limit before so_far)
+        → KeepsAfter so_far entries → KeepsAfter more entries
+    after_same so_far more entries e h = subst (λ (new : List A). IsKept (filter counts before ++ new) entries) (sym e) h
+
+    pub after_aside : (so_far : List (Result A Fault)) (fault : Fault) (entries : List E) → KeepsAfter so_far entries → KeepsAfter (so_far ++ Err fault ∷ []) entries
+    after_aside so_far fault entries h =
+        after_same so_far (so_far ++ Err fault ∷ []) entries
+        (ap (λ (vs : List (Result A Fault)). taken vs) (roomy_aside is_same counts limit before so_far fault) ∙ taken_same (roomy is_same counts limit before so_far) fault) h
+
+    pub after_full : (so_far : List (Result A Fault)) (one : A) (entries : List E) → has_room is_same counts limit (now_admitted is_same counts limit before so_far) one ≡ false
+        → KeepsAfter so_far entries → KeepsAfter (so_far ++ Ok one ∷ []) entries
+    after_full so_far one entries full h =
+        after_same so_far (so_far ++ Ok one ∷ []) entries
+        (ap (λ (vs : List (Result A Fault)). taken vs) (roomy_full is_same counts limit before so_far one full) ∙ taken_same (roomy is_same counts limit before so_far) Full) h
+
+    one_more : (so_far : List (Result A Fault)) (one : A) (entries : List E) → has_room is_same counts limit (now_admitted is_same counts limit before so_far) one ≡ true
+        → IsKept ((filter counts before ++ taken (roomy is_same counts limit before so_far)) ++ one ∷ []) entries → KeepsAfter (so_far ++ Ok one ∷ []) entries
+    one_more so_far one entries room h =
+        subst (λ (all : List A). IsKept all entries)
+        (append_assoc (filter counts before) (taken (roomy is_same counts limit before so_far)) (one ∷ [])
+        ∙ ap (λ (new : List A). filter counts before ++ new)
+        (sym (ap (λ (vs : List (Result A Fault)). taken vs) (roomy_taken is_same counts limit before so_far one room) ∙ taken_more (roomy is_same counts limit before so_far) one))) h
+
+    module _ (later_than : E → A → Bool) (later_is : (old one : A) → later_than (entry old) one ≡ is_later old one) where
+      pub after_won : (so_far : List (Result A Fault)) (one : A) (entries : List E) → has_room is_same counts limit (now_admitted is_same counts limit before so_far) one ≡ true
+          → counts_over later_than later_is (at_key key_in cmp entries (key_of one)) one ≡ true → KeepsAfter so_far entries
+          → KeepsAfter (so_far ++ Ok one ∷ []) (with_one key_in cmp entries (entry one))
+      after_won so_far one entries room won h =
+          one_more so_far one (with_one key_in cmp entries (entry one)) room
+          (keeps_put later_than later_is (filter counts before ++ taken (roomy is_same counts limit before so_far)) entries one h won)
+
+      pub after_lost : (so_far : List (Result A Fault)) (one : A) (entries : List E) → has_room is_same counts limit (now_admitted is_same counts limit before so_far) one ≡ true
+          → counts_over later_than later_is (at_key key_in cmp entries (key_of one)) one ≡ false → KeepsAfter so_far entries
+          → KeepsAfter (so_far ++ Ok one ∷ []) entries
+      after_lost so_far one entries room lost h =
+          one_more so_far one entries room
+          (keeps_same later_than later_is (filter counts before ++ taken (roomy is_same counts limit before so_far)) entries one h lost)
+
+    -- one that counts has room where one of its key is kept or fewer are than the limit
+    pub after_room : (so_far : List (Result A Fault)) (one : A) (entries : List E) → counts one ≡ true → AllByRecursion (λ a. counts a ≡ true) (taken so_far)
+        → KeepsAfter so_far entries
+        → has_room is_same counts limit (now_admitted is_same counts limit before so_far) one ≡ (is_some (at_key key_in cmp entries (key_of one)) || nat_lt (length entries) limit)
+    after_room so_far one entries its each h =
+        keeps_room counts passes limit (now_admitted is_same counts limit before so_far) entries one same its
+        (subst (λ (all : List A). IsKept all entries)
+        (ap (λ (new : List A). filter counts before ++ new)
+        (sym (filter_all counts (taken (roomy is_same counts limit before so_far)) (all_with_room (λ a. counts a ≡ true) is_same counts limit before so_far each)))
+        ∙ sym (filter-append counts before (taken (roomy is_same counts limit before so_far)))) h)

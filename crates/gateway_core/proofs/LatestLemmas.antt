@@ -37,10 +37,10 @@ all_stay {X} p (x ∷ xs) h = by (p x) (all_stay p xs) h
 module _ {A Q : Type 0} (cmp : Q → Q → Ordering) (key_of : A → Q) (is_its : Q → A → Bool) (is_later : A → A → Bool)
     (keyed : IsKeyed cmp key_of is_its is_later) (comes_before : A → A → Bool)
     (by_key : (a b : A) → comes_before a b ≡ is_lt (cmp (key_of a) (key_of b))) where
-  key_is : (q : Q) (a : A) → is_its q a ≡ true → q ≡ key_of a
+  pub key_is : (q : Q) (a : A) → is_its q a ≡ true → q ≡ key_of a
   key_is q a its = of_key cmp key_of is_its is_later keyed comes_before by_key q a its
 
-  own : (a : A) → is_its (key_of a) a ≡ true
+  pub own : (a : A) → is_its (key_of a) a ≡ true
   own a = keyed.its (key_of a) a ∙ (eq_by_cmp_equiv keyed.total).refl (key_of a)
 
   -- ---- one more
@@ -103,7 +103,7 @@ module _ {A Q : Type 0} (cmp : Q → Q → Ordering) (key_of : A → Q) (is_its 
   AreDistinct [] = Unit {0}
   AreDistinct (x ∷ xs) = (list_any (is_its (key_of x)) xs ≡ false) × AreDistinct xs
 
-  none_behind : (a : A) (xs : List A) → list_all (comes_before a) xs ≡ true → list_any (is_its (key_of a)) xs ≡ false
+  pub none_behind : (a : A) (xs : List A) → list_all (comes_before a) xs ≡ true → list_any (is_its (key_of a)) xs ≡ false
   none_behind a [] h = refl
   none_behind a (x ∷ xs) h =
       let both = and_parts (comes_before a x) (list_all (comes_before a) xs) h in
