@@ -8,6 +8,7 @@ mod OrderedLemmas
 mod ReportLemmas
 mod RollLemmas
 mod RoomLemmas
+mod StandingLemmas
 mod TakenLemmas
 mod WindowLemmas
 mod WinnerLemmas
