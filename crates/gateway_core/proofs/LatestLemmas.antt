@@ -99,7 +99,7 @@ module _ {A Q : Type 0} (cmp : Q → Q → Ordering) (key_of : A → Q) (is_its 
 
   -- ---- how many there are
 
-  abbrev AreDistinct : List A → Type 0
+  abbrev pub AreDistinct : List A → Type 0
   AreDistinct [] = Unit {0}
   AreDistinct (x ∷ xs) = (list_any (is_its (key_of x)) xs ≡ false) × AreDistinct xs
 
@@ -121,7 +121,7 @@ module _ {A Q : Type 0} (cmp : Q → Q → Ordering) (key_of : A → Q) (is_its 
       let both = and_parts (list_all (comes_before x) xs) (are_ordered_by comes_before xs) h in
       (none_behind x xs both.0, distinct_ordered xs both.1)
 
-  fewer : (t p : A → Bool) (xs : List A) → list_any t xs ≡ false → list_any t (filter p xs) ≡ false
+  pub fewer : (t p : A → Bool) (xs : List A) → list_any t xs ≡ false → list_any t (filter p xs) ≡ false
   fewer t p [] h = refl
   fewer t p (x ∷ xs) h = by (t x) (p x) refl (fewer t p xs) h
     where
@@ -131,7 +131,7 @@ module _ {A Q : Type 0} (cmp : Q → Q → Ordering) (key_of : A → Q) (is_its 
       by false true e rest f = rw e (rest f)
       by false false e rest f = rest f
 
-  distinct_filter : (p : A → Bool) (xs : List A) → AreDistinct xs → AreDistinct (filter p xs)
+  pub distinct_filter : (p : A → Bool) (xs : List A) → AreDistinct xs → AreDistinct (filter p xs)
   distinct_filter p [] h = tt
   distinct_filter p (x ∷ xs) h = by (p x) (distinct_filter p xs h.1)
     where
@@ -140,20 +140,20 @@ module _ {A Q : Type 0} (cmp : Q → Q → Ordering) (key_of : A → Q) (is_its 
       by false rest = rest
 
   -- of each key the first
-  abbrev is_same : A → A → Bool
+  abbrev pub is_same : A → A → Bool
   is_same a b = is_its (key_of a) b
 
   not_true : (b : Bool) → b ≡ true → not b ≡ false
   not_true b e = ap not e
 
-  distinct_firsts : (all : List A) → AreDistinct (firsts is_same all)
+  pub distinct_firsts : (all : List A) → AreDistinct (firsts is_same all)
   distinct_firsts [] = tt
   distinct_firsts (one ∷ others) =
       (any-filter_same (is_same one) (λ other. not (is_same one other)) false (λ a its. not_true (is_same one a) its) (firsts is_same others),
       distinct_filter (λ other. not (is_same one other)) (firsts is_same others) (distinct_firsts others))
 
   -- one of a key is of no other
-  no_other : (q : Q) (a b : A) → is_its q a ≡ false → is_its q b ≡ true → not (is_its (key_of a) b) ≡ true
+  pub no_other : (q : Q) (a b : A) → is_its q a ≡ false → is_its q b ≡ true → not (is_its (key_of a) b) ≡ true
   no_other q a b lost its = by (is_its (key_of a) b) refl
     where
       by : (c : Bool) → is_its (key_of a) b ≡ c → not c ≡ true
@@ -162,7 +162,7 @@ module _ {A Q : Type 0} (cmp : Q → Q → Ordering) (key_of : A → Q) (is_its 
           let same : q ≡ key_of a = key_is q b its ∙ sym (key_is (key_of a) b e) in
           absurd (both_ways (is_its q a) lost (ap (λ (key : Q). is_its key a) same ∙ own a))
 
-  any_firsts : (q : Q) (all : List A) → list_any (is_its q) (firsts is_same all) ≡ list_any (is_its q) all
+  pub any_firsts : (q : Q) (all : List A) → list_any (is_its q) (firsts is_same all) ≡ list_any (is_its q) all
   any_firsts q [] = refl
   any_firsts q (one ∷ others) = by (is_its q one) refl (any_firsts q others)
     where

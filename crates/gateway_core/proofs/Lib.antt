@@ -4,7 +4,9 @@ mod HeldLemmas
 mod KeepsLemmas
 mod LatestLemmas
 mod OneLemmas
+mod OrderOfArrival
 mod OrderedLemmas
+mod RecordingLemmas
 mod ReportLemmas
 mod RollLemmas
 mod RoomLemmas

@@ -4,6 +4,7 @@ pub mod Deliveries
 pub mod Feeds
 pub mod Gives
 pub mod Keeping
+pub mod Recording
 pub mod Reports
 pub mod Settings
 pub mod Standing
