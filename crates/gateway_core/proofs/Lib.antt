@@ -11,6 +11,7 @@ mod ReportLemmas
 mod RollLemmas
 mod RoomLemmas
 mod StandingLemmas
+mod StepLemmas
 mod TakenLemmas
 mod WindowLemmas
 mod WinnerLemmas

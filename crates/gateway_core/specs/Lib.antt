@@ -8,5 +8,6 @@ pub mod Recording
 pub mod Reports
 pub mod Settings
 pub mod Standing
+pub mod Steps
 pub mod Taking
 pub mod Winners
