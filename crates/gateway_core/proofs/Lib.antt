@@ -6,10 +6,12 @@ mod LatestLemmas
 mod OneLemmas
 mod OrderOfArrival
 mod OrderedLemmas
+mod PutLemmas
 mod RecordingLemmas
 mod ReportLemmas
 mod RollLemmas
 mod RoomLemmas
+mod SortLemmas
 mod StandingLemmas
 mod StepLemmas
 mod TakenLemmas
