@@ -1,5 +1,5 @@
 -- The latest of each key is held while things arrive.
-use Rattle.std.proofs.Common.{◌≡◌, ◌∙◌, ◌++◌, ◌∷◌, [], ℕ, suc, Bool, true, false, cond, not, ◌||◌, ◌&&◌, List, map, Option, Some, None, option_map, sym, ap, refl, subst}
+use Rattle.std.proofs.Common.{◌≡◌, ◌∙◌, ◌++◌, ◌∷◌, [], ℕ, suc, Bool, true, false, cond, not, ◌||◌, List, map, Option, Some, None, option_map, sym, ap, refl, subst}
 use Rattle.std.proofs.lemmas.Bool.{true≢false}
 use Rattle.std.proofs.lemmas.Cmp.{on_total}
 use Rattle.std.proofs.lemmas.List.{append_assoc}

@@ -1,5 +1,5 @@
 -- Of each key the latest, in the order of the keys: with one more, of those that pass a test, and how many they are.
-use Rattle.std.proofs.Common.{◌≡◌, ◌∙◌, ◌++◌, ◌∷◌, ◌||◌, ◌&&◌, ◌+◌, [], ℕ, suc, Bool, true, false, cond, not, List, map, Option, Some, None, ap, sym, refl, subst, arith}
+use Rattle.std.proofs.Common.{◌≡◌, ◌∙◌, ◌++◌, ◌∷◌, ◌||◌, [], ℕ, suc, Bool, true, false, cond, not, List, Option, Some, None, ap, sym, refl, subst}
 use Rattle.std.proofs.lemmas.Bool.{true≢false, and_parts, both_ways}
 use Rattle.std.proofs.lemmas.Cmp.{eq_by_cmp_equiv}
 use Rattle.std.proofs.lemmas.List.Elements.{filter-append}
@@ -10,12 +10,12 @@ use Rattle.std.specs.Ordering.{is_eq, is_lt}
 use Rattle.std.specs.declared.cmp.Ordering.{Ordering}
 use Rattle.std.specs.declared.cmp.Ordering.TheVariants.{Less, Equal, Greater}
 use Rattle.gateway_core.specs.Keeping.{AreLatest, with_one}
-use Rattle.latest_store.specs.Latest.{HasLatestOf, IsLatestOf}
+use Rattle.latest_store.specs.Latest.{HasLatestOf}
 use Rattle.gateway_core.specs.Winners.{IsKeyed, counts_by}
 use Rattle.gateway_core.specs.Feeds.{are_ordered_by}
 use Rattle.gateway_core.specs.Arrivals.{firsts, has_room}
 use Rattle.gateway_core.proofs.HeldLemmas.{IsEarlier, IsNoLater, latest_at, latest_other, latest_stays}
-use Rattle.gateway_core.proofs.OrderedLemmas.{find_filter, find_put, found_passes, none_found, of_key, ordered_filter, put_ordered, some_found}
+use Rattle.gateway_core.proofs.OrderedLemmas.{find_filter, find_put, none_found, of_key, ordered_filter, put_ordered, some_found}
 
 all_filtered : {X : Type 0} (P : X → Type 0) (p : X → Bool) (xs : List X) → AllByRecursion P xs → AllByRecursion P (filter p xs)
 all_filtered P p [] h = tt

@@ -1,22 +1,20 @@
 -- Of the same records and situations, in any two orders of arrival, the same is rebuilt.
-use Rattle.std.proofs.Common.{◌≡◌, ◌∙◌, ◌++◌, ◌∷◌, ◌||◌, ◌&&◌, ◌≤◌, [], ℕ, ℤ, Bool, true, false, List, Option, Some, None, ap, sym, refl, subst, arith}
-use Rattle.std.proofs.lemmas.Bool.{both_ways, or_left, true≢false}
+use Rattle.std.proofs.Common.{◌≡◌, ◌∙◌, ◌++◌, ◌∷◌, ◌≤◌, [], ℕ, ℤ, Bool, true, false, List, ap, sym, refl, subst, arith}
+use Rattle.std.proofs.lemmas.Bool.{or_left}
 use Rattle.std.proofs.lemmas.Int.{ints}
 use Rattle.std.proofs.lemmas.List.Folds.{list_any-append}
 use Rattle.std.proofs.lemmas.List.Sorted.{Contains-permutation, IsPermutation-sym, list_any-IsPermutation}
-use Rattle.std.specs.Prelude.{filter, find, int_lt, length, nat_lt}
+use Rattle.std.specs.Prelude.{filter, find, length, nat_lt}
 use Rattle.std.specs.Cmp.Lexicographic.{slice_cmp}
-use Rattle.std.specs.List.{Contains, list_any}
-use Rattle.std.specs.List.Sorted.{IsPermutation}
-use Rattle.std.specs.Ordering.{int_eq, nat_cmp}
+use Rattle.std.specs.List.{list_any}
+use Rattle.std.specs.Ordering.{nat_cmp}
 use Rattle.service_day.specs.Windows.{DayStarts}
 use Rattle.journey_model.specs.Records.{Recorded}
-use Rattle.journey_model.specs.Schedules.{Schedule}
 use Rattle.journey_model.specs.declared.situation.Situation.{Situation}
 use Rattle.stop_schedule.specs.Seen.{seen}
 use Rattle.latest_store.specs.Latest.{HasLatest, HasNewest, has_number, is_later, is_newer, is_of, was_later}
 use Rattle.gateway_core.specs.Arrivals.{Arrival, admit, admitted, admitted_situations, always, firsts, is_same_journey, is_same_number, is_within, moments_of, present, records_of, schedule_at, situations_of, window_at}
-use Rattle.gateway_core.specs.Feeds.{IsFeedOf, IsRebuilt, comes_before, entities_of, has_lesser_number}
+use Rattle.gateway_core.specs.Feeds.{IsFeedOf, comes_before, entities_of, has_lesser_number}
 use Rattle.gateway_core.specs.Recording.{AreDecided, ArriveAlike, IsRebuiltOf, every_record, every_situation}
 use Rattle.gateway_core.specs.Winners.{has_key, key_cmp, key_of}
 use Rattle.gateway_core.specs.declared.setting.Setting.{Setting}

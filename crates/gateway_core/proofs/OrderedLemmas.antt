@@ -1,11 +1,8 @@
 -- Lists in the order of their keys: one more element at its key, those that pass a test, and how many there are.
-use Rattle.std.proofs.Common.{◌≡◌, ◌∙◌, ◌++◌, ◌∷◌, ◌||◌, ◌&&◌, ◌+◌, [], ℕ, suc, Bool, true, false, cond, not, List, map, Option, Some, None, ap, sym, refl, subst, arith}
-use Rattle.std.proofs.lemmas.Bool.{true≢false, and_parts, both_ways}
-use Rattle.std.proofs.lemmas.Cmp.{eq_by_cmp_equiv}
-use Rattle.std.proofs.lemmas.List.{append-nil, append_assoc}
-use Rattle.std.proofs.lemmas.List.Folds.{list_any-append, list_all-append, find-append}
-use Rattle.std.specs.Prelude.{find, filter, length}
-use Rattle.std.specs.Cmp.{IsTotalOrder}
+use Rattle.std.proofs.Common.{◌≡◌, ◌∙◌, ◌++◌, ◌∷◌, ◌||◌, [], Bool, true, false, cond, List, map, Option, Some, None, ap, sym, refl}
+use Rattle.std.proofs.lemmas.Bool.{and_parts}
+use Rattle.std.proofs.lemmas.List.Folds.{list_all-append, find-append}
+use Rattle.std.specs.Prelude.{find, filter}
 use Rattle.std.specs.List.{list_all, list_any}
 use Rattle.std.specs.Option.{option_or}
 use Rattle.std.specs.Ordering.{is_eq, is_gt, is_lt, ordering_reverse}

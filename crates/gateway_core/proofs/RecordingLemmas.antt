@@ -1,5 +1,5 @@
 -- The moments of recording decide, and not the order in which records arrive.
-use Rattle.std.proofs.Common.{◌≡◌, ◌∙◌, ◌++◌, ◌∷◌, ◌||◌, ◌&&◌, ◌<◌, ◌≤◌, ◌+◌, [], ℕ, zero, suc, Bool, true, false, cond, not, List, map, Option, Some, None, ap, sym, refl, subst, arith}
+use Rattle.std.proofs.Common.{◌≡◌, ◌∙◌, ◌++◌, ◌∷◌, ◌||◌, ◌&&◌, ◌<◌, ◌≤◌, [], ℕ, zero, suc, Bool, true, false, cond, not, List, Option, Some, None, ap, sym, refl, subst, arith}
 use Rattle.std.proofs.lemmas.Bool.{true≢false, and_parts, both_ways, or_left, or_right}
 use Rattle.std.proofs.lemmas.List.{append-nil, append_assoc}
 use Rattle.std.proofs.lemmas.List.Folds.{list_any-append}
@@ -14,7 +14,7 @@ use Rattle.latest_store.specs.Latest.{HasLatestOf, IsLatestOf}
 use Rattle.gateway_core.specs.Winners.{IsKeyed}
 use Rattle.gateway_core.specs.Arrivals.{admit, firsts, has_room}
 use Rattle.gateway_core.proofs.HeldLemmas.{IsEarlier, IsNoLater, all_joined}
-use Rattle.gateway_core.proofs.LatestLemmas.{AreDistinct, any_firsts, distinct_filter, distinct_firsts, fewer, is_same, key_is, no_other, own}
+use Rattle.gateway_core.proofs.LatestLemmas.{AreDistinct, any_firsts, distinct_firsts, fewer, key_is, no_other, own}
 
 -- ---- elements
 

@@ -1,25 +1,25 @@
 -- The window rolls: it begins no earlier than before, and what is present then is what was present, less what it left behind.
 use Rattle.std.specs.Ordering.{int_eq}
-use Rattle.std.proofs.Common.{◌||◌, ◌≡◌, ◌∙◌, ◌++◌, ◌∷◌, ◌&&◌, ◌<◌, ◌+◌, [], ℕ, ℤ, zero, suc, pos, Bool, true, false, cond, not, List, map, Option, Some, None, ap, sym, refl, subst, arith, Result, Ok, Err, take, drop}
-use Rattle.std.proofs.lemmas.Bool.{true≢false, and_parts, both_ways}
+use Rattle.std.proofs.Common.{◌||◌, ◌≡◌, ◌∙◌, ◌++◌, ◌∷◌, ◌&&◌, ◌<◌, ◌+◌, [], ℕ, ℤ, zero, suc, pos, Bool, true, false, cond, not, List, map, Option, Some, None, ap, sym, refl, arith, Result, Ok, Err, take, drop}
+use Rattle.std.proofs.lemmas.Bool.{and_parts, both_ways}
 use Rattle.std.proofs.lemmas.Int.{int_max_is, ints}
 use Rattle.std.proofs.Math.Nat.{le-max_left}
 use borrow.Author.Differences.{down, up}
 use Rattle.std.proofs.lemmas.List.Elements.{filter-append}
 use Rattle.std.proofs.lemmas.List.FromFn.{length-map-range_with_len}
-use Rattle.std.specs.Prelude.{◌+ℤ◌, ◌-ℤ◌, ◌≤ℤ◌, filter, int_le, int_lt, nat_lt, is_some, length, option_map, slice_index_or}
-use Rattle.std.specs.Int.{int_max, int_min}
+use Rattle.std.specs.Prelude.{◌+ℤ◌, ◌≤ℤ◌, filter, int_le, int_lt, nat_lt, is_some, length, option_map, slice_index_or}
+use Rattle.std.specs.Int.{int_max}
 use Rattle.std.specs.List.{AllByRecursion, flat_map, list_all}
 use Rattle.service_day.specs.Starts.{start}
-use Rattle.service_day.specs.Windows.{DayStarts, start_among, start_in}
+use Rattle.service_day.specs.Windows.{DayStarts, start_in}
 use Rattle.feed_messages.specs.Written.{written}
 use Rattle.journey_model.specs.Records.{Recorded}
 use Rattle.journey_model.specs.Runs.{Run}
-use Rattle.journey_model.specs.Schedules.{IsServable, Schedule, run_from, run_on}
+use Rattle.journey_model.specs.Schedules.{IsServable, Schedule, run_from}
 use Rattle.journey_model.specs.declared.fault.Fault.{Fault}
 use Rattle.journey_model.specs.declared.fault.Fault.TheVariants.{Full}
 use Rattle.latest_store.specs.Entities.{entity, messages_on}
-use Rattle.gateway_core.specs.Arrivals.{Arrival, CanBeServed, EachCanBeServed, Given, admit, admitted, feed, first_after, first_day, has_room, is_same_journey, is_within, journeys, kept_from, moments_of, present, records_of, schedule_at, window_at}
+use Rattle.gateway_core.specs.Arrivals.{Arrival, EachCanBeServed, admit, admitted, first_after, first_day, has_room, is_same_journey, is_within, journeys, kept_from, moments_of, present, records_of, schedule_at, window_at}
 use Rattle.gateway_core.specs.Deliveries.{taken}
 use Rattle.gateway_core.specs.Feeds.{are_ordered_by, comes_before}
 use Rattle.gateway_core.specs.Taking.{with_room}

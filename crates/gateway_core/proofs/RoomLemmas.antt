@@ -1,7 +1,6 @@
 -- What has room, and what is admitted.
-use Rattle.std.proofs.Common.{◌≡◌, ◌∙◌, ◌++◌, ◌∷◌, ◌||◌, [], ℕ, Bool, true, false, cond, List, Result, Ok, Err, ap, sym, refl}
+use Rattle.std.proofs.Common.{◌≡◌, ◌∙◌, ◌++◌, ◌∷◌, [], ℕ, Bool, true, false, cond, List, Result, Ok, Err, sym}
 use Rattle.std.proofs.lemmas.List.{append-nil, append_assoc}
-use Rattle.std.specs.Prelude.{length}
 use Rattle.gateway_core.specs.Arrivals.{admit, has_room}
 use Rattle.gateway_core.specs.Deliveries.{taken}
 use Rattle.gateway_core.specs.Taking.{with_room}

@@ -1,36 +1,33 @@
 -- What a gateway stands for after one arrival more.
-use Rattle.std.proofs.Common.{◌≡◌, ◌∙◌, ◌++◌, ◌∷◌, ◌||◌, ◌&&◌, ◌<◌, [], ℕ, ℤ, suc, Bool, true, false, cond, not, List, map, Option, Some, None, ap, sym, refl, subst, Result, Ok, Err, arith, take, drop}
+use Rattle.std.proofs.Common.{◌≡◌, ◌∙◌, ◌++◌, ◌∷◌, ◌||◌, ◌&&◌, ◌<◌, [], ℕ, ℤ, Bool, true, false, cond, not, List, map, ap, sym, refl, subst, Result, arith, take, drop}
 use Rattle.std.proofs.lemmas.Int.{ints}
-use Rattle.std.proofs.lemmas.List.Elements.{filter-append}
-use Rattle.std.specs.Prelude.{◌≤ℤ◌, ◌+ℤ◌, pos, filter, int_lt, is_some, length, nat_lt, slice_index_or}
+use Rattle.std.specs.Prelude.{◌≤ℤ◌, filter, int_lt, is_some, length, nat_lt, slice_index_or}
 use Rattle.std.specs.Cmp.Lexicographic.{slice_cmp}
 use Rattle.std.specs.List.{AllByRecursion}
 use Rattle.std.specs.Ordering.{int_eq, is_lt, nat_cmp}
-use Rattle.service_day.specs.Windows.{DayStarts, start_in}
+use Rattle.service_day.specs.Windows.{start_in}
 use Rattle.journey_model.specs.Records.{Recorded}
 use Rattle.journey_model.specs.Schedules.{Schedule}
 use Rattle.journey_model.specs.declared.fault.Fault.{Fault}
 use Rattle.journey_model.specs.declared.report.Report.{Report}
 use Rattle.journey_model.specs.declared.situation.Situation.{Situation}
 use Rattle.stop_schedule.specs.Seen.{seen}
-use Rattle.stop_schedule.specs.Table.{Table}
 use Rattle.gw_base.specs.declared.messages.Feed as feeds
 use Rattle.reverse_calls.specs.Siri.{IsSiri}
-use Rattle.siri_calls.specs.DeliveryTree.{delivery_text}
-use Rattle.latest_store.specs.Latest.{has_number, is_later, is_newer, was_later}
-use Rattle.gateway_core.specs.Arrivals.{Arrival, CanBeServed, EachCanBeServed, Given, admitted, admitted_situations, always, feed, first_day, is_same_journey, is_same_number, is_within, journeys, moments_of, present, schedule_at, situations, window_at}
+use Rattle.latest_store.specs.Latest.{has_number, is_newer, was_later}
+use Rattle.gateway_core.specs.Arrivals.{Arrival, CanBeServed, EachCanBeServed, admitted, admitted_situations, always, feed, first_day, is_same_number, is_within, journeys, moments_of, present, schedule_at, situations, window_at}
 use Rattle.gateway_core.specs.Deliveries.{taken}
-use Rattle.gateway_core.specs.Feeds.{are_ordered_by, comes_before, has_lesser_number}
-use Rattle.gateway_core.specs.Keeping.{AreLatest, Keeps}
+use Rattle.gateway_core.specs.Feeds.{comes_before, has_lesser_number}
+use Rattle.gateway_core.specs.Keeping.{AreLatest}
 use Rattle.gateway_core.specs.Standing.{IsLastSiri, JourneyEntry, Kept, KeepsJourneys, KeepsSituations, SituationEntry, Stands, journey_entry, situation_entry}
 use Rattle.gateway_core.specs.Taking.{journeys_with_room, situations_with_room}
 use Rattle.gateway_core.specs.Winners.{has_key, key_cmp, key_of}
 use Rattle.gateway_core.specs.declared.setting.Setting.{Setting}
 use Rattle.gateway_core.proofs.KeepsLemmas.{all_latest, keeps_none}
 use Rattle.gateway_core.proofs.LatestLemmas.{latest_filter}
-use Rattle.gateway_core.proofs.RollLemmas.{all_weaker, entity_stays, filter_all, filter_alike, first_rises, has_gone, left_are, present_journeys, present_others, present_rolls, within_at}
+use Rattle.gateway_core.proofs.RollLemmas.{all_weaker, entity_stays, filter_all, filter_alike, first_rises, has_gone, left_are, present_journeys, present_rolls, within_at}
 use Rattle.gateway_core.proofs.RoomLemmas.{admits}
-use Rattle.gateway_core.proofs.WindowLemmas.{among, window_is}
+use Rattle.gateway_core.proofs.WindowLemmas.{among}
 use Rattle.gateway_core.proofs.WinnerLemmas.{journeys as journeys_keyed, numbers}
 
 -- ---- the order of what is kept is that of its keys

@@ -1,6 +1,6 @@
 -- The steps of a delivery's verdicts over what is kept, of journeys and of situations.
-use Rattle.std.proofs.Common.{◌≡◌, ◌∙◌, ◌++◌, ◌∷◌, [], ℕ, ℤ, Bool, true, false, List, Option, Some, None, Result, Ok, Err, sym, refl, ap, subst}
-use Rattle.std.specs.Prelude.{filter, is_some, nat_lt}
+use Rattle.std.proofs.Common.{◌≡◌, ◌∙◌, ◌++◌, ◌∷◌, [], Bool, true, false, List, Option, Some, None, Result, Ok, Err, refl}
+use Rattle.std.specs.Prelude.{is_some, nat_lt}
 use Rattle.std.specs.Cmp.Lexicographic.{slice_cmp}
 use Rattle.std.specs.List.{AllByRecursion}
 use Rattle.std.specs.Ordering.{nat_cmp}
@@ -19,7 +19,7 @@ use Rattle.gateway_core.specs.Standing.{JourneyEntry, SituationEntry, journey_en
 use Rattle.gateway_core.specs.Steps.{JourneysAfter, SituationsAfter, journey_counts, journey_fits, journey_kept, situation_counts, situation_fits, situation_kept, with_journey, with_situation}
 use Rattle.gateway_core.specs.Taking.{journeys_with_room, situations_with_room}
 use Rattle.gateway_core.specs.Winners.{has_key, key_cmp, key_of}
-use Rattle.gateway_core.proofs.KeepsLemmas.{after_aside, after_full, after_lost, after_room, after_won, counts_over, roomy_aside, roomy_full, roomy_taken}
+use Rattle.gateway_core.proofs.KeepsLemmas.{after_aside, after_full, after_lost, after_room, after_won, counts_over, roomy_full, roomy_taken}
 use Rattle.gateway_core.proofs.StandingLemmas.{journeys_by_key, numbers_by_key}
 use Rattle.gateway_core.proofs.WinnerLemmas.{journeys, numbers}
 

@@ -1,6 +1,6 @@
 -- What arrived at a gateway, which service days it covers by then, and what of it is admitted and present (SIRI 2.0,
 -- EstimatedVehicleJourney and PtSituationElement; GTFS Realtime, FeedMessage). The newest arrival stands first.
-use Rattle.std.specs.Prelude.{◌&&◌, ◌||◌, ◌==◌, ◌+◌, ◌≡◌, ℕ, ℤ, pos, ◌+ℤ◌, ◌-ℤ◌, Bool, true, not, nat_lt, List, [], ◌∷◌, ◌++◌, length, map, filter, Option, Some, None, is_some, if◌then◌else◌}
+use Rattle.std.specs.Prelude.{◌||◌, ℕ, ℤ, pos, ◌+ℤ◌, ◌-ℤ◌, Bool, true, not, nat_lt, List, [], ◌∷◌, ◌++◌, length, map, filter, Option, Some, None, is_some, if◌then◌else◌}
 use Rattle.std.specs.Int.{int_max, int_min}
 use Rattle.std.specs.List.{AllByRecursion, list_any, range_with_len}
 use Rattle.gw_base.specs.declared.messages.Feed.{Feed}

@@ -1,5 +1,5 @@
 -- Of each key the latest, in the order of the keys, and lists of elements with keys.
-use Rattle.std.specs.Prelude.{◌≡◌, Bool, true, List, ◌∷◌, ◌++◌, filter, find, fold, map, Option, option_map}
+use Rattle.std.specs.Prelude.{◌≡◌, Bool, true, List, ◌∷◌, ◌++◌, filter, find, fold, map, Option}
 use Rattle.std.specs.Ordering.{is_eq, is_gt, is_lt}
 use Rattle.std.specs.declared.cmp.Ordering.{Ordering}
 use Rattle.latest_store.specs.Latest.{HasLatestOf}

@@ -1,7 +1,6 @@
 -- What a gateway keeps, and the arrivals that it stands for (SIRI 2.0, EstimatedVehicleJourney and PtSituationElement; GTFS
 -- Realtime, FeedMessage).
 use Rattle.std.specs.Prelude.{◌≡◌, ℕ, ℤ, pos, Bool, List, [], ◌∷◌}
-use Rattle.gw_base.specs.declared.messages.Feed.{Feed}
 use Rattle.feed_messages.specs.Written.{written}
 use Rattle.journey_model.specs.Records.{Recorded}
 use Rattle.journey_model.specs.Schedules.{Schedule}

@@ -1,5 +1,5 @@
 -- What is kept while the verdicts of a delivery are gone through.
-use Rattle.std.specs.Prelude.{◌||◌, ◌≡◌, ℕ, Bool, true, not, nat_lt, filter, is_some, length, List, ◌++◌, Option, Some, None, Result}
+use Rattle.std.specs.Prelude.{◌||◌, Bool, true, not, nat_lt, filter, is_some, length, List, ◌++◌, Option, Some, None, Result}
 use Rattle.std.specs.Cmp.Lexicographic.{slice_cmp}
 use Rattle.std.specs.Ordering.{nat_cmp}
 use Rattle.journey_model.specs.Records.{Recorded}

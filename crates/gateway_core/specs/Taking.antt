@@ -1,9 +1,8 @@
 -- What a gateway answers to a body that is taken or refused, and what it stands for then (SIRI 2.0, ServiceDelivery; GTFS
 -- Realtime, FeedMessage).
-use Rattle.std.specs.Prelude.{◌≡◌, ◌<◌, ℕ, ℤ, Bool, false, nat_le, List, [], ◌∷◌, ◌++◌, codes, decimal, length, map, Option, Some, None, Result, Ok, Err, is_none, if◌then◌else◌}
+use Rattle.std.specs.Prelude.{◌≡◌, ℕ, ℤ, Bool, false, nat_le, List, [], ◌∷◌, ◌++◌, codes, decimal, map, Some, Result, Ok, Err, is_none, if◌then◌else◌}
 use Rattle.std.specs.List.{count_by}
 use Rattle.std.specs.Result.{result_err}
-use Rattle.gw_base.specs.declared.member.Member.{Member}
 use Rattle.gw_base.specs.declared.messages.Feed.{Feed}
 use Rattle.feed_messages.specs.Tables.{MeansFeed}
 use Rattle.feed_messages.specs.Faults.{HasFault}
@@ -27,7 +26,7 @@ use Rattle.feed_messages.specs.declared.fault.FeedFault.{FeedFault}
 use Rattle.siri_calls.specs.Deliveries.{without_count}
 use Rattle.siri_calls.specs.Verdicts.{passed_count}
 use Rattle.reverse_calls.specs.Siri.{is_differential}
-use Rattle.gateway_core.specs.Arrivals.{Arrival, Given, admitted, admitted_situations, always, feed, has_room, is_same_journey, is_same_number, is_within, journeys, moments_of, schedule_at, situations, window_at}
+use Rattle.gateway_core.specs.Arrivals.{Arrival, admitted, admitted_situations, always, feed, has_room, is_same_journey, is_same_number, is_within, journeys, moments_of, schedule_at, situations, window_at}
 use Rattle.gateway_core.specs.Deliveries.{taken}
 use Rattle.gateway_core.specs.Reports.{aside_from}
 use Rattle.gateway_core.specs.Standing.{Kept, Stands}
