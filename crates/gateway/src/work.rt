@@ -108,6 +108,7 @@ fn over<F: Files>(
         table,
         zone,
         window,
+        keep: None,
     })
 }
 

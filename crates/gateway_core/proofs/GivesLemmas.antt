@@ -1,11 +1,11 @@
 -- What the feed of the latest records gives: just their readings.
-use Rattle.std.proofs.Common.{◌≡◌, ◌∙◌, ◌++◌, ◌∷◌, ◌&&◌, ◌==◌, ℕ, ℤ, List, [], Bool, true, false, not, length, map, replicate, Ok, Option, Some, None, refl, sym, ap, inl, inr, arith}
+use Rattle.std.proofs.Common.{◌≡◌, ◌∙◌, ◌++◌, ◌∷◌, ◌&&◌, ◌==◌, ℕ, ℤ, List, [], Bool, true, false, length, map, replicate, Ok, Option, Some, None, refl, sym, ap, inl, inr, arith}
 use Rattle.std.proofs.lemmas.Bool.Decides.{Decides-int_eq}
 use Rattle.std.proofs.lemmas.Int.{ints}
-use Rattle.std.proofs.lemmas.Bool.{and_from, and_parts, both_ways, eqb-true, false_from_ne_true, ltb-true, not_from_false, or_cases, or_left, or_parts, or_right}
+use Rattle.std.proofs.lemmas.Bool.{and_parts, eqb-true, false_from_ne_true, ltb-true, or_cases}
 use Rattle.std.proofs.lemmas.List.Elements.{filter_map-append}
 use Rattle.std.specs.Prelude.{find, option_map, int_lt, nat_lt}
-use Rattle.std.specs.List.{AllByRecursion, filter_map, flat_map, list_all, list_any}
+use Rattle.std.specs.List.{AllByRecursion, filter_map, flat_map, list_all}
 use Rattle.std.specs.Option.{option_or}
 use Rattle.std.specs.Ordering.{int_eq}
 use Rattle.std.proofs.lemmas.List.{append-nil}

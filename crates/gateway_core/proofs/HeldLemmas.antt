@@ -1,5 +1,5 @@
 -- The latest of each key is held while things arrive.
-use Rattle.std.proofs.Common.{◌≡◌, ◌∙◌, ◌++◌, ◌∷◌, [], ℕ, suc, Bool, true, false, cond, not, ◌||◌, ◌&&◌, List, map, Option, Some, None, option_map, sym, ap, refl, subst}
+use Rattle.std.proofs.Common.{◌≡◌, ◌∙◌, ◌++◌, ◌∷◌, [], ℕ, suc, Bool, true, false, cond, not, ◌||◌, List, map, Option, Some, None, option_map, sym, ap, refl, subst}
 use Rattle.std.proofs.lemmas.Bool.{true≢false}
 use Rattle.std.proofs.lemmas.Cmp.{on_total}
 use Rattle.std.proofs.lemmas.List.{append_assoc}
@@ -83,7 +83,7 @@ module _ {A : Type 0} (is_its : A → Bool) (is_later : A → A → Bool) where
       (never_its other both.0, none_its one others both.1)
 
   -- one of another key
-  latest_other : (all : List A) (one : A) (found : Option A) → is_its one ≡ false → HasLatestOf is_its is_later all found → HasLatestOf is_its is_later (all ++ one ∷ []) found
+  pub latest_other : (all : List A) (one : A) (found : Option A) → is_its one ≡ false → HasLatestOf is_its is_later all found → HasLatestOf is_its is_later (all ++ one ∷ []) found
   latest_other all one None lost h = none_joined is_its all (one ∷ []) h (one_none is_its one lost)
   latest_other all one (Some old) lost h = record {
     before = h.before;
@@ -134,7 +134,7 @@ module _ {A : Type 0} (is_its : A → Bool) (is_later : A → A → Bool) where
       all_earlier = tt;
     }
 
-    latest_at : (all : List A) (one : A) (found : Option A) → is_its one ≡ true → HasLatestOf is_its is_later all found → counts_by is_later found one ≡ true
+    pub latest_at : (all : List A) (one : A) (found : Option A) → is_its one ≡ true → HasLatestOf is_its is_later all found → counts_by is_later found one ≡ true
         → IsLatestOf is_its is_later (all ++ one ∷ []) one
     latest_at all one None its h won = latest_first all one its h
     latest_at all one (Some old) its h won = latest_new all one old its (is_false (is_later old one) won) h
@@ -143,7 +143,7 @@ module _ {A : Type 0} (is_its : A → Bool) (is_later : A → A → Bool) where
         is_false true e = sym e
         is_false false e = refl
 
-  latest_stays : (all : List A) (one : A) (found : Option A) → HasLatestOf is_its is_later all found → counts_by is_later found one ≡ false
+  pub latest_stays : (all : List A) (one : A) (found : Option A) → HasLatestOf is_its is_later all found → counts_by is_later found one ≡ false
       → HasLatestOf is_its is_later (all ++ one ∷ []) found
   latest_stays all one None h lost = absurd (true≢false lost)
   latest_stays all one (Some old) h lost = latest_kept all one old (not_false (is_later old one) lost) h

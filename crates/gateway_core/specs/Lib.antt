@@ -1,7 +1,13 @@
 pub mod Alerts
+pub mod Arrivals
 pub mod Deliveries
 pub mod Feeds
 pub mod Gives
+pub mod Keeping
+pub mod Recording
 pub mod Reports
 pub mod Settings
+pub mod Standing
+pub mod Steps
+pub mod Taking
 pub mod Winners

@@ -3,6 +3,7 @@
 #![tactic(auto)]
 
 mod alerts;
+mod arrival_laws;
 mod latest;
 mod laws;
 mod named;
@@ -14,6 +15,7 @@ mod setting;
 mod tests;
 
 pub use alerts::limited_delivery;
+pub use arrival_laws::recording_decides;
 pub use laws::the_rebuilt_feed_is_one;
 pub use named::{Delivered, Named};
 pub use rebuilding::rebuilt;

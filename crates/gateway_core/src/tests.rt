@@ -64,6 +64,7 @@ fn setting(table: Timetable) -> Option<Setting> {
             table,
             zone,
             window,
+            keep: None,
         }),
         Err(_) => None,
     }

@@ -1,0 +1,79 @@
+-- What a gateway keeps, and the arrivals that it stands for (SIRI 2.0, EstimatedVehicleJourney and PtSituationElement; GTFS
+-- Realtime, FeedMessage).
+use Rattle.std.specs.Prelude.{◌≡◌, ℕ, ℤ, pos, Bool, List, [], ◌∷◌}
+use Rattle.feed_messages.specs.Written.{written}
+use Rattle.journey_model.specs.Records.{Recorded}
+use Rattle.journey_model.specs.Schedules.{Schedule}
+use Rattle.journey_model.specs.declared.report.Report.{Report}
+use Rattle.journey_model.specs.declared.situation.Situation.{Situation}
+use Rattle.stop_schedule.specs.Seen.{seen}
+use Rattle.stop_schedule.specs.Table.{Table}
+use Rattle.siri_calls.specs.DeliveryTree.{delivery_text}
+use Rattle.reverse_calls.specs.Siri.{IsSiri}
+use Rattle.service_day.specs.Windows.{DayStarts}
+use Rattle.alert_map.specs.Alerts.{alert_message}
+use Rattle.latest_store.specs.Entities.{entity}
+use Rattle.latest_store.specs.Latest.{has_number, is_newer, was_later}
+use Rattle.gateway_core.specs.Arrivals.{Arrival, EachCanBeServed, Given, admitted_situations, feed, journeys, moments_of, present, schedule_at, situations, window_at}
+use Rattle.gateway_core.specs.Feeds.{comes_before, has_lesser_number}
+use Rattle.gateway_core.specs.Keeping.{Keeps}
+use Rattle.gateway_core.specs.Winners.{has_key}
+use Rattle.gateway_core.specs.declared.setting.Setting.{Setting}
+
+-- what is kept under a key: a value and bytes
+pub record KeptEntry (K R : Type 0) : Type 0 where
+  pub key : K
+  pub value : R
+  pub bytes : List ℕ
+
+-- of a journey, by its day and trip: when its latest record was recorded, and the bytes of that record's entity
+abbrev pub JourneyEntry : Type 0
+JourneyEntry = KeptEntry (ℤ × ℕ) (ℤ × ℕ)
+
+-- of a situation, by its number: the newest version and whether that one is served, and the bytes of its alert's entity
+abbrev pub SituationEntry : Type 0
+SituationEntry = KeptEntry (List ℕ) (ℕ × Bool)
+
+abbrev pub journey_entry : Schedule → Recorded → JourneyEntry
+journey_entry schedule one = record { key = (one.day, one.trip); value = one.at; bytes = entity schedule one }
+
+abbrev pub situation_entry : Table → Situation → SituationEntry
+situation_entry table one =
+    record { key = one.number; value = (one.version, one.served); bytes = written (alert_message table one) }
+
+-- entries are those of the latest of these records, one for each journey, by service day and then trip number
+abbrev pub KeepsJourneys : Schedule → List Recorded → List JourneyEntry → Type 0
+KeepsJourneys schedule records entries = Keeps has_key was_later comes_before (journey_entry schedule) records entries
+
+-- and entries are those of the newest of these situations, one for each number, by its bytes
+abbrev pub KeepsSituations : Table → List Situation → List SituationEntry → Type 0
+KeepsSituations table all entries = Keeps has_number is_newer has_lesser_number (situation_entry table) all entries
+
+-- a gateway as contracts see it
+pub record Kept : Type 0 where
+  pub setting : Setting
+  pub window : DayStarts
+  pub journeys : List JourneyEntry
+  pub situations : List SituationEntry
+  pub text : List ℕ
+
+-- a text is the delivery of what the last feed says, at its moment and over the window that was there when it arrived; before any
+-- feed, that of no journeys at the moment 0
+abbrev pub OfFeedOr : Schedule → ℤ → Given → List ℕ → Type 0 → Type 0
+OfFeedOr schedule moment (journeys records) text earlier = earlier
+OfFeedOr schedule moment (situations all) text earlier = earlier
+OfFeedOr schedule moment (feed one) text earlier = (report : Report) × IsSiri schedule one moment text report
+
+abbrev pub IsLastSiri : Setting → List Arrival → List ℕ → Type 0
+IsLastSiri setting [] text = text ≡ delivery_text (schedule_at setting []) (pos 0) []
+IsLastSiri setting (one ∷ earlier) text =
+    OfFeedOr (schedule_at setting (one.moment ∷ moments_of earlier)) one.moment one.gives text (IsLastSiri setting earlier text)
+
+-- a gateway stands for what arrived: its window is the one of that moment; it keeps the entity of the latest record of each journey
+-- present, and the alert of the newest situation of each number admitted; its text is that of the last feed
+pub record Stands (kept : Kept) (arrivals : List Arrival) : Type 0 where
+  pub judged : EachCanBeServed kept.setting arrivals
+  pub window_is : kept.window ≡ window_at kept.setting (moments_of arrivals)
+  pub journeys_are : KeepsJourneys (schedule_at kept.setting (moments_of arrivals)) (present kept.setting arrivals) kept.journeys
+  pub situations_are : KeepsSituations (seen kept.setting.table) (admitted_situations arrivals) kept.situations
+  pub text_is : IsLastSiri kept.setting arrivals kept.text

@@ -1,0 +1,117 @@
+-- What a gateway answers to a body that is taken or refused, and what it stands for then (SIRI 2.0, ServiceDelivery; GTFS
+-- Realtime, FeedMessage).
+use Rattle.std.specs.Prelude.{◌≡◌, ℕ, ℤ, Bool, false, nat_le, List, [], ◌∷◌, ◌++◌, codes, decimal, map, Some, Result, Ok, Err, is_none, if◌then◌else◌}
+use Rattle.std.specs.List.{count_by}
+use Rattle.std.specs.Result.{result_err}
+use Rattle.gw_base.specs.declared.messages.Feed.{Feed}
+use Rattle.feed_messages.specs.Tables.{MeansFeed}
+use Rattle.feed_messages.specs.Faults.{HasFault}
+use Rattle.journey_model.specs.FaultTexts.{fault_text}
+use Rattle.journey_model.specs.Records.{Recorded}
+use Rattle.journey_model.specs.declared.fault.Fault.{Fault}
+use Rattle.journey_model.specs.declared.fault.Fault.TheVariants.{EntityTooLong, Full}
+use Rattle.journey_model.specs.declared.report.Report.{Report}
+use Rattle.journey_model.specs.declared.situation.Situation.{Situation}
+use Rattle.serde_json.specs.Data.{Data}
+use Rattle.siri_calls.specs.Verdicts as journey_items
+use Rattle.siri_calls.specs.Verdicts.{tree_of}
+use Rattle.siri_situations.specs.Deliveries as situation_items
+use Rattle.siri_situations.specs.Situations as situation_verdicts
+use Rattle.stop_schedule.specs.Seen.{seen}
+use Rattle.reverse_calls.specs.Siri.{IsSiri}
+use Rattle.gateway_core.specs.Alerts.{alert_len}
+use Rattle.stop_schedule.specs.Table.{Table}
+use Rattle.service_day.specs.Windows.{DayStarts}
+use Rattle.feed_messages.specs.declared.fault.FeedFault.{FeedFault}
+use Rattle.siri_calls.specs.Deliveries.{without_count}
+use Rattle.siri_calls.specs.Verdicts.{passed_count}
+use Rattle.reverse_calls.specs.Siri.{is_differential}
+use Rattle.gateway_core.specs.Arrivals.{Arrival, admitted, admitted_situations, always, feed, has_room, is_same_journey, is_same_number, is_within, journeys, moments_of, schedule_at, situations, window_at}
+use Rattle.gateway_core.specs.Deliveries.{taken}
+use Rattle.gateway_core.specs.Reports.{aside_from}
+use Rattle.gateway_core.specs.Standing.{Kept, Stands}
+
+-- ---- reports
+
+-- the report on verdicts in the order of their items: how many are taken, and each that is set aside with its number and its fault
+abbrev pub report_on : {A : Type 0} → List (Result A Fault) → ℕ → Report
+report_on verdicts passed = record {
+  taken = count_by is_none (map result_err verdicts);
+  passed = passed;
+  aside = aside_from 0 (map result_err verdicts);
+}
+
+-- `{"fault":"TEXT","index":I}`
+abbrev pub aside_json : ℕ × Fault → List ℕ
+aside_json aside = codes "{\"fault\":\"" ++ fault_text aside.1 ++ codes "\",\"index\":" ++ decimal aside.0 ++ codes "}"
+
+-- the texts, joined by commas
+abbrev pub joined : List (List ℕ) → List ℕ
+joined [] = []
+joined (text ∷ []) = text
+joined (text ∷ other ∷ others) = text ++ codes "," ++ joined (other ∷ others)
+
+-- `{"aside":[A],"passed":P,"taken":T}`
+abbrev pub report_json : Report → List ℕ
+report_json report =
+    codes "{\"aside\":[" ++ joined (map aside_json report.aside)
+    ++ codes "],\"passed\":" ++ decimal report.passed ++ codes ",\"taken\":" ++ decimal report.taken ++ codes "}"
+
+-- ---- what is full
+
+-- verdicts, of which one is set aside as Full that has no room when it arrives
+abbrev pub with_room : {A : Type 0} → (A → A → Bool) → (A → Bool) → ℕ → List A → List (Result A Fault) → List (Result A Fault)
+with_room is_same counts limit before [] = []
+with_room is_same counts limit before (Err fault ∷ others) = Err fault ∷ with_room is_same counts limit before others
+with_room is_same counts limit before (Ok one ∷ others) =
+    if has_room is_same counts limit before one
+    then Ok one ∷ with_room is_same counts limit (before ++ one ∷ []) others
+    else Err Full ∷ with_room is_same counts limit before others
+
+-- the records of a delivery's verdicts, and those that have room after some arrivals
+abbrev pub journeys_with_room : DayStarts → List Recorded → List (Result Recorded Fault) → List (Result Recorded Fault)
+journeys_with_room window before verdicts = with_room is_same_journey (is_within window) 50000 before verdicts
+
+abbrev pub situations_with_room : List Situation → List (Result Situation Fault) → List (Result Situation Fault)
+situations_with_room before verdicts = with_room is_same_number always 5000 before verdicts
+
+-- the verdicts on situations, of which one is set aside that has too long an alert
+abbrev pub limited_verdict : Table → Result Situation Fault → Result Situation Fault
+limited_verdict table (Ok one) = if nat_le (alert_len table one) 65536 then Ok one else Err (EntityTooLong (alert_len table one))
+limited_verdict table (Err fault) = Err fault
+
+abbrev pub limited_verdicts : Table → List (Result (Situation × ℕ) Fault) → List (Result Situation Fault)
+limited_verdicts table all = map (limited_verdict table) (map situation_items.without_count all)
+
+-- ---- what is answered
+
+-- a gateway that kept this took a delivery of journeys that arrived at a moment: each item is judged over the window of that
+-- moment, and those without room are set aside; now it stands for what it stood for followed by the delivery's records
+pub record TakesJourneys (kept : Kept) (arrivals : List Arrival) (moment : ℤ) (body : List ℕ) (report : Report) (now : Kept) : Type 0 where
+  pub root : Data
+  pub is_tree : tree_of body ≡ Some root
+  pub all : List (Result (Recorded × ℕ) Fault)
+  pub judged : journey_items.verdicts (schedule_at kept.setting (moment ∷ moments_of arrivals)) root ≡ Ok all
+  pub report_is : report ≡ report_on (journeys_with_room (window_at kept.setting (moment ∷ moments_of arrivals)) (admitted kept.setting arrivals) (map without_count all)) (passed_count all)
+  pub setting_is : now.setting ≡ kept.setting
+  pub stands : Stands now (record { moment = moment; gives = journeys (taken (map without_count all)) } ∷ arrivals)
+
+-- the same of a delivery of situations, of which those with too long an alert are set aside first
+pub record TakesSituations (kept : Kept) (arrivals : List Arrival) (moment : ℤ) (body : List ℕ) (report : Report) (now : Kept) : Type 0 where
+  pub root : Data
+  pub is_tree : tree_of body ≡ Some root
+  pub all : List (Result (Situation × ℕ) Fault)
+  pub judged : situation_verdicts.verdicts (schedule_at kept.setting (moment ∷ moments_of arrivals)) root ≡ Ok all
+  pub report_is : report ≡ report_on (situations_with_room (admitted_situations arrivals) (limited_verdicts (seen kept.setting.table) all)) (situation_items.passed_count all)
+  pub setting_is : now.setting ≡ kept.setting
+  pub stands : Stands now (record { moment = moment; gives = situations (taken (limited_verdicts (seen kept.setting.table) all)) } ∷ arrivals)
+
+-- the same of a feed, which is a full dataset without a fault
+pub record TakesFeed (kept : Kept) (arrivals : List Arrival) (moment : ℤ) (body : List ℕ) (report : Report) (now : Kept) : Type 0 where
+  pub given : Feed
+  pub means : MeansFeed body given
+  pub faultless : (fault : FeedFault) → ¬ HasFault body fault
+  pub full : is_differential given ≡ false
+  pub siri : IsSiri (schedule_at kept.setting (moment ∷ moments_of arrivals)) given moment now.text report
+  pub setting_is : now.setting ≡ kept.setting
+  pub stands : Stands now (record { moment = moment; gives = feed given } ∷ arrivals)
