@@ -1,4 +1,5 @@
--- What is held of each journey and of each number of a situation, while they arrive. No public contract cites it.
+-- What is held of each journey and of each number of a situation, while they arrive. Of public contracts only the law of the order of arrival
+-- rests on it, for the order of keys.
 use Rattle.std.specs.Prelude.{◌≡◌, ℕ, ℤ, Bool, true, false, not, List, map, Option, Some, None, option_map}
 use Rattle.std.specs.BTreeMap.{BTreeMap, IsOrdered, get_by, values}
 use Rattle.std.specs.Cmp.{IsTotalOrder}
