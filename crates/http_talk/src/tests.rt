@@ -388,6 +388,22 @@ fn long_inputs_ask_for_what_they_say(rt: HostRuntime) -> Result<(), Fail> {
     Ok(())
 }
 
+/// How often a head of 16,384 bytes comes byte by byte: a reader that looked at all bytes so far at each byte would be
+/// at work for minutes, and a test has one.
+const HEADS: usize = 2_000;
+
+#[test]
+fn a_head_byte_by_byte_takes_time_in_line_with_its_length(rt: HostRuntime) -> Result<(), Fail> {
+    let mut reader = HeadReader::make(rt.alloc())?;
+    let long = &LONG_INPUTS[4];
+    let input = made(rt.alloc(), long)?;
+    for _ in 0..HEADS {
+        let asked = in_pieces(&mut reader, input.as_slice(), 1);
+        assert!(rt; is_wanted(&asked, &long.4));
+    }
+    Ok(())
+}
+
 /// Refusals with their answers, head and body.
 static REFUSALS: [(Refusal, &str, &str); 12] = [
     (
