@@ -171,9 +171,10 @@ module _ {A Q E : Type 0} (cmp : Q → Q → Ordering) (key_of : A → Q) (is_it
       each_found : (xs : List A) → are_ordered_by comes_before xs ≡ true → ((q : Q) (x : A) → find (is_its q) xs ≡ Some x → P x) → AllByRecursion P xs
       each_found [] order f = tt
       each_found (x ∷ xs) order f =
-          let both = and_parts (list_all (comes_before x) xs) (are_ordered_by comes_before xs) order in
-          (f (key_of x) x (ap (λ (b : Bool). cond b (Some x) (find (is_its (key_of x)) xs)) (own cmp key_of is_its is_later keyed comes_before by_key x)),
-          each_found xs both.1 (λ q y e. f q y (by q y (is_its q x) refl both.0 e)))
+          let both = and_parts (list_all (comes_before x) xs) (are_ordered_by comes_before xs) order in (
+            f (key_of x) x (ap (λ (b : Bool). cond b (Some x) (find (is_its (key_of x)) xs)) (own cmp key_of is_its is_later keyed comes_before by_key x)),
+            each_found xs both.1 (λ q y e. f q y (by q y (is_its q x) refl both.0 e)),
+          )
         where
           by : (q : Q) (y : A) (b : Bool) → is_its q x ≡ b → list_all (comes_before x) xs ≡ true → find (is_its q) xs ≡ Some y → cond b (Some x) (find (is_its q) xs) ≡ Some y
           by q y false its before e = e

@@ -148,9 +148,10 @@ module _ {A Q : Type 0} (cmp : Q → Q → Ordering) (key_of : A → Q) (is_its 
 
   pub distinct_firsts : (all : List A) → AreDistinct (firsts is_same all)
   distinct_firsts [] = tt
-  distinct_firsts (one ∷ others) =
-      (any-filter_same (is_same one) (λ other. not (is_same one other)) false (λ a its. not_true (is_same one a) its) (firsts is_same others),
-      distinct_filter (λ other. not (is_same one other)) (firsts is_same others) (distinct_firsts others))
+  distinct_firsts (one ∷ others) = (
+    any-filter_same (is_same one) (λ other. not (is_same one other)) false (λ a its. not_true (is_same one a) its) (firsts is_same others),
+    distinct_filter (λ other. not (is_same one other)) (firsts is_same others) (distinct_firsts others),
+  )
 
   -- one of a key is of no other
   pub no_other : (q : Q) (a b : A) → is_its q a ≡ false → is_its q b ≡ true → not (is_its (key_of a) b) ≡ true

@@ -100,9 +100,10 @@ filter_has {X} p (x ∷ xs) = by (p x) refl (filter_has p xs)
   where
     by : (b : Bool) → p x ≡ b → AllByRecursion (λ y. p y ≡ true → Contains (filter p xs) y) xs
         → (p x ≡ true → Contains (cond b (x ∷ filter p xs) (filter p xs)) x) × AllByRecursion (λ y. p y ≡ true → Contains (cond b (x ∷ filter p xs) (filter p xs)) y) xs
-    by true e rest =
-        ((λ passes. here x (filter p xs)),
-        weaker (λ y. p y ≡ true → Contains (filter p xs) y) (λ y. p y ≡ true → Contains (x ∷ filter p xs) y) (λ y f passes. there x y (filter p xs) (f passes)) xs rest)
+    by true e rest = (
+      (λ passes. here x (filter p xs)),
+      weaker (λ y. p y ≡ true → Contains (filter p xs) y) (λ y. p y ≡ true → Contains (x ∷ filter p xs) y) (λ y f passes. there x y (filter p xs) (f passes)) xs rest,
+    )
     by false e rest = ((λ passes. absurd (both_ways (p x) e passes)), rest)
 
 filter_of : {X : Type 0} (P : X → Type 0) (p : X → Bool) (xs : List X) → AllByRecursion P xs → AllByRecursion (λ x. P x × (p x ≡ true)) (filter p xs)
@@ -248,9 +249,10 @@ module _ {A Q : Type 0} (cmp : Q → Q → Ordering) (key_of : A → Q) (is_its 
         less : list_any (is_its (key_of one)) before ≡ false → length (firsts alike (filter counts before)) < limit
         less none =
             let most : suc (length (firsts alike (filter counts before))) ≤ length (firsts alike total) =
-            at_most (one ∷ firsts alike (filter counts before)) (firsts alike total)
-            (any_firsts cmp key_of is_its is_later keyed comes_before by_key (key_of one) (filter counts before) ∙ fewer cmp key_of is_its is_later keyed comes_before by_key (is_its (key_of one)) counts before none,
-            distinct_firsts cmp key_of is_its is_later keyed comes_before by_key (filter counts before))
+            at_most (one ∷ firsts alike (filter counts before)) (firsts alike total) (
+              any_firsts cmp key_of is_its is_later keyed comes_before by_key (key_of one) (filter counts before) ∙ fewer cmp key_of is_its is_later keyed comes_before by_key (is_its (key_of one)) counts before none,
+              distinct_firsts cmp key_of is_its is_later keyed comes_before by_key (filter counts before),
+            )
             (λ q e. any_firsts cmp key_of is_its is_later keyed comes_before by_key q total ∙ among q (by q (is_its q one) refl e)) in
             omega arith
           where
