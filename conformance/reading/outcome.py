@@ -18,6 +18,8 @@ from .zones import ZoneRefused, read_rule, read_zone_file
 MOST_BODY_BYTES = 16_777_216
 MOST_ZONE_BYTES = 1_048_576
 MOST_CALLS = 400_000
+MOST_JOURNEYS = 50_000
+MOST_SITUATIONS = 5_000
 DIFFERENTIAL = 1
 
 
@@ -85,8 +87,8 @@ def read_zone(work, files):
 
 def to_gtfsrt(work, files, context):
     """Of several records of a journey the one recorded last counts, of equal ones the later arrival; of
-    several situations of a number the greatest version, in the same way. As docs/DECISIONS.md has it, none is
-    set aside as Full: until the server stands any number of them is kept."""
+    several situations of a number the greatest version, in the same way. A new journey is set aside as Full where
+    50,000 were taken before it, and a situation of a new number where 5,000 numbers were."""
     journeys, situations = {}, {}
     reports = ""
     for kind, path in work.further:
@@ -118,6 +120,9 @@ def take_journeys(verdicts, journeys):
             items.append((verdict, 0))
             continue
         key = verdict.day, verdict.trip
+        if key not in journeys and len(journeys) >= MOST_JOURNEYS:
+            items.append(("Full", verdict.extra_calls))
+            continue
         if key not in journeys or verdict.at >= journeys[key].at:
             journeys[key] = verdict
         items.append((None, verdict.extra_calls))
@@ -136,6 +141,9 @@ def take_situations(verdicts, situations):
             items.append((f"EntityTooLong {length}", verdict.unknown_references))
             continue
         kept = situations.get(verdict.number)
+        if kept is None and len(situations) >= MOST_SITUATIONS:
+            items.append(("Full", verdict.unknown_references))
+            continue
         if kept is None or verdict.version >= kept.version:
             situations[verdict.number] = verdict
         items.append((None, verdict.unknown_references))

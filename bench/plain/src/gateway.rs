@@ -34,7 +34,7 @@ pub struct Rolling {
 
 pub struct Gateway {
     context: Context,
-    /// A server's window moves and what it keeps is limited; a command's isn't.
+    /// A server's window moves; a command's doesn't.
     rolling: Option<Rolling>,
     journeys: BTreeMap<(Day, u32), Journey>,
     situations: BTreeMap<Box<str>, Situation>,
@@ -72,7 +72,6 @@ impl Gateway {
     pub fn take_estimated(&mut self, body: &[u8], moment: i64) -> Result<Report, BodyFault> {
         let service = estimated::read(body)?;
         self.roll(moment);
-        let most = if self.rolling.is_some() { MOST_JOURNEYS } else { usize::MAX };
         let mut report = Report::default();
         for (index, verdict) in estimated::verdicts(&service, &self.context).enumerate() {
             let record = match verdict {
@@ -86,7 +85,7 @@ impl Gateway {
             let extra = record.extra_calls;
             let entity = || written::journey_entity(&record, &self.context).into_boxed_slice();
             match self.journeys.entry((record.day, record.trip)) {
-                Entry::Vacant(_) if count >= most => {
+                Entry::Vacant(_) if count >= MOST_JOURNEYS => {
                     report.passed += extra;
                     report.add(index, Err(Fault::Full));
                     continue;
@@ -109,7 +108,6 @@ impl Gateway {
     pub fn take_situations(&mut self, body: &[u8], moment: i64) -> Result<Report, BodyFault> {
         let service = situations::read(body)?;
         self.roll(moment);
-        let most = if self.rolling.is_some() { MOST_SITUATIONS } else { usize::MAX };
         let mut report = Report::default();
         for (index, verdict) in situations::verdicts(&service, &self.context).enumerate() {
             let situation = match verdict {
@@ -126,7 +124,7 @@ impl Gateway {
                 continue;
             }
             let old = self.situations.get(situation.number);
-            if old.is_none() && self.situations.len() >= most {
+            if old.is_none() && self.situations.len() >= MOST_SITUATIONS {
                 report.add(index, Err(Fault::Full));
                 continue;
             }

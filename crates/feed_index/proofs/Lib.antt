@@ -1,3 +1,4 @@
+pub mod AllLemmas
 pub mod ChangeLemmas
 pub mod HeldLemmas
 pub mod PlaceLemmas
@@ -12,3 +13,4 @@ pub mod StageLemmas
 pub mod TurnLemmas
 pub mod TakeLemmas
 pub mod StepLemmas
+pub mod GatherLemmas

@@ -58,8 +58,8 @@ settled live dead = if nat_le dead (most_dead live) then dead else 0
 abbrev pub dead_after : {K R : Type 0} → Kept K R → ℕ → List (Entry K R) → ℕ
 dead_after before added entries = settled (total entries) (before.dead + (total before.entries + added - total entries))
 
--- the live spans of a pool are those of the entries: each entry has a slot whose span has its bytes, each slot that has a
--- live span is that of one entry, and each other slot that of none
+-- the live spans of a pool are those of the entries: each entry has a slot whose span has its bytes, each slot that has
+-- a live span is that of one entry, and each other slot that of none
 pub record AreSpansOf {K R : Type 0} (spans : List (ℕ × List ℕ)) (entries : List (Entry K R)) : Type 0 where
   pub slots : List ℕ
   pub bytes : map (bytes_of spans) slots ≡ map (λ one. Some one.bytes) entries

@@ -1,4 +1,5 @@
 pub mod Chosen
+pub mod Drafts
 pub mod Entries
 pub mod Order
 pub mod Rows

@@ -54,3 +54,12 @@ module _ {K R : Type 0} where
 pub record GaveBack (before : Spans) (added : ℕ) (now : Spans) : Type 0 where
   pub never_falls : before.dead ≤ now.dead
   pub sums : now.dead + live_bytes now.spans ≡ before.dead + live_bytes before.spans + added
+
+-- nothing is there, and so many rows in a list of this capacity, with their pool, have its room and that of more rows
+pub record MayReplace {X : Type 0} (rows : List X) (pool : Spans) (len capacity : ℕ) (from : Spans) (more : ℕ)
+    : Type 0 where
+  pub no_rows : rows ≡ []
+  pub no_bytes : live_bytes pool.spans + pool.dead ≡ 0
+  pub rows_room : len + more ≤ capacity
+  pub spans_room : more ≤ from.spare_spans
+  pub bytes_room : pool.spare_bytes ≤ from.spare_bytes + live_bytes from.spans

@@ -6,6 +6,7 @@ use Rattle.std.specs.declared.cmp.Ordering.{Ordering}
 use Rattle.span_pool.specs.Spans.{Spans}
 use Rattle.feed_index.specs.declared.entry.Entry.{Entry}
 use Rattle.feed_index.specs.declared.row.Row.{Row}
+use Rattle.feed_index.specs.Entries.{put_all}
 use Rattle.feed_index.specs.Order.{AreRising, with_all, with_one}
 use Rattle.feed_index.specs.Rows.{AreHeld, GaveBack, entries_of}
 
@@ -31,10 +32,23 @@ module _ {K R : Type 0} (cmp : K → K → Ordering) where
   RowsAreStaged rows pool front =
       AreStaged (λ one. one.key) cmp (take front (entries_of pool.spans rows)) (drop front (entries_of pool.spans rows))
 
+  -- the entries of rows whose front ends there: those of the front, with those behind put one after the other
+  abbrev pub gathered : List (Row K R) → List (ℕ × List ℕ) → ℕ → List (Entry K R)
+  gathered rows spans front = put_all cmp (take front (entries_of spans rows)) (drop front (entries_of spans rows))
+
+  -- what is kept of such rows and their pool
+  pub record AreGathered (rows : List (Row K R)) (pool : Spans) (front : ℕ) : Type 0 where
+    pub held : AreHeld rows pool.spans
+    pub staged : RowsAreStaged rows pool front
+    pub within : front ≤ length rows
+
   -- rows and their pool after one more item came
-  pub record Takes (rows : List (Row K R)) (pool : Spans) (front : ℕ) (item : Entry K R) (now : List (Row K R)) (after : Spans) (next : ℕ) : Type 0 where
+  pub record Takes (rows : List (Row K R)) (pool : Spans) (front : ℕ) (item : Entry K R)
+      (now : List (Row K R)) (after : Spans) (next : ℕ) : Type 0 where
     pub held : AreHeld now after.spans
-    pub stages : Stages (λ one. one.key) cmp (take front (entries_of pool.spans rows)) (drop front (entries_of pool.spans rows)) item (take next (entries_of after.spans now)) (drop next (entries_of after.spans now))
+    pub stages : Stages (λ one. one.key) cmp
+        (take front (entries_of pool.spans rows)) (drop front (entries_of pool.spans rows)) item
+        (take next (entries_of after.spans now)) (drop next (entries_of after.spans now))
     pub within : next ≤ length now
     pub long : length now ≤ length rows + 1
     pub dead : GaveBack pool (length item.bytes) after
@@ -44,4 +58,6 @@ module _ {K R : Type 0} (cmp : K → K → Ordering) where
 -- two neighbouring parts of a list changed places
 abbrev pub IsTurned : {X : Type 0} → ℕ → ℕ → ℕ → List X → List X → Type 0
 IsTurned {X} at front end old new =
-    (A B C D : List X) → old ≡ A ++ (B ++ (C ++ D)) → length A ≡ at → length A + length B ≡ front → length A + length B + length C ≡ end → new ≡ A ++ (C ++ (B ++ D))
+    (A B C D : List X) → old ≡ A ++ (B ++ (C ++ D)) →
+    length A ≡ at → length A + length B ≡ front → length A + length B + length C ≡ end →
+    new ≡ A ++ (C ++ (B ++ D))

@@ -26,7 +26,9 @@ pub fn insert<K, R>(
     requires spans_room { 0 < pool.old.spare_spans }
     requires held { AreHeld rows.old.items pool.old.spans }
     ensures held { AreHeld rows.new.items pool.new.spans }
-    ensures entries { entries_of pool.new.spans rows.new.items ≡ insert (entries_of pool.old.spans rows.old.items) at (record { key = key; value = value; bytes = bytes.now }) }
+    ensures entries { entries_of pool.new.spans rows.new.items
+        ≡ insert (entries_of pool.old.spans rows.old.items) at
+        (record { key = key; value = value; bytes = bytes.now }) }
     ensures len { vec_len rows.new ≡ vec_len rows.old + 1 }
     ensures capacity { vec_capacity rows.new ≡ vec_capacity rows.old }
     ensures dead { GaveBack pool.old (length bytes.now) pool.new }
@@ -51,7 +53,9 @@ pub fn exchange<K: Drop, R>(
     requires spans_room { 0 < pool.old.spare_spans }
     requires held { AreHeld rows.old.items pool.old.spans }
     ensures held { AreHeld rows.new.items pool.new.spans }
-    ensures entries { entries_of pool.new.spans rows.new.items ≡ slice_set (entries_of pool.old.spans rows.old.items) at (record { key = key; value = value; bytes = bytes.now }) }
+    ensures entries { entries_of pool.new.spans rows.new.items
+        ≡ slice_set (entries_of pool.old.spans rows.old.items) at
+        (record { key = key; value = value; bytes = bytes.now }) }
     ensures old { option_map (λ row. row.value) (slice_get rows.old.items at) ≡ Some result }
     ensures len { vec_len rows.new ≡ vec_len rows.old }
     ensures capacity { vec_capacity rows.new ≡ vec_capacity rows.old }

@@ -1,15 +1,15 @@
 //! The index.
-ghost use Rattle.std.specs.Prelude.{◌≡◌, ◌+◌, ◌-◌, ◌<◌, ◌≤◌, ◌==◌, [], Some, None, length, drop, take, slice_get, option_map, OnOk, IsErr, IsOk, vec_len};
+ghost use Rattle.std.specs.Prelude.{◌≡◌, ◌+◌, ◌-◌, ◌^◌, ◌<◌, ◌≤◌, ◌==◌, [], Some, None, length, drop, take, slice_get, option_map, OnOk, IsErr, IsOk, vec_len};
 ghost use Rattle.gw_base.specs.Count.{Counts, Rose};
 ghost use Rattle.gw_base.specs.Told.{PutsUnless, with_bytes};
 ghost use Rattle.span_pool.specs.Spans.{live_bytes};
 ghost use Rattle.feed_index.specs.Chosen.{chosen};
 ghost use Rattle.feed_index.specs.Entries.{AreSpansOf, Rising, bytes_at, dead_after, most_dead, put, put_all, removed, total, value_at};
 
+use crate::batch::Batch;
 use crate::change::{cut, settle};
-use crate::entry::Entry;
-use crate::merge::{bytes_of, merge_items};
-use crate::place::place;
+use crate::merge::merge_all;
+use crate::place::{place, value_in};
 use crate::row::Row;
 use crate::set::{set, unset};
 use crate::write::{Choice, write_rows};
@@ -41,7 +41,12 @@ impl<K: Ord, R> Model for FeedIndex<K, R> {
 
     ghost use Rattle.feed_index.specs.Rows.{IsSound, entries_of};
 
-    ghost view = { λ a. record { entries = entries_of a.pool.spans a.rows.items; spare_entries = a.spare; spare_bytes = a.pool.spare_bytes; dead = a.pool.dead } };
+    ghost view = { λ a. record {
+      entries = entries_of a.pool.spans a.rows.items;
+      spare_entries = a.spare;
+      spare_bytes = a.pool.spare_bytes;
+      dead = a.pool.dead;
+    } };
 
     ghost invariant = { λ a. IsSound K.cmp a.rows.items (vec_capacity a.rows) a.pool a.spare };
 }
@@ -76,19 +81,18 @@ impl<K: Ord, R> FeedIndex<K, R> {
         Ok(())
     }
 
-    /// Makes room for these items, as `prepare` does.
-    pub fn prepare_for(&mut self, items: &[Entry<K, R>]) -> Result<(), AllocError>
+    /// Makes room for the entries of a batch, as `prepare` does.
+    pub fn prepare_for(&mut self, batch: &Batch<K, R>) -> Result<(), AllocError>
         ensures same { self.new.entries ≡ self.old.entries }
         ensures dead { self.new.dead ≡ self.old.dead }
-        ensures entries_room { OnOk result (length items.now ≤ self.new.spare_entries) }
-        ensures bytes_room { OnOk result (total items.now ≤ self.new.spare_bytes) }
+        ensures entries_room { OnOk result (length batch.now ≤ self.new.spare_entries) }
+        ensures bytes_room { OnOk result (total batch.now ≤ self.new.spare_bytes) }
         ensures no_less_entries { self.old.spare_entries ≤ self.new.spare_entries }
         ensures no_less_bytes { self.old.spare_bytes ≤ self.new.spare_bytes }
+        ensures suffices { length batch.now ≤ self.old.spare_entries → total batch.now ≤ self.old.spare_bytes
+            → IsOk result }
     {
-        match bytes_of(items) {
-            Some(bytes) => self.prepare(items.len() as u64, bytes),
-            None => Err(AllocError),
-        }
+        self.prepare(batch.len(), batch.total_bytes())
     }
 
     /// That the keys are distinct and rising, and that the dead bytes are not too many.
@@ -96,7 +100,7 @@ impl<K: Ord, R> FeedIndex<K, R> {
         ensures rising { Rising K.cmp self.now.entries }
         ensures bounded { self.now.dead ≤ most_dead (total self.now.entries) }
     {
-        let _rows = &self.rows;
+        let _ = &self.rows;
     }
 
     /// How many entries there are.
@@ -127,10 +131,19 @@ impl<K: Ord, R> FeedIndex<K, R> {
         }
     }
 
+    /// The value of a key, if it has an entry behind the first so many.
+    pub(crate) fn find_behind(&self, n: usize, key: &K) -> Option<&R>
+        requires within { n ≤ length self.now.entries }
+        ensures value { option_map (λ it. it.now) result ≡ value_at K.cmp (drop n self.now.entries) key.now }
+    {
+        value_in(self.rows.split_at(n).1, key)
+    }
+
     /// The key, the value and the bytes of the entry that stands there in the order of the keys.
     pub fn at(&self, i: u64) -> (&K, &R, &[u8])
         requires within { i < length self.now.entries }
-        ensures entry { slice_get self.now.entries i ≡ Some (record { key = result.0.now; value = result.1.now; bytes = result.2.now }) }
+        ensures entry { slice_get self.now.entries i
+            ≡ Some (record { key = result.0.now; value = result.1.now; bytes = result.2.now }) }
     {
         let row = &self.rows[i as usize];
         (&row.key, &row.value, self.pool.span(&row.slot))
@@ -148,6 +161,7 @@ impl<K: Ord, R> FeedIndex<K, R> {
     /// The bytes of all entries together.
     pub fn total_bytes(&self) -> u64
         ensures value { result ≡ total self.now.entries }
+        ensures fits { result < 2 ^ 63 }
     {
         self.pool.live()
     }
@@ -157,8 +171,10 @@ impl<K: Ord, R> FeedIndex<K, R> {
     /// Writes the bytes of the entries whose value passes, in the order of the keys, in large pieces. After a failure a
     /// front of them is written. Takes no memory.
     pub fn write<C: Choice<R>, S: Sink>(&self, choice: &C, sink: &mut S) -> Result<(), Failed>
-        ensures all { OnOk result (S.told sink.new ≡ with_bytes (S.told sink.old) (chosen (C.test choice.now) self.now.entries)) }
-        ensures front { PutsUnless (Rose (S.faults sink.old) (S.faults sink.new)) (S.told sink.old) (S.told sink.new) (chosen (C.test choice.now) self.now.entries) }
+        ensures all { OnOk result
+            (S.told sink.new ≡ with_bytes (S.told sink.old) (chosen (C.test choice.now) self.now.entries)) }
+        ensures front { PutsUnless (Rose (S.faults sink.old) (S.faults sink.new)) (S.told sink.old) (S.told sink.new)
+            (chosen (C.test choice.now) self.now.entries) }
         ensures counts { Counts (IsErr result) (S.faults sink.old) (S.faults sink.new) }
         ensures others { S.beside sink.new ≡ S.beside sink.old }
     {
@@ -171,7 +187,8 @@ impl<K: Ord + Drop, R> FeedIndex<K, R> {
     pub fn put(&mut self, key: K, value: R, bytes: &[u8]) -> Option<R>
         requires entries_room { 0 < self.old.spare_entries }
         requires bytes_room { length bytes.now ≤ self.old.spare_bytes }
-        ensures entries { self.new.entries ≡ put K.cmp self.old.entries (record { key = key; value = value; bytes = bytes.now }) }
+        ensures entries { self.new.entries
+            ≡ put K.cmp self.old.entries (record { key = key; value = value; bytes = bytes.now }) }
         ensures old { result ≡ value_at K.cmp self.old.entries key }
         ensures dead { self.new.dead ≡ dead_after self.old (length bytes.now) self.new.entries }
         ensures bounded { self.new.dead ≤ most_dead (total self.new.entries) }
@@ -213,19 +230,19 @@ impl<K: Ord + Drop, R: Drop> FeedIndex<K, R> {
         settle(&mut self.pool);
     }
 
-    /// Puts many entries at once, as `put` would one after the other: of equal keys the later one counts. It is quick
-    /// where they stand in the order of their keys. Takes no memory.
-    pub fn merge(&mut self, items: Vec<Entry<K, R>>)
-        requires entries_room { vec_len items ≤ self.old.spare_entries }
-        requires bytes_room { total items.items ≤ self.old.spare_bytes }
-        ensures entries { self.new.entries ≡ put_all K.cmp self.old.entries items.items }
-        ensures dead { self.new.dead ≡ dead_after self.old (total items.items) self.new.entries }
+    /// Puts the entries of a batch, as `put` would one after the other. Takes no memory.
+    pub fn merge(&mut self, batch: Batch<K, R>)
+        requires entries_room { length batch ≤ self.old.spare_entries }
+        requires bytes_room { total batch ≤ self.old.spare_bytes }
+        ensures entries { self.new.entries ≡ put_all K.cmp self.old.entries batch }
+        ensures dead { self.new.dead ≡ dead_after self.old (total batch) self.new.entries }
         ensures bounded { self.new.dead ≤ most_dead (total self.new.entries) }
-        ensures spare_entries { self.old.spare_entries ≤ self.new.spare_entries + vec_len items }
-        ensures spare_bytes { self.old.spare_bytes ≤ self.new.spare_bytes + total items.items }
+        ensures spare_entries { self.old.spare_entries ≤ self.new.spare_entries + length batch }
+        ensures spare_bytes { self.old.spare_bytes ≤ self.new.spare_bytes + total batch }
     {
+        let (items, from) = batch.into_rows();
         self.spare -= items.len();
-        merge_items(&mut self.rows, &mut self.pool, items);
+        merge_all(&mut self.rows, &mut self.pool, items, from, self.spare);
         settle(&mut self.pool);
     }
 }

@@ -2,7 +2,9 @@
 //! A contract sees the list of (key, value, bytes), as `specs/Entries.antt` says.
 #![tactic(auto)]
 
+mod batch;
 mod change;
+mod draft;
 mod entry;
 mod index;
 mod merge;
@@ -12,6 +14,8 @@ mod runs;
 mod set;
 mod write;
 
+pub use batch::Batch;
+pub use draft::Draft;
 pub use entry::Entry;
 pub use index::FeedIndex;
 pub use write::Choice;

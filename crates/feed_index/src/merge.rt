@@ -1,40 +1,21 @@
-//! Many items at once: each is put in place of the row of its key, or behind all rows, and those behind are merged into
-//! the others at the end.
-ghost use Rattle.std.specs.Prelude.{◌≡◌, ◌+◌, ◌-◌, ◌<◌, ◌≤◌, ⊤, length, drop, slice_index_or, vec_len, vec_capacity, reverse, IfSome};
-ghost use Rattle.std.specs.List.{AllByRecursion};
-ghost use Rattle.std.specs.Ordering.{MatchOrdering};
+//! Many items at once: each is put in place of the row of its key, or among the rows behind the front, and those behind
+//! are merged into the others where they are many, and at the end.
+ghost use Rattle.std.specs.Prelude.{◌≡◌, ◌+◌, ◌<◌, ◌≤◌, ⊤, MatchBool, length, take, vec_len, vec_capacity};
 ghost use Rattle.feed_index.specs.Entries.{put_all, total};
-ghost use Rattle.feed_index.specs.Rows.{AreHeld, AreSorted, GaveBack, entries_of};
-ghost use Rattle.feed_index.specs.Staged.{RowsAreStaged, Takes};
+ghost use Rattle.feed_index.specs.Rows.{AreHeld, AreSorted, GaveBack, MayReplace, entries_of};
+ghost use Rattle.feed_index.specs.Staged.{IsNew, RowsAreStaged, Takes};
 
 use crate::change::{exchange, insert};
-use crate::entry::Entry;
 use crate::place::place;
 use crate::row::Row;
 use crate::runs::join;
 use crate::set::set;
 use span_pool::SpanPool;
-use std::cmp::Ordering;
 
 /// How many rows stand behind before they are merged.
 const MOST_BEHIND: usize = 256;
 
-/// How the last row behind the front stands to a key; where there are too many behind the front, as if it were greater.
-fn order_of_last<K: Ord, R>(rows: &[Row<K, R>], front: usize, key: &K) -> Ordering
-    requires within { front ≤ length rows.now }
-    requires sorted { AreSorted K.cmp (drop front rows.now) }
-    ensures order { MatchOrdering result (AllByRecursion (λ row. K.cmp row.key key.now ≡ Ordering.Less) (drop front rows.now)) ((front < length rows.now) × ((other : _) → K.cmp (slice_index_or rows.now (length rows.now - 1) other).key key.now ≡ Ordering.Equal)) ⊤ }
-{
-    if front == rows.len() {
-        return Ordering::Less;
-    }
-    if rows.len() - front > MOST_BEHIND {
-        return Ordering::Greater;
-    }
-    rows[rows.len() - 1].key.cmp(key)
-}
-
-/// Takes an item whose key is above those behind the front.
+/// Takes an item among those behind the front, where no row before has its key.
 fn take_behind<K: Ord + Drop, R: Drop>(
     rows: &mut Vec<Row<K, R>>,
     pool: &mut SpanPool,
@@ -42,54 +23,54 @@ fn take_behind<K: Ord + Drop, R: Drop>(
     key: K,
     value: R,
     bytes: &[u8],
-) -> usize
+)
     requires within { front ≤ vec_len rows.old }
     requires rows_room { vec_len rows.old < vec_capacity rows.old }
     requires bytes_room { length bytes.now ≤ pool.old.spare_bytes }
     requires spans_room { 0 < pool.old.spare_spans }
     requires held { AreHeld rows.old.items pool.old.spans }
     requires staged { RowsAreStaged K.cmp rows.old.items pool.old front }
-    requires order { AllByRecursion (λ row. K.cmp row.key key ≡ Ordering.Less) (drop front rows.old.items) }
-    ensures takes { Takes K.cmp rows.old.items pool.old front (record { key = key; value = value; bytes = bytes.now }) rows.new.items pool.new result }
+    requires new { IsNew (λ row. row.key) K.cmp (take front rows.old.items) key }
+    ensures takes { Takes K.cmp rows.old.items pool.old front
+        (record { key = key; value = value; bytes = bytes.now }) rows.new.items pool.new front }
     ensures capacity { vec_capacity rows.new ≡ vec_capacity rows.old }
 {
-    let len = rows.len();
-    match place(&rows[..front], &key) {
+    match place(rows.split_at(front).1, &key) {
         Ok(at) => {
-            let _old = exchange(rows, pool, at, key, value, bytes);
-            front
+            let _old = exchange(rows, pool, front + at, key, value, bytes);
         }
-        Err(_) => {
-            insert(rows, pool, len, key, value, bytes);
-            front
-        }
+        Err(at) => insert(rows, pool, front + at, key, value, bytes),
     }
 }
 
-/// Takes an item whose key is that of the last row behind the front.
-fn take_last<K: Ord + Drop, R: Drop>(
+/// Takes an item, and leaves where the front ends.
+fn take_early<K: Ord + Drop, R: Drop>(
     rows: &mut Vec<Row<K, R>>,
     pool: &mut SpanPool,
     front: usize,
     key: K,
     value: R,
     bytes: &[u8],
-) -> usize
-    requires within { front < vec_len rows.old }
+)
+    requires within { front ≤ vec_len rows.old }
+    requires rows_room { vec_len rows.old < vec_capacity rows.old }
     requires bytes_room { length bytes.now ≤ pool.old.spare_bytes }
     requires spans_room { 0 < pool.old.spare_spans }
     requires held { AreHeld rows.old.items pool.old.spans }
     requires staged { RowsAreStaged K.cmp rows.old.items pool.old front }
-    requires order { (other : _) → K.cmp (slice_index_or rows.old.items (vec_len rows.old - 1) other).key key ≡ Ordering.Equal }
-    ensures takes { Takes K.cmp rows.old.items pool.old front (record { key = key; value = value; bytes = bytes.now }) rows.new.items pool.new result }
+    ensures takes { Takes K.cmp rows.old.items pool.old front
+        (record { key = key; value = value; bytes = bytes.now }) rows.new.items pool.new front }
     ensures capacity { vec_capacity rows.new ≡ vec_capacity rows.old }
 {
-    let last = rows.len() - 1;
-    let _old = exchange(rows, pool, last, key, value, bytes);
-    front
+    match place(&rows[..front], &key) {
+        Ok(at) => {
+            let _old = exchange(rows, pool, at, key, value, bytes);
+        }
+        Err(_) => take_behind(rows, pool, front, key, value, bytes),
+    }
 }
 
-/// Takes any item, after the rows behind the front were merged.
+/// Takes an item, after the rows behind the front were merged.
 fn take_late<K: Ord + Drop, R: Drop>(
     rows: &mut Vec<Row<K, R>>,
     pool: &mut SpanPool,
@@ -104,16 +85,17 @@ fn take_late<K: Ord + Drop, R: Drop>(
     requires spans_room { 0 < pool.old.spare_spans }
     requires held { AreHeld rows.old.items pool.old.spans }
     requires staged { RowsAreStaged K.cmp rows.old.items pool.old front }
-    ensures takes { Takes K.cmp rows.old.items pool.old front (record { key = key; value = value; bytes = bytes.now }) rows.new.items pool.new result }
+    ensures takes { Takes K.cmp rows.old.items pool.old front
+        (record { key = key; value = value; bytes = bytes.now }) rows.new.items pool.new result }
     ensures capacity { vec_capacity rows.new ≡ vec_capacity rows.old }
 {
-    join(rows, pool, front);
+    join(rows, front);
     let _old = set(rows, pool, key, value, bytes);
     rows.len()
 }
 
 /// Takes an item, and answers where the front ends then.
-fn take_item<K: Ord + Drop, R: Drop>(
+pub fn take_item<K: Ord + Drop, R: Drop>(
     rows: &mut Vec<Row<K, R>>,
     pool: &mut SpanPool,
     front: usize,
@@ -127,52 +109,113 @@ fn take_item<K: Ord + Drop, R: Drop>(
     requires spans_room { 0 < pool.old.spare_spans }
     requires held { AreHeld rows.old.items pool.old.spans }
     requires staged { RowsAreStaged K.cmp rows.old.items pool.old front }
-    ensures takes { Takes K.cmp rows.old.items pool.old front (record { key = key; value = value; bytes = bytes.now }) rows.new.items pool.new result }
+    ensures takes { Takes K.cmp rows.old.items pool.old front
+        (record { key = key; value = value; bytes = bytes.now }) rows.new.items pool.new result }
     ensures capacity { vec_capacity rows.new ≡ vec_capacity rows.old }
 {
-    match order_of_last(rows, front, &key) {
-        Ordering::Less => take_behind(rows, pool, front, key, value, bytes),
-        Ordering::Equal => take_last(rows, pool, front, key, value, bytes),
-        Ordering::Greater => take_late(rows, pool, front, key, value, bytes),
+    if rows.len() - front > MOST_BEHIND {
+        return take_late(rows, pool, front, key, value, bytes);
     }
+    take_early(rows, pool, front, key, value, bytes);
+    front
 }
 
-/// Puts items one after the other. Takes no memory.
-pub fn merge_items<K: Ord + Drop, R: Drop>(
+/// Puts rows of another pool one after the other. Takes no memory.
+fn merge_rows<K: Ord + Drop, R: Drop>(
     rows: &mut Vec<Row<K, R>>,
     pool: &mut SpanPool,
-    mut items: Vec<Entry<K, R>>,
+    mut items: Vec<Row<K, R>>,
+    from: &SpanPool,
 )
     requires rows_room { vec_len rows.old + vec_len items ≤ vec_capacity rows.old }
-    requires bytes_room { total items.items ≤ pool.old.spare_bytes }
+    requires bytes_room { total (entries_of from.now.spans items.items) ≤ pool.old.spare_bytes }
     requires spans_room { vec_len items ≤ pool.old.spare_spans }
     requires held { AreHeld rows.old.items pool.old.spans }
     requires sorted { AreSorted K.cmp rows.old.items }
+    requires from { AreHeld items.items from.now.spans }
     ensures held { AreHeld rows.new.items pool.new.spans }
     ensures sorted { AreSorted K.cmp rows.new.items }
-    ensures entries { entries_of pool.new.spans rows.new.items ≡ put_all K.cmp (entries_of pool.old.spans rows.old.items) items.items }
+    ensures entries { entries_of pool.new.spans rows.new.items
+        ≡ put_all K.cmp (entries_of pool.old.spans rows.old.items) (entries_of from.now.spans items.items) }
     ensures len { vec_len rows.new ≤ vec_len rows.old + vec_len items }
     ensures capacity { vec_capacity rows.new ≡ vec_capacity rows.old }
-    ensures dead { GaveBack pool.old (total items.items) pool.new }
-    ensures spare_bytes { pool.old.spare_bytes ≤ pool.new.spare_bytes + total items.items }
+    ensures dead { GaveBack pool.old (total (entries_of from.now.spans items.items)) pool.new }
+    ensures spare_bytes { pool.old.spare_bytes ≤ pool.new.spare_bytes + total (entries_of from.now.spans items.items) }
     ensures spare_spans { pool.old.spare_spans ≤ pool.new.spare_spans + vec_len items }
 {
     let mut front = rows.len();
     items.reverse();
     'items: while let Some(item) = items.pop() {
-        let Entry { key, value, bytes } = item;
-        front = take_item(rows, pool, front, key, value, bytes.as_slice());
+        let Row { key, value, slot } = item;
+        front = take_item(rows, pool, front, key, value, from.span(&slot));
     }
-    join(rows, pool, front);
+    join(rows, front);
 }
 
-/// The bytes of items together, where the number has room.
-pub fn bytes_of<K, R>(items: &[Entry<K, R>]) -> Option<u64>
-    ensures sum { IfSome result (λ sum. sum ≡ total items.now) }
+/// Whether there is nothing yet, and rows and their pool have the room in its place, for so many more rows.
+fn may_replace<K, R>(
+    rows: &Vec<Row<K, R>>,
+    pool: &SpanPool,
+    items: &Vec<Row<K, R>>,
+    from: &SpanPool,
+    spare: usize,
+) -> bool
+    ensures room { MatchBool result
+        (MayReplace rows.now.items pool.now (vec_len items.now) (vec_capacity items.now) from.now spare) ⊤ }
 {
-    let mut sum: u64 = 0;
-    for item in items {
-        sum = sum.checked_add(item.bytes.len() as u64)?;
+    rows.is_empty()
+        && pool.len() == 0
+        && items.capacity() - items.len() >= spare
+        && from.spare_spans() >= spare as u64
+        && from.spare_bytes() >= pool.spare_bytes().saturating_sub(from.live())
+}
+
+/// Puts rows and their pool in place of others, without dead bytes.
+fn replace<K: Drop, R: Drop>(
+    rows: &mut Vec<Row<K, R>>,
+    pool: &mut SpanPool,
+    items: Vec<Row<K, R>>,
+    mut from: SpanPool,
+)
+    ensures rows { rows.new ≡ items }
+    ensures spans { pool.new.spans ≡ from.spans }
+    ensures dead { pool.new.dead ≡ 0 }
+    ensures spare_bytes { from.spare_bytes ≤ pool.new.spare_bytes }
+    ensures spare_spans { from.spare_spans ≤ pool.new.spare_spans }
+{
+    from.compact();
+    *rows = items;
+    *pool = from;
+}
+
+/// Merges rows of another pool, and leaves room for so many more. Where there is nothing yet, they come as they are.
+/// Takes no memory.
+pub fn merge_all<K: Ord + Drop, R: Drop>(
+    rows: &mut Vec<Row<K, R>>,
+    pool: &mut SpanPool,
+    items: Vec<Row<K, R>>,
+    from: SpanPool,
+    spare: usize,
+)
+    requires rows_room { vec_len rows.old + vec_len items + spare ≤ vec_capacity rows.old }
+    requires bytes_room { total (entries_of from.spans items.items) ≤ pool.old.spare_bytes }
+    requires spans_room { vec_len items + spare ≤ pool.old.spare_spans }
+    requires held { AreHeld rows.old.items pool.old.spans }
+    requires sorted { AreSorted K.cmp rows.old.items }
+    requires from { AreHeld items.items from.spans }
+    requires from_sorted { AreSorted K.cmp items.items }
+    ensures held { AreHeld rows.new.items pool.new.spans }
+    ensures sorted { AreSorted K.cmp rows.new.items }
+    ensures entries { entries_of pool.new.spans rows.new.items
+        ≡ put_all K.cmp (entries_of pool.old.spans rows.old.items) (entries_of from.spans items.items) }
+    ensures rows_room { vec_len rows.new + spare ≤ vec_capacity rows.new }
+    ensures spans_room { spare ≤ pool.new.spare_spans }
+    ensures dead { GaveBack pool.old (total (entries_of from.spans items.items)) pool.new }
+    ensures spare_bytes { pool.old.spare_bytes ≤ pool.new.spare_bytes + total (entries_of from.spans items.items) }
+{
+    if may_replace(rows, pool, &items, &from, spare) {
+        replace(rows, pool, items, from);
+    } else {
+        merge_rows(rows, pool, items, &from);
     }
-    Some(sum)
 }

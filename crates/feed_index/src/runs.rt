@@ -1,13 +1,11 @@
 //! Two runs of rows in one list, of which the second is merged into the first from its end, in its own room.
 ghost use Rattle.std.specs.Prelude.{◌≡◌, ◌<◌, ◌≤◌, ◌-◌, length, slice_index_or, take, drop, IsPermutation, vec_len, vec_capacity};
-ghost use Rattle.feed_index.specs.Entries.{put_all};
 ghost use Rattle.feed_index.specs.Order.{with_all};
 ghost use Rattle.feed_index.specs.Rows.{AreHeld, AreSorted, IsGapAt, entries_of};
-ghost use Rattle.feed_index.specs.Staged.{AreStaged, IsNew, IsTurned, RowsAreStaged};
+ghost use Rattle.feed_index.specs.Staged.{AreStaged, IsNew, IsTurned, gathered};
 
 use crate::place::place;
 use crate::row::Row;
-use span_pool::SpanPool;
 
 /// Where a key would stand among rows, none of which has it.
 fn gap<K: Ord, R>(rows: &[Row<K, R>], key: &K) -> usize
@@ -37,8 +35,10 @@ fn gap_of_last<K: Ord, R>(rows: &[Row<K, R>], front: usize, end: usize) -> usize
     requires within { front < end }
     requires end { end ≤ length rows.now }
     requires sorted { AreSorted K.cmp (take front rows.now) }
-    requires new { (other : _) → IsNew (λ row. row.key) K.cmp (take front rows.now) (slice_index_or rows.now (end - 1) other).key }
-    ensures gap { (other : _) → IsGapAt K.cmp (take front rows.now) (slice_index_or rows.now (end - 1) other).key result }
+    requires new { (other : _)
+        → IsNew (λ row. row.key) K.cmp (take front rows.now) (slice_index_or rows.now (end - 1) other).key }
+    ensures gap { (other : _)
+        → IsGapAt K.cmp (take front rows.now) (slice_index_or rows.now (end - 1) other).key result }
 {
     gap(&rows[..front], &rows[end - 1].key)
 }
@@ -61,16 +61,14 @@ fn merge_runs<K: Ord, R>(rows: &mut [Row<K, R>], front: usize)
 }
 
 /// Merges the rows from `front` on into those before. Takes no memory.
-pub fn join<K: Ord, R>(rows: &mut Vec<Row<K, R>>, pool: &SpanPool, front: usize)
+pub fn join<K: Ord, R>(rows: &mut Vec<Row<K, R>>, front: usize)
     requires within { front ≤ vec_len rows.old }
-    requires held { AreHeld rows.old.items pool.now.spans }
-    requires staged { RowsAreStaged K.cmp rows.old.items pool.now front }
-    ensures held { AreHeld rows.new.items pool.now.spans }
+    requires staged { AreStaged (λ row. row.key) K.cmp (take front rows.old.items) (drop front rows.old.items) }
+    ensures held { (spans : _) → AreHeld rows.old.items spans → AreHeld rows.new.items spans }
     ensures sorted { AreSorted K.cmp rows.new.items }
-    ensures entries { entries_of pool.now.spans rows.new.items ≡ put_all K.cmp (take front (entries_of pool.now.spans rows.old.items)) (drop front (entries_of pool.now.spans rows.old.items)) }
+    ensures entries { (spans : _) → entries_of spans rows.new.items ≡ gathered K.cmp rows.old.items spans front }
     ensures len { vec_len rows.new ≡ vec_len rows.old }
     ensures capacity { vec_capacity rows.new ≡ vec_capacity rows.old }
 {
-    let _pool = pool;
     merge_runs(rows, front);
 }

@@ -23,7 +23,9 @@ pub fn set<K: Ord + Drop, R>(
     requires sorted { AreSorted K.cmp rows.old.items }
     ensures held { AreHeld rows.new.items pool.new.spans }
     ensures sorted { AreSorted K.cmp rows.new.items }
-    ensures entries { entries_of pool.new.spans rows.new.items ≡ put K.cmp (entries_of pool.old.spans rows.old.items) (record { key = key; value = value; bytes = bytes.now }) }
+    ensures entries { entries_of pool.new.spans rows.new.items
+        ≡ put K.cmp (entries_of pool.old.spans rows.old.items)
+        (record { key = key; value = value; bytes = bytes.now }) }
     ensures old { result ≡ value_at K.cmp (entries_of pool.old.spans rows.old.items) key }
     ensures len { vec_len rows.new ≤ vec_len rows.old + 1 }
     ensures capacity { vec_capacity rows.new ≡ vec_capacity rows.old }
@@ -46,7 +48,8 @@ pub fn unset<K: Ord + Drop, R>(rows: &mut Vec<Row<K, R>>, pool: &mut SpanPool, k
     requires sorted { AreSorted K.cmp rows.old.items }
     ensures held { AreHeld rows.new.items pool.new.spans }
     ensures sorted { AreSorted K.cmp rows.new.items }
-    ensures entries { entries_of pool.new.spans rows.new.items ≡ removed K.cmp (entries_of pool.old.spans rows.old.items) key.now }
+    ensures entries { entries_of pool.new.spans rows.new.items
+        ≡ removed K.cmp (entries_of pool.old.spans rows.old.items) key.now }
     ensures old { result ≡ value_at K.cmp (entries_of pool.old.spans rows.old.items) key.now }
     ensures len { vec_len rows.new ≤ vec_len rows.old }
     ensures capacity { vec_capacity rows.new ≡ vec_capacity rows.old }

@@ -1,5 +1,5 @@
-//! The bytes of the entries in the order of their keys, written to a sink. Small pieces are gathered in a buffer that is
-//! a local of the call.
+//! The bytes of the entries in the order of their keys, written to a sink. Small pieces are gathered in a buffer that
+//! is a local of the call.
 ghost use Rattle.std.specs.Prelude.{◌≡◌, ◌++◌, [], if◌then◌else◌, Bool, OnOk, OnErr, IsErr};
 ghost use Rattle.gw_base.specs.Count.{Counts, Rose};
 ghost use Rattle.gw_base.specs.Told.{PutsUnless, with_bytes};
@@ -30,8 +30,11 @@ fn gather<S: Sink>(
     sink: &mut S,
     piece: &[u8],
 ) -> Result<(), Failed>
-    ensures sent { OnOk result (Sends (S.told sink.old) (S.told sink.new) gathered.new.items (gathered.old.items ++ piece.now)) }
-    ensures front { OnErr result (PutsUnless (Rose (S.faults sink.old) (S.faults sink.new)) (S.told sink.old) (S.told sink.new) (gathered.old.items ++ piece.now)) }
+    ensures sent { OnOk result
+        (Sends (S.told sink.old) (S.told sink.new) gathered.new.items (gathered.old.items ++ piece.now)) }
+    ensures front { OnErr result
+        (PutsUnless (Rose (S.faults sink.old) (S.faults sink.new)) (S.told sink.old) (S.told sink.new)
+        (gathered.old.items ++ piece.now)) }
     ensures counts { Counts (IsErr result) (S.faults sink.old) (S.faults sink.new) }
     ensures others { S.beside sink.new ≡ S.beside sink.old }
 {
@@ -60,8 +63,12 @@ fn offer<R, C: Choice<R>, S: Sink>(
     value: &R,
     piece: &[u8],
 ) -> Result<(), Failed>
-    ensures sent { OnOk result (Sends (S.told sink.old) (S.told sink.new) gathered.new.items (gathered.old.items ++ (if C.test choice.now value.now then piece.now else []))) }
-    ensures front { OnErr result (PutsUnless (Rose (S.faults sink.old) (S.faults sink.new)) (S.told sink.old) (S.told sink.new) (gathered.old.items ++ (if C.test choice.now value.now then piece.now else []))) }
+    ensures sent { OnOk result
+        (Sends (S.told sink.old) (S.told sink.new) gathered.new.items
+        (gathered.old.items ++ (if C.test choice.now value.now then piece.now else []))) }
+    ensures front { OnErr result
+        (PutsUnless (Rose (S.faults sink.old) (S.faults sink.new)) (S.told sink.old) (S.told sink.new)
+        (gathered.old.items ++ (if C.test choice.now value.now then piece.now else []))) }
     ensures counts { Counts (IsErr result) (S.faults sink.old) (S.faults sink.new) }
     ensures others { S.beside sink.new ≡ S.beside sink.old }
 {
@@ -81,8 +88,12 @@ fn gather_rows<K, R, C: Choice<R>, S: Sink>(
 ) -> Result<(), Failed>
     requires held { AreHeld rows.now pool.now.spans }
     requires none { gathered.old.items ≡ [] }
-    ensures sent { OnOk result (Sends (S.told sink.old) (S.told sink.new) gathered.new.items (chosen (C.test choice.now) (entries_of pool.now.spans rows.now))) }
-    ensures front { OnErr result (PutsUnless (Rose (S.faults sink.old) (S.faults sink.new)) (S.told sink.old) (S.told sink.new) (chosen (C.test choice.now) (entries_of pool.now.spans rows.now))) }
+    ensures sent { OnOk result
+        (Sends (S.told sink.old) (S.told sink.new) gathered.new.items
+        (chosen (C.test choice.now) (entries_of pool.now.spans rows.now))) }
+    ensures front { OnErr result
+        (PutsUnless (Rose (S.faults sink.old) (S.faults sink.new)) (S.told sink.old) (S.told sink.new)
+        (chosen (C.test choice.now) (entries_of pool.now.spans rows.now))) }
     ensures counts { Counts (IsErr result) (S.faults sink.old) (S.faults sink.new) }
     ensures others { S.beside sink.new ≡ S.beside sink.old }
 {
@@ -104,8 +115,11 @@ pub fn write_rows<K, R, C: Choice<R>, S: Sink>(
     sink: &mut S,
 ) -> Result<(), Failed>
     requires held { AreHeld rows.now pool.now.spans }
-    ensures all { OnOk result (S.told sink.new ≡ with_bytes (S.told sink.old) (chosen (C.test choice.now) (entries_of pool.now.spans rows.now))) }
-    ensures front { PutsUnless (Rose (S.faults sink.old) (S.faults sink.new)) (S.told sink.old) (S.told sink.new) (chosen (C.test choice.now) (entries_of pool.now.spans rows.now)) }
+    ensures all { OnOk result
+        (S.told sink.new
+        ≡ with_bytes (S.told sink.old) (chosen (C.test choice.now) (entries_of pool.now.spans rows.now))) }
+    ensures front { PutsUnless (Rose (S.faults sink.old) (S.faults sink.new)) (S.told sink.old) (S.told sink.new)
+        (chosen (C.test choice.now) (entries_of pool.now.spans rows.now)) }
     ensures counts { Counts (IsErr result) (S.faults sink.old) (S.faults sink.new) }
     ensures others { S.beside sink.new ≡ S.beside sink.old }
 {

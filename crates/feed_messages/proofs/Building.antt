@@ -27,24 +27,38 @@ body_field number body = record { number = number; payload = Bytes body }
 record Reads (bytes : List ℕ) (fields : List WireField) : Type 0 where
   read : AreFields bytes fields
 
-body_alone : (number : ℕ) (body : List ℕ) → 1 ≤ number → number ≤ 536870911 → length body < 2 ^ 64 → Reads (bytes_field number body) (body_field number body ∷ [])
-body_alone number body first last short = record { read = Concatenates-one (IsSpelling 64) (body_field number body) (bytes_field number body) (bytes_field_written number body first last short) }
+body_alone : (number : ℕ) (body : List ℕ) → 1 ≤ number → number ≤ 536870911 → length body < 2 ^ 64
+    → Reads (bytes_field number body) (body_field number body ∷ [])
+body_alone number body first last short =
+    record {
+      read = Concatenates-one (IsSpelling 64) (body_field number body) (bytes_field number body)
+          (bytes_field_written number body first last short);
+    }
 
-then_body : {fields : List WireField} {front : List ℕ} → Reads front fields → (number : ℕ) (body : List ℕ) → 1 ≤ number → number ≤ 536870911 → length body < 2 ^ 64
+then_body : {fields : List WireField} {front : List ℕ} → Reads front fields → (number : ℕ) (body : List ℕ)
+    → 1 ≤ number → number ≤ 536870911 → length body < 2 ^ 64
     → Reads (front ++ bytes_field number body) (fields ++ body_field number body ∷ [])
 then_body {fields} {front} h number body first last short =
-    record { read = Concatenates-push (IsSpelling 64) fields (body_field number body) front (bytes_field number body) h.read (bytes_field_written number body first last short) }
+    record {
+      read = Concatenates-push (IsSpelling 64) fields (body_field number body) front (bytes_field number body)
+          h.read (bytes_field_written number body first last short);
+    }
 
-then_number : {fields : List WireField} {front : List ℕ} → Reads front fields → (number value : ℕ) → 1 ≤ number → number ≤ 536870911 → value < 2 ^ 64
+then_number : {fields : List WireField} {front : List ℕ} → Reads front fields → (number value : ℕ) → 1 ≤ number
+    → number ≤ 536870911 → value < 2 ^ 64
     → Reads (front ++ varint_field number value) (fields ++ number_field number value ∷ [])
 then_number {fields} {front} h number value first last small =
-    record { read = Concatenates-push (IsSpelling 64) fields (number_field number value) front (varint_field number value) h.read (varint_field_written number value first last small) }
+    record {
+      read = Concatenates-push (IsSpelling 64) fields (number_field number value) front
+          (varint_field number value) h.read (varint_field_written number value first last small);
+    }
 
 then_nothing : {fields : List WireField} {front : List ℕ} → Reads front fields → Reads (front ++ []) fields
 then_nothing {fields} {front} h = rw (append-nil front) h
 
 -- a body alone is all bodies
-pub one_body : {M : Type 0} (Table : List WireField → M → Type 0) (body : List ℕ) (message : M) → Means Table body message → Means Table (body ++ []) message
+pub one_body : {M : Type 0} (Table : List WireField → M → Type 0) (body : List ℕ) (message : M)
+    → Means Table body message → Means Table (body ++ []) message
 one_body Table body message h = rw (append-nil body) h
 
 -- the header of a full dataset
@@ -52,7 +66,9 @@ version_is_text : IsUtf8 (codes "2.0")
 unfolding lib.Utf8.encode
 version_is_text = (codes "2.0", (refl, refl))
 
-means_feed_header : (timestamp : ℕ) → timestamp < 2 ^ 64 → Means OfFeedHeader (feed_header timestamp) (record { version = codes "2.0"; incrementality = pos 0; timestamp = Some timestamp })
+means_feed_header : (timestamp : ℕ) → timestamp < 2 ^ 64
+    → Means OfFeedHeader (feed_header timestamp)
+    (record { version = codes "2.0"; incrementality = pos 0; timestamp = Some timestamp })
 means_feed_header timestamp small = record {
   fields = body_field 1 (codes "2.0") ∷ number_field 2 0 ∷ number_field 3 timestamp ∷ [];
   read =
@@ -65,7 +81,8 @@ means_feed_header timestamp small = record {
 length-feed_header : (timestamp : ℕ) → timestamp < 2 ^ 64 → length (feed_header timestamp) < 2 ^ 64
 length-feed_header timestamp small =
     let ten : length (varint timestamp) ≤ 10 = length-varint_10 timestamp small in
-    let whole : length (feed_header timestamp) ≡ 8 + length (varint timestamp) = ap length (feed_header-is timestamp) ∙ length-append header_front (varint timestamp) in
+    let whole : length (feed_header timestamp) ≡ 8 + length (varint timestamp) =
+    ap length (feed_header-is timestamp) ∙ length-append header_front (varint timestamp) in
     omega arith
 
 -- a header alone is a feed without entities
@@ -73,7 +90,8 @@ pub means_header : (moment : ℤ) → unsigned_abs moment < 2 ^ 64 → MeansFeed
 means_header moment small =
     let inside = means_feed_header (unsigned_abs moment) small in record {
       fields = body_field 1 (feed_header (unsigned_abs moment)) ∷ [];
-      read = (body_alone 1 (feed_header (unsigned_abs moment)) (omega arith) (omega arith) (length-feed_header (unsigned_abs moment) small)).read;
+      read = (body_alone 1 (feed_header (unsigned_abs moment)) (omega arith) (omega arith)
+          (length-feed_header (unsigned_abs moment) small)).read;
       table = record {
         header = (((inside.fields, inside.read), tt), one_body OfFeedHeader _ _ inside);
         entity = tt;
@@ -81,22 +99,31 @@ means_header moment small =
     }
 
 -- an entity more
-pub AllZip-push : {A B : Type 0} (R : A → B → Type 0) (xs : List A) (ys : List B) (x : A) (y : B) → AllZip R xs ys → R x y → AllZip R (xs ++ x ∷ []) (ys ++ y ∷ [])
+pub AllZip-push : {A B : Type 0} (R : A → B → Type 0) (xs : List A) (ys : List B) (x : A) (y : B) → AllZip R xs ys
+    → R x y → AllZip R (xs ++ x ∷ []) (ys ++ y ∷ [])
 AllZip-push R [] [] x y h r = (r, tt)
 AllZip-push R [] (b ∷ ys) x y h r = absurd h
 AllZip-push R (a ∷ xs) [] x y h r = absurd h
 AllZip-push R (a ∷ xs) (b ∷ ys) x y h r = (h.0, AllZip-push R xs ys x y h.1 r)
 
-bodies-more : (number : ℕ) (fields more : List WireField) → bodies number (fields ++ more) ≡ bodies number fields ++ bodies number more
+bodies-more : (number : ℕ) (fields more : List WireField)
+    → bodies number (fields ++ more) ≡ bodies number fields ++ bodies number more
 bodies-more number fields more = filter_map-append _ fields more
 
 pub means_more : (front back : List ℕ) (feed : Feed) (entity : Entity) → MeansFeed front feed → MeansEntity back entity
-    → MeansFeed (front ++ back) (record { version = feed.version; incrementality = feed.incrementality; timestamp = feed.timestamp; entities = feed.entities ++ entity ∷ [] })
+    → MeansFeed (front ++ back)
+    (record {
+      version = feed.version;
+      incrementality = feed.incrementality;
+      timestamp = feed.timestamp;
+      entities = feed.entities ++ entity ∷ [];
+    })
 means_more front back feed entity h k = record {
   fields = h.fields ++ body_field 2 k.body ∷ [];
   read = Concatenates-append (IsSpelling 64) h.fields (body_field 2 k.body ∷ []) front back h.read k.field;
   table = record {
     header = rw (bodies-more 1 h.fields (body_field 2 k.body ∷ []), append-nil (bodies 1 h.fields)) h.table.header;
-    entity = rw (bodies-more 2 h.fields (body_field 2 k.body ∷ [])) (AllZip-push (Means OfFeedEntity) (bodies 2 h.fields) feed.entities k.body entity h.table.entity k.means);
+    entity = rw (bodies-more 2 h.fields (body_field 2 k.body ∷ []))
+        (AllZip-push (Means OfFeedEntity) (bodies 2 h.fields) feed.entities k.body entity h.table.entity k.means);
   };
 }

@@ -10,6 +10,7 @@ use Rattle.wire_fields.specs.Breaks.{BeginsNone}
 use Rattle.wire_fields.specs.Reading.{varint_at}
 use Rattle.wire_fields.proofs.Numbers.{varint_found, varint_again}
 use Rattle.wire_fields.proofs.Existence.{decided}
+use Rattle.feed_messages.specs.Limits.{entity_limit}
 use Rattle.feed_messages.specs.declared.fault.FeedFault.{FeedFault}
 use Rattle.feed_messages.specs.declared.fault.FeedFault.TheVariants.{EntityTooLong, Wire, NotText, MissingField, Memory}
 use Rattle.feed_messages.specs.Meaning.{bodies}
@@ -38,7 +39,8 @@ no_faults = (None, λ f x. x)
 either : (P Q : FeedFault → Type 0) → Decided P → Decided Q → Decided (λ f. P f ⊎ Q f)
 either P Q a b = (earlier_of a.0 b.0, least_either P Q a.0 b.0 a.1 b.1)
 
-otherwise_said : (P Q : FeedFault → Type 0) → ((f : FeedFault) → P f → Q f) → ((f : FeedFault) → Q f → P f) → Decided P → Decided Q
+otherwise_said : (P Q : FeedFault → Type 0) → ((f : FeedFault) → P f → Q f) → ((f : FeedFault) → Q f → P f)
+    → Decided P → Decided Q
 otherwise_said P Q to back a = (a.0, least_same P Q to back a.0 a.1)
 
 -- ---- of one piece, and of some
@@ -47,7 +49,10 @@ torn_decided : (piece : Piece) → Decided (IsTorn piece)
 torn_decided piece =
     elim (decided piece.bytes) [
       | inl read ↦ (None, not_torn piece read.0 read.1)
-      | inr broken ↦ (Some (Wire (record { at = piece.start + broken.0; kind = broken.1 })), torn_there piece broken.0 broken.1 broken.2)
+      | inr broken ↦ (
+        Some (Wire (record { at = piece.start + broken.0; kind = broken.1 })),
+        torn_there piece broken.0 broken.1 broken.2,
+      )
     ]
 
 text_decided : (piece : Piece) → Decided (IsNotText piece)
@@ -57,7 +62,8 @@ text_decided piece =
       | inr refused ↦ (Some (NotText piece.tag), no_text_here piece refused)
     ]
 
-some_decided : (Has : Piece → FeedFault → Type 0) → ((piece : Piece) → Decided (Has piece)) → (pieces : List Piece) → Decided (InSome (Among pieces) Has)
+some_decided : (Has : Piece → FeedFault → Type 0) → ((piece : Piece) → Decided (Has piece)) → (pieces : List Piece)
+    → Decided (InSome (Among pieces) Has)
 some_decided Has each [] = (None, λ f x. x.1)
 some_decided Has each (piece ∷ pieces) =
     otherwise_said (λ f. Has piece f ⊎ InSome (Among pieces) Has f) (InSome (Among (piece ∷ pieces)) Has)
@@ -67,16 +73,23 @@ some_decided Has each (piece ∷ pieces) =
 
 -- ---- what stands in pieces
 
-list_front : (number tag start : ℕ) (fields : List WireField) (front rest : List ℕ) → AreFields front fields → BeginsNone rest → IsList (Stands (from tag start (front ++ rest)) number) (bodies number fields)
+list_front : (number tag start : ℕ) (fields : List WireField) (front rest : List ℕ) → AreFields front fields
+    → BeginsNone rest → IsList (Stands (from tag start (front ++ rest)) number) (bodies number fields)
 list_front number tag start [] front rest h none =
     record {
       inner = [];
       same_bytes = refl;
-      set = record { to = λ q st. stands_nowhere (from tag start rest) number q none (subst (λ (b : List ℕ). Stands (from tag start (b ++ rest)) number q) h st); back = λ q a. absurd a };
+      set = record {
+        to = λ q st. stands_nowhere (from tag start rest) number q none
+            (subst (λ (b : List ℕ). Stands (from tag start (b ++ rest)) number q) h st);
+        back = λ q a. absurd a;
+      };
     }
 list_front number tag start (field ∷ fields) front rest h none =
-    let more = list_more number tag start h.0 (h.1 ++ rest) field (bodies number fields) _ h.3 refl (list_front number tag (start + length h.0) fields h.1 rest h.4 none) in
-    let parts : h.0 ++ (h.1 ++ rest) ≡ front ++ rest = sym (append_assoc h.0 h.1 rest) ∙ ap (λ (l : List ℕ). l ++ rest) (sym h.2) in
+    let more = list_more number tag start h.0 (h.1 ++ rest) field (bodies number fields) _ h.3 refl
+    (list_front number tag (start + length h.0) fields h.1 rest h.4 none) in
+    let parts : h.0 ++ (h.1 ++ rest) ≡ front ++ rest = sym (append_assoc h.0 h.1 rest)
+    ∙ ap (λ (l : List ℕ). l ++ rest) (sym h.2) in
     subst (λ (b : List ℕ). IsList (Stands (from tag start b) number) (bodies number (field ∷ fields))) parts more
 
 -- the pieces of a list that stand for a set
@@ -87,12 +100,18 @@ piece_inner : (number : ℕ) (piece : Piece) → Inner (Stands piece number)
 piece_inner number piece =
     elim (decided piece.bytes) [
       | inl read ↦
-          let l = list_front number piece.tag piece.start read.0 piece.bytes [] read.1 none_at_end in
-          (l.inner, subst (λ (b : List ℕ). SameSet (Stands (from piece.tag piece.start b) number) (Among l.inner)) (append-nil piece.bytes) l.set)
+          let l = list_front number piece.tag piece.start read.0 piece.bytes [] read.1 none_at_end in (
+            l.inner,
+            subst (λ (b : List ℕ). SameSet (Stands (from piece.tag piece.start b) number) (Among l.inner))
+                (append-nil piece.bytes) l.set,
+          )
       | inr broken ↦
           let b = broken.2 in
-          let l = list_front number piece.tag piece.start b.fields b.front b.rest b.read b.breaks.none in
-          (l.inner, subst (λ (b : List ℕ). SameSet (Stands (from piece.tag piece.start b) number) (Among l.inner)) (sym b.joined) l.set)
+          let l = list_front number piece.tag piece.start b.fields b.front b.rest b.read b.breaks.none in (
+            l.inner,
+            subst (λ (b : List ℕ). SameSet (Stands (from piece.tag piece.start b) number) (Among l.inner))
+                (sym b.joined) l.set,
+          )
     ]
 
 all_inner : (number : ℕ) (pieces : List Piece) → Inner (Inside number (Among pieces))
@@ -118,14 +137,16 @@ all_inner number (piece ∷ pieces) =
 torn_lacks : (number : ℕ) (piece : Piece) (f : FeedFault) → IsTorn piece f → Lacks number piece → ⊥
 torn_lacks number piece f t l = fields_not_torn piece l.0 l.1 f t
 
-not_lacking : (number end : ℕ) (name : Required) (M : Piece → Type 0) → (((p : Piece) → M p → Lacks number p) → ⊥) → (f : FeedFault) → IsMissing number (Some name) M end f → ⊥
+not_lacking : (number end : ℕ) (name : Required) (M : Piece → Type 0) → (((p : Piece) → M p → Lacks number p) → ⊥)
+    → (f : FeedFault) → IsMissing number (Some name) M end f → ⊥
 not_lacking number end name M held (MissingField at missed) h = held h.1.lacks
 not_lacking number end name M held (EntityTooLong at) h = h
 not_lacking number end name M held (Wire fault) h = h
 not_lacking number end name M held (NotText at) h = h
 not_lacking number end name M held Memory h = h
 
-missing_order : (number end first : ℕ) (name : Required) (M : Piece → Type 0) → IsLacking number M first → (f : FeedFault) → IsMissing number (Some name) M end f → missing_place name first end * 4 + 3 ≤ order f
+missing_order : (number end first : ℕ) (name : Required) (M : Piece → Type 0) → IsLacking number M first
+    → (f : FeedFault) → IsMissing number (Some name) M end f → missing_place name first end * 4 + 3 ≤ order f
 missing_order number end first name M l (MissingField at missed) h =
     let least : first ≤ h.0 = omega (arith, l.least h.1.piece h.1.among, h.1.here) in
     let greatest : h.0 ≤ first = omega (arith, h.1.least l.piece l.among, l.here) in
@@ -136,20 +157,27 @@ missing_order number end first name M l (Wire fault) h = absurd h
 missing_order number end first name M l (NotText at) h = absurd h
 missing_order number end first name M l Memory h = absurd h
 
-lacks_or : (number : ℕ) (piece : Piece) → ((q : Piece) → ¬ Stands piece number q) → ((f : FeedFault) → ¬ IsTorn piece f) → Lacks number piece
+lacks_or : (number : ℕ) (piece : Piece) → ((q : Piece) → ¬ Stands piece number q)
+    → ((f : FeedFault) → ¬ IsTorn piece f) → Lacks number piece
 lacks_or number piece none unbroken =
     elim (decided piece.bytes) [
       | inl read ↦ lacks_from piece number read.0 read.1 none
-      | inr broken ↦ absurd (unbroken (Wire (record { at = piece.start + broken.0; kind = broken.1 })) (broken.0, broken.2, refl))
+      | inr broken ↦ absurd
+          (unbroken (Wire (record { at = piece.start + broken.0; kind = broken.1 })) (broken.0, broken.2, refl))
     ]
 
-missing_by : (number end : ℕ) (name : Required) (piece : Piece) (pieces inner : List Piece) → SameSet (Inside number (Among (piece ∷ pieces))) (Among inner) → (found : Option FeedFault) → IsLeast (InSome (Among (piece ∷ pieces)) IsTorn) found
+missing_by : (number end : ℕ) (name : Required) (piece : Piece) (pieces inner : List Piece)
+    → SameSet (Inside number (Among (piece ∷ pieces))) (Among inner) → (found : Option FeedFault)
+    → IsLeast (InSome (Among (piece ∷ pieces)) IsTorn) found
     → Decided (IsMissing number (Some name) (Among (piece ∷ pieces)) end)
 missing_by number end name piece pieces (q ∷ inner) set found torn =
     let x = set.back q (inl refl) in
     (None, not_lacking number end name (Among (piece ∷ pieces)) (λ all. stands_lacks x.0 q number (all x.0 x.1) x.2))
-missing_by number end name piece pieces [] set (Some fault) torn =
-    (None, not_lacking number end name (Among (piece ∷ pieces)) (λ all. torn_lacks number torn.0.0 fault torn.0.2 (all torn.0.0 torn.0.1)))
+missing_by number end name piece pieces [] set (Some fault) torn = (
+  None,
+  not_lacking number end name (Among (piece ∷ pieces))
+      (λ all. torn_lacks number torn.0.0 fault torn.0.2 (all torn.0.0 torn.0.1)),
+)
 missing_by number end name piece pieces [] set None torn =
     let t = first_tag piece pieces in
     let lacking : IsLacking number (Among (piece ∷ pieces)) t.0.tag = record {
@@ -158,17 +186,21 @@ missing_by number end name piece pieces [] set None torn =
       here = refl;
       least = t.2;
       lacks = λ p a. lacks_or number p (λ q st. set.to q (p, a, st)) (λ f x. torn f (p, a, x));
-    } in
-    (Some (MissingField (missing_place name t.0.tag end) name), ((t.0.tag, lacking, refl, refl), missing_order number end t.0.tag name (Among (piece ∷ pieces)) lacking))
+    } in (
+      Some (MissingField (missing_place name t.0.tag end) name),
+      ((t.0.tag, lacking, refl, refl), missing_order number end t.0.tag name (Among (piece ∷ pieces)) lacking),
+    )
 
-no_piece_missing : (number end : ℕ) (name : Required) (f : FeedFault) → IsMissing number (Some name) (Among []) end f → ⊥
+no_piece_missing : (number end : ℕ) (name : Required) (f : FeedFault) → IsMissing number (Some name) (Among []) end f
+    → ⊥
 no_piece_missing number end name (MissingField at missed) h = h.1.among
 no_piece_missing number end name (EntityTooLong at) h = h
 no_piece_missing number end name (Wire fault) h = h
 no_piece_missing number end name (NotText at) h = h
 no_piece_missing number end name Memory h = h
 
-missing_decided : (number end : ℕ) (name : Option Required) (pieces : List Piece) → Decided (IsMissing number name (Among pieces) end)
+missing_decided : (number end : ℕ) (name : Option Required) (pieces : List Piece)
+    → Decided (IsMissing number name (Among pieces) end)
 missing_decided number end None pieces = (None, λ f x. x)
 missing_decided number end (Some name) [] = (None, no_piece_missing number end name)
 missing_decided number end (Some name) (piece ∷ pieces) =
@@ -183,49 +215,67 @@ in_decided Nothing end pieces = no_faults
 in_decided (WithText number name others) end pieces =
     let inner = all_inner number pieces in
     let texts =
-    otherwise_said (InSome (Among inner.0) IsNotText) (InSome (Inside number (Among pieces)) IsNotText) (in_same IsNotText (same_turned inner.1)) (in_same IsNotText inner.1)
+    otherwise_said (InSome (Among inner.0) IsNotText) (InSome (Inside number (Among pieces)) IsNotText)
+    (in_same IsNotText (same_turned inner.1)) (in_same IsNotText inner.1)
     (some_decided IsNotText text_decided inner.0) in
-    either (λ f. InSome (Inside number (Among pieces)) IsNotText f ⊎ IsMissing number name (Among pieces) end f) (HasFaultIn others (Among pieces) end)
-    (either (InSome (Inside number (Among pieces)) IsNotText) (IsMissing number name (Among pieces) end) texts (missing_decided number end name pieces)) (in_decided others end pieces)
+    either (λ f. InSome (Inside number (Among pieces)) IsNotText f ⊎ IsMissing number name (Among pieces) end f)
+    (HasFaultIn others (Among pieces) end)
+    (either (InSome (Inside number (Among pieces)) IsNotText) (IsMissing number name (Among pieces) end) texts
+    (missing_decided number end name pieces)) (in_decided others end pieces)
 in_decided (WithMessage number name known others) end pieces =
     let inner = all_inner number pieces in
     let torn =
-    otherwise_said (InSome (Among inner.0) IsTorn) (InSome (Inside number (Among pieces)) IsTorn) (in_same IsTorn (same_turned inner.1)) (in_same IsTorn inner.1) (some_decided IsTorn torn_decided inner.0) in
+    otherwise_said (InSome (Among inner.0) IsTorn) (InSome (Inside number (Among pieces)) IsTorn)
+    (in_same IsTorn (same_turned inner.1)) (in_same IsTorn inner.1) (some_decided IsTorn torn_decided inner.0) in
     let inside =
-    otherwise_said (HasFaultIn known (Among inner.0) end) (HasFaultIn known (Inside number (Among pieces)) end) (faults_same known end (same_turned inner.1)) (faults_same known end inner.1)
+    otherwise_said (HasFaultIn known (Among inner.0) end) (HasFaultIn known (Inside number (Among pieces)) end)
+    (faults_same known end (same_turned inner.1)) (faults_same known end inner.1)
     (in_decided known end inner.0) in
-    either (λ f. InMessage known (Inside number (Among pieces)) end f ⊎ IsMissing number name (Among pieces) end f) (HasFaultIn others (Among pieces) end)
+    either (λ f. InMessage known (Inside number (Among pieces)) end f ⊎ IsMissing number name (Among pieces) end f)
+    (HasFaultIn others (Among pieces) end)
     (either (InMessage known (Inside number (Among pieces)) end) (IsMissing number name (Among pieces) end)
-    (either (InSome (Inside number (Among pieces)) IsTorn) (HasFaultIn known (Inside number (Among pieces)) end) torn inside) (missing_decided number end name pieces)) (in_decided others end pieces)
+    (either (InSome (Inside number (Among pieces)) IsTorn) (HasFaultIn known (Inside number (Among pieces)) end) torn
+    inside) (missing_decided number end name pieces)) (in_decided others end pieces)
 in_decided (WithMessages number known others) end pieces =
     let inner = all_inner number pieces in
     let each = λ (piece : Piece).
     either (IsTorn piece) (HasFaultIn known (Only piece) end) (torn_decided piece)
-    (otherwise_said (HasFaultIn known (Among (piece ∷ [])) end) (HasFaultIn known (Only piece) end) (faults_same known end (same_turned (one_listed piece))) (faults_same known end (one_listed piece)) (in_decided known end (piece ∷ []))) in
+    (otherwise_said (HasFaultIn known (Among (piece ∷ [])) end) (HasFaultIn known (Only piece) end)
+    (faults_same known end (same_turned (one_listed piece))) (faults_same known end (one_listed piece))
+    (in_decided known end (piece ∷ []))) in
     let found =
-    otherwise_said (InSome (Among inner.0) (InEach known end)) (InSome (Inside number (Among pieces)) (InEach known end)) (in_same (InEach known end) (same_turned inner.1)) (in_same (InEach known end) inner.1)
+    otherwise_said (InSome (Among inner.0) (InEach known end))
+    (InSome (Inside number (Among pieces)) (InEach known end)) (in_same (InEach known end) (same_turned inner.1))
+    (in_same (InEach known end) inner.1)
     (some_decided (InEach known end) each inner.0) in
-    either (InSome (Inside number (Among pieces)) (InEach known end)) (HasFaultIn others (Among pieces) end) found (in_decided others end pieces)
+    either (InSome (Inside number (Among pieces)) (InEach known end)) (HasFaultIn others (Among pieces) end) found
+    (in_decided others end pieces)
 
 -- ---- an entity that is too long
 
-number_by : (bytes : List ℕ) (read : Result (ℕ × List ℕ) WireKind) → varint_at bytes ≡ read → ((value : ℕ) × (rest : List ℕ) × BeginsNumber bytes value rest) ⊎ ((value : ℕ) (rest : List ℕ) → ¬ BeginsNumber bytes value rest)
+number_by : (bytes : List ℕ) (read : Result (ℕ × List ℕ) WireKind) → varint_at bytes ≡ read
+    → ((value : ℕ) × (rest : List ℕ) × BeginsNumber bytes value rest)
+    ⊎ ((value : ℕ) (rest : List ℕ) → ¬ BeginsNumber bytes value rest)
 number_by bytes (Ok found) e = inl (found.0, found.1, varint_found bytes found.0 found.1 e)
-number_by bytes (Err kind) e = inr (λ value rest b. let d = sym (ap varint_at b.1 ∙ varint_again b.0 rest value b.2) ∙ e in absurd cc)
+number_by bytes (Err kind) e =
+    inr (λ value rest b. let d = sym (ap varint_at b.1 ∙ varint_again b.0 rest value b.2) ∙ e in absurd cc)
 
-number_or : (bytes : List ℕ) → ((value : ℕ) × (rest : List ℕ) × BeginsNumber bytes value rest) ⊎ ((value : ℕ) (rest : List ℕ) → ¬ BeginsNumber bytes value rest)
+number_or : (bytes : List ℕ) → ((value : ℕ) × (rest : List ℕ) × BeginsNumber bytes value rest)
+    ⊎ ((value : ℕ) (rest : List ℕ) → ¬ BeginsNumber bytes value rest)
 number_or bytes = number_by bytes (varint_at bytes) refl
 
-by_tag : (bytes : List ℕ) (tag : ℕ) (rest : List ℕ) → BeginsNumber bytes tag rest → (t : Bool) → (tag == 18) ≡ t → IsLongHere bytes ⊎ (¬ IsLongHere bytes)
+by_tag : (bytes : List ℕ) (tag : ℕ) (rest : List ℕ) → BeginsNumber bytes tag rest → (t : Bool) → (tag == 18) ≡ t
+    → IsLongHere bytes ⊎ (¬ IsLongHere bytes)
 by_tag bytes tag rest b true e =
     elim (number_or rest) [
       | inr none ↦ inr (no_size bytes rest tag b none)
-      | inl m ↦ elim (cases_lt 1048576 m.0) [
+      | inl m ↦ elim (cases_lt entity_limit m.0) [
         | inl lt ↦ inl (long_size bytes rest m.1 tag m.0 b m.2 (eqb-true tag 18 e) lt)
         | inr le ↦ inr (short_size bytes rest m.1 tag m.0 b m.2 le)
       ]
     ]
-by_tag bytes tag rest b false e = inr (other_tag bytes rest tag b (λ same. let d = sym (eq-eqb tag 18 same) ∙ e in absurd cc))
+by_tag bytes tag rest b false e =
+    inr (other_tag bytes rest tag b (λ same. let d = sym (eq-eqb tag 18 same) ∙ e in absurd cc))
 
 long_here_or : (bytes : List ℕ) → IsLongHere bytes ⊎ (¬ IsLongHere bytes)
 long_here_or bytes =
@@ -236,7 +286,8 @@ long_here_or bytes =
 
 -- the first one, or that there is none
 abbrev LongOf : List ℕ → Type 0
-LongOf bytes = ((at : ℕ) × IsLongAt bytes at × ((other : ℕ) → IsLongAt bytes other → at ≤ other)) ⊎ ((at : ℕ) → ¬ IsLongAt bytes at)
+LongOf bytes = ((at : ℕ) × IsLongAt bytes at × ((other : ℕ) → IsLongAt bytes other → at ≤ other))
+    ⊎ ((at : ℕ) → ¬ IsLongAt bytes at)
 
 long_front : (rest : List ℕ) → BeginsNone rest → LongOf rest
 long_front rest none =
@@ -258,21 +309,26 @@ long_further a b field spelled later =
             | inr behind ↦ omega (arith, behind.1, l.2 behind.0 behind.2)
           ],
         )
-        | inr none ↦ inr (λ at m. elim (long_on a b field at spelled m) [ inl here ↦ nowhere here | inr behind ↦ none behind.0 behind.2 ])
+        | inr none ↦ inr
+            (λ at m. elim (long_on a b field at spelled m)
+            [ inl here ↦ nowhere here | inr behind ↦ none behind.0 behind.2 ])
       ]
     ]
 
-long_of : (fields : List WireField) (front rest : List ℕ) → AreFields front fields → BeginsNone rest → LongOf (front ++ rest)
+long_of : (fields : List WireField) (front rest : List ℕ) → AreFields front fields → BeginsNone rest
+    → LongOf (front ++ rest)
 long_of [] front rest h none = subst (λ (b : List ℕ). LongOf (b ++ rest)) (sym h) (long_front rest none)
 long_of (field ∷ fields) front rest h none =
-    let parts : h.0 ++ (h.1 ++ rest) ≡ front ++ rest = sym (append_assoc h.0 h.1 rest) ∙ ap (λ (l : List ℕ). l ++ rest) (sym h.2) in
+    let parts : h.0 ++ (h.1 ++ rest) ≡ front ++ rest = sym (append_assoc h.0 h.1 rest)
+    ∙ ap (λ (l : List ℕ). l ++ rest) (sym h.2) in
     subst (λ (b : List ℕ). LongOf b) parts (long_further h.0 (h.1 ++ rest) field h.3 (long_of fields h.1 rest h.4 none))
 
 long_decided : (bytes : List ℕ) → LongOf bytes
 long_decided bytes =
     elim (decided bytes) [
       | inl read ↦ subst (λ (b : List ℕ). LongOf b) (append-nil bytes) (long_of read.0 bytes [] read.1 none_at_end)
-      | inr broken ↦ (let b = broken.2 in subst (λ (l : List ℕ). LongOf l) (sym b.joined) (long_of b.fields b.front b.rest b.read b.breaks.none))
+      | inr broken ↦ (let b = broken.2 in
+          subst (λ (l : List ℕ). LongOf l) (sym b.joined) (long_of b.fields b.front b.rest b.read b.breaks.none))
     ]
 
 too_long_decided : (bytes : List ℕ) → Decided (IsTooLong bytes)
@@ -287,13 +343,18 @@ too_long_decided bytes =
 fault_decided : (bytes : List ℕ) → Decided (HasFault bytes)
 fault_decided bytes =
     let inside =
-    otherwise_said (HasFaultIn feed_known (Among (whole bytes ∷ [])) (length bytes)) (HasFaultIn feed_known (Only (whole bytes)) (length bytes))
-    (faults_same feed_known (length bytes) (same_turned (one_listed (whole bytes)))) (faults_same feed_known (length bytes) (one_listed (whole bytes))) (in_decided feed_known (length bytes) (whole bytes ∷ [])) in
+    otherwise_said (HasFaultIn feed_known (Among (whole bytes ∷ [])) (length bytes))
+    (HasFaultIn feed_known (Only (whole bytes)) (length bytes))
+    (faults_same feed_known (length bytes) (same_turned (one_listed (whole bytes))))
+    (faults_same feed_known (length bytes) (one_listed (whole bytes)))
+    (in_decided feed_known (length bytes) (whole bytes ∷ [])) in
     either (IsTooLong bytes) (InEach feed_known (length bytes) (whole bytes)) (too_long_decided bytes)
-    (either (IsTorn (whole bytes)) (HasFaultIn feed_known (Only (whole bytes)) (length bytes)) (torn_decided (whole bytes)) inside)
+    (either (IsTorn (whole bytes)) (HasFaultIn feed_known (Only (whole bytes)) (length bytes))
+    (torn_decided (whole bytes)) inside)
 
 abbrev pub OneOrOther : List ℕ → Type 0
-OneOrOther bytes = ((fault : FeedFault) × IsFeedFault bytes fault) ⊎ (((feed : Feed) × MeansFeed bytes feed) × ((at : ℕ) → ¬ IsLongAt bytes at))
+OneOrOther bytes = ((fault : FeedFault) × IsFeedFault bytes fault)
+    ⊎ (((feed : Feed) × MeansFeed bytes feed) × ((at : ℕ) → ¬ IsLongAt bytes at))
 
 by_found : (bytes : List ℕ) (found : Option FeedFault) → IsLeast (HasFault bytes) found → OneOrOther bytes
 by_found bytes None least = inr (meant_without_fault bytes least)

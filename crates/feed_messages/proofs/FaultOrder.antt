@@ -7,7 +7,8 @@ use Rattle.feed_messages.specs.Faults.{Piece, InSome, order, IsLeast}
 use Rattle.feed_messages.specs.Found.{earlier_of, Among}
 
 -- two kinds of faults together
-either_by : (P Q : FeedFault → Type 0) (a b : FeedFault) (first : Bool) → nat_le (order a) (order b) ≡ first → IsLeast P (Some a) → IsLeast Q (Some b) → IsLeast (λ f. P f ⊎ Q f) (if first then Some a else Some b)
+either_by : (P Q : FeedFault → Type 0) (a b : FeedFault) (first : Bool) → nat_le (order a) (order b) ≡ first
+    → IsLeast P (Some a) → IsLeast Q (Some b) → IsLeast (λ f. P f ⊎ Q f) (if first then Some a else Some b)
 either_by P Q a b true e h k =
     let le : order a ≤ order b = leb-true _ _ e in
     (inl h.0, λ other has. elim has [ inl p ↦ h.1 other p | inr q ↦ (let later = k.1 other q in omega arith) ])
@@ -15,14 +16,18 @@ either_by P Q a b false e h k =
     let lt = leb-false _ _ e in
     (inr k.0, λ other has. elim has [ inl p ↦ (let later = h.1 other p in omega arith) | inr q ↦ k.1 other q ])
 
-pub least_either : (P Q : FeedFault → Type 0) (a b : Option FeedFault) → IsLeast P a → IsLeast Q b → IsLeast (λ f. P f ⊎ Q f) (earlier_of a b)
+pub least_either : (P Q : FeedFault → Type 0) (a b : Option FeedFault) → IsLeast P a → IsLeast Q b
+    → IsLeast (λ f. P f ⊎ Q f) (earlier_of a b)
 least_either P Q None None h k = λ other has. elim has [ inl p ↦ h other p | inr q ↦ k other q ]
-least_either P Q None (Some b) h k = (inr k.0, λ other has. elim has [ inl p ↦ absurd (h other p) | inr q ↦ k.1 other q ])
-least_either P Q (Some a) None h k = (inl h.0, λ other has. elim has [ inl p ↦ h.1 other p | inr q ↦ absurd (k other q) ])
+least_either P Q None (Some b) h k =
+    (inr k.0, λ other has. elim has [ inl p ↦ absurd (h other p) | inr q ↦ k.1 other q ])
+least_either P Q (Some a) None h k =
+    (inl h.0, λ other has. elim has [ inl p ↦ h.1 other p | inr q ↦ absurd (k other q) ])
 least_either P Q (Some a) (Some b) h k = either_by P Q a b (nat_le (order a) (order b)) refl h k
 
 -- the same faults, said otherwise
-pub least_same : (P Q : FeedFault → Type 0) → ((f : FeedFault) → P f → Q f) → ((f : FeedFault) → Q f → P f) → (a : Option FeedFault) → IsLeast P a → IsLeast Q a
+pub least_same : (P Q : FeedFault → Type 0) → ((f : FeedFault) → P f → Q f) → ((f : FeedFault) → Q f → P f)
+    → (a : Option FeedFault) → IsLeast P a → IsLeast Q a
 least_same P Q to back None h = λ other q. h other (back other q)
 least_same P Q to back (Some a) h = (to a h.0, λ other q. h.1 other (back other q))
 
@@ -47,10 +52,13 @@ among_back [] qs q h = h
 among_back (p ∷ ps) qs q h = inr (among_back ps qs q h)
 
 -- those of one more piece
-pub least_more : (Has : Piece → FeedFault → Type 0) (ps : List Piece) (p : Piece) (a b : Option FeedFault) → IsLeast (InSome (Among ps) Has) a → IsLeast (Has p) b → IsLeast (InSome (Among (ps ++ p ∷ [])) Has) (earlier_of a b)
+pub least_more : (Has : Piece → FeedFault → Type 0) (ps : List Piece) (p : Piece) (a b : Option FeedFault)
+    → IsLeast (InSome (Among ps) Has) a → IsLeast (Has p) b
+    → IsLeast (InSome (Among (ps ++ p ∷ [])) Has) (earlier_of a b)
 least_more Has ps p a b h k =
     least_same (λ f. InSome (Among ps) Has f ⊎ Has p f) (InSome (Among (ps ++ p ∷ [])) Has)
-    (λ f has. elim has [ inl x ↦ (x.0, among_front ps (p ∷ []) x.0 x.1, x.2) | inr x ↦ (p, among_back ps (p ∷ []) p (inl refl), x) ])
+    (λ f has. elim has
+    [ inl x ↦ (x.0, among_front ps (p ∷ []) x.0 x.1, x.2) | inr x ↦ (p, among_back ps (p ∷ []) p (inl refl), x) ])
     (λ f has. elim (among_append ps (p ∷ []) has.0 has.1) [
       | inl x ↦ inl (has.0, x, has.2)
       | inr x ↦ inr (elim x [ inl e ↦ subst (λ (q : Piece). Has q f) e has.2 | inr none ↦ absurd none ])

@@ -4,14 +4,20 @@ use Rattle.wire_fields.specs.Spelling.{varint, varint_field, bytes_field}
 use Rattle.wire_fields.proofs.Varints.{length-varint_10}
 
 -- a tag and a length have at most ten bytes each
-pub length-bytes_field : (number : ℕ) (body : List ℕ) → number < 2 ^ 29 → length body < 2 ^ 64 → length (bytes_field number body) ≤ length body + 20
+pub length-bytes_field : (number : ℕ) (body : List ℕ) → number < 2 ^ 29 → length body < 2 ^ 64
+    → length (bytes_field number body) ≤ length body + 20
 length-bytes_field number body small short =
     let tag : length (varint (number * 8 + 2)) ≤ 10 = length-varint_10 _ (omega arith) in
     let len : length (varint (length body)) ≤ 10 = length-varint_10 _ short in
-    omega (arith, length-append (varint (number * 8 + 2) ++ varint (length body)) body, length-append (varint (number * 8 + 2)) (varint (length body)))
+    omega (
+      arith,
+      length-append (varint (number * 8 + 2) ++ varint (length body)) body,
+      length-append (varint (number * 8 + 2)) (varint (length body)),
+    )
 
 -- a tag and a value have at most ten bytes each
-pub length-varint_field : (number value : ℕ) → number < 2 ^ 29 → value < 2 ^ 64 → length (varint_field number value) ≤ 20
+pub length-varint_field : (number value : ℕ) → number < 2 ^ 29 → value < 2 ^ 64
+    → length (varint_field number value) ≤ 20
 length-varint_field number value small fits =
     let tag : length (varint (number * 8)) ≤ 10 = length-varint_10 _ (omega arith) in
     let text : length (varint value) ≤ 10 = length-varint_10 _ fits in

@@ -27,6 +27,7 @@ pub header-is : (timestamp : ℕ) → timestamp < 2 ^ 42 →
     bytes_field 1 (feed_header timestamp) ≡ 10 ∷ (8 + length (varint timestamp)) ∷ (fields ++ varint timestamp)
 header-is timestamp small =
     let six : length (varint timestamp) ≤ 6 = length-varint_6 timestamp small in
-    let sum : length (fields ++ varint timestamp) ≡ 8 + length (varint timestamp) = length-append fields (varint timestamp) in
+    let sum : length (fields ++ varint timestamp) ≡ 8 + length (varint timestamp) =
+    length-append fields (varint timestamp) in
     ap (bytes_field 1) (feed_header-is timestamp) ∙ bytes_field-short (fields ++ varint timestamp) (omega (arith, sum))
     ∙ ap (λ (n : ℕ). 10 ∷ n ∷ (fields ++ varint timestamp)) sum

@@ -25,30 +25,37 @@ torn_lacks number piece (NotText at) h l = h
 torn_lacks number piece (MissingField at name) h l = h
 torn_lacks number piece Memory h l = h
 
-pub torn_not_lacking : (number : ℕ) (pieces : List Piece) (f : FeedFault) → InSome (Listed pieces) IsTorn f → ¬ AllLack number pieces
+pub torn_not_lacking : (number : ℕ) (pieces : List Piece) (f : FeedFault) → InSome (Listed pieces) IsTorn f
+    → ¬ AllLack number pieces
 torn_not_lacking number pieces f h all = torn_lacks number h.0 f h.2 (all h.0 h.1)
 
 -- where none breaks and the field stands in none, all lack it
-lacks_or : (number : ℕ) (piece : faults.Piece) → ((q : faults.Piece) → ¬ faults.Stands piece number q) → ((f : FeedFault) → ¬ IsTorn piece f) → Lacks number piece
+lacks_or : (number : ℕ) (piece : faults.Piece) → ((q : faults.Piece) → ¬ faults.Stands piece number q)
+    → ((f : FeedFault) → ¬ IsTorn piece f) → Lacks number piece
 lacks_or number piece none whole =
     elim (decided piece.bytes) [
       | inl read ↦ lacks_from piece number read.0 read.1 none
-      | inr broken ↦ absurd (whole (Wire (record { at = piece.start + broken.0; kind = broken.1 })) (broken.0, broken.2, refl))
+      | inr broken ↦ absurd
+          (whole (Wire (record { at = piece.start + broken.0; kind = broken.1 })) (broken.0, broken.2, refl))
     ]
 
-pub all_lacking : (number : ℕ) (pieces : List Piece) → AllByRecursion (NoneStands number) pieces → IsLeast (InSome (Listed pieces) IsTorn) None → AllLack number pieces
-all_lacking number pieces none whole p l = lacks_or number p (λ q. none_inside number pieces none q p l) (λ f t. whole f (p, l, t))
+pub all_lacking : (number : ℕ) (pieces : List Piece) → AllByRecursion (NoneStands number) pieces
+    → IsLeast (InSome (Listed pieces) IsTorn) None → AllLack number pieces
+all_lacking number pieces none whole p l =
+    lacks_or number p (λ q. none_inside number pieces none q p l) (λ f t. whole f (p, l, t))
 
 -- ---- the fault
 
-pub not_missing_in : (number end : ℕ) (name : Required) (pieces : List Piece) → ¬ AllLack number pieces → IsLeast (IsMissing number (Some name) (Listed pieces) end) None
+pub not_missing_in : (number end : ℕ) (name : Required) (pieces : List Piece) → ¬ AllLack number pieces
+    → IsLeast (IsMissing number (Some name) (Listed pieces) end) None
 not_missing_in number end name pieces held (MissingField at missed) h = held h.1.lacks
 not_missing_in number end name pieces held (EntityTooLong at) h = h
 not_missing_in number end name pieces held (Wire fault) h = h
 not_missing_in number end name pieces held (NotText at) h = h
 not_missing_in number end name pieces held Memory h = h
 
-pub not_missing_empty : (number end : ℕ) (name : Required) (pieces : List Piece) → length pieces ≡ 0 → IsLeast (IsMissing number (Some name) (Listed pieces) end) None
+pub not_missing_empty : (number end : ℕ) (name : Required) (pieces : List Piece) → length pieces ≡ 0
+    → IsLeast (IsMissing number (Some name) (Listed pieces) end) None
 not_missing_empty number end name [] e (MissingField at missed) h = h.1.among
 not_missing_empty number end name (p ∷ pieces) e (MissingField at missed) h = absurd (omega arith)
 not_missing_empty number end name pieces e (EntityTooLong at) h = h
@@ -56,7 +63,9 @@ not_missing_empty number end name pieces e (Wire fault) h = h
 not_missing_empty number end name pieces e (NotText at) h = h
 not_missing_empty number end name pieces e Memory h = h
 
-missing_order : (number end first : ℕ) (name : Required) (pieces : List Piece) → IsFirstTag pieces first → (f : FeedFault) → IsMissing number (Some name) (Listed pieces) end f → missing_place name first end * 4 + 3 ≤ order f
+missing_order : (number end first : ℕ) (name : Required) (pieces : List Piece) → IsFirstTag pieces first
+    → (f : FeedFault) → IsMissing number (Some name) (Listed pieces) end f
+    → missing_place name first end * 4 + 3 ≤ order f
 missing_order number end first name pieces t (MissingField at missed) h =
     let least : first ≤ h.0 = omega (arith, t.least h.1.piece h.1.among, h.1.here) in
     let greatest : h.0 ≤ first = omega (arith, h.1.least t.piece t.among, t.here) in
@@ -67,8 +76,10 @@ missing_order number end first name pieces t (Wire fault) h = absurd h
 missing_order number end first name pieces t (NotText at) h = absurd h
 missing_order number end first name pieces t Memory h = absurd h
 
-pub missing_here : (number end first place : ℕ) (name : Required) (pieces : List Piece) → AllLack number pieces → IsFirstTag pieces first → place ≡ missing_place name first end
+pub missing_here : (number end first place : ℕ) (name : Required) (pieces : List Piece) → AllLack number pieces
+    → IsFirstTag pieces first → place ≡ missing_place name first end
     → IsLeast (IsMissing number (Some name) (Listed pieces) end) (Some (MissingField place name))
 missing_here number end first place name pieces lack t e =
-    let lacking : IsLacking number (Listed pieces) first = record { piece = t.piece; among = t.among; here = t.here; least = t.least; lacks = lack } in
+    let lacking : IsLacking number (Listed pieces) first =
+    record { piece = t.piece; among = t.among; here = t.here; least = t.least; lacks = lack } in
     ((first, lacking, refl, e), λ other h. omega (arith, missing_order number end first name pieces t other h, e))

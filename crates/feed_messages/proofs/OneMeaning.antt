@@ -13,11 +13,14 @@ use Rattle.feed_messages.specs.Tables.{OfTripDescriptor, OfStopTimeEvent, OfStop
 abbrev Determines : {M : Type 0} → (List WireField → M → Type 0) → Type 0
 Determines {M} Table = (fields : List WireField) (a b : M) → Table fields a → Table fields b → a ≡ b
 
-one_meaning : {M : Type 0} (Table : List WireField → M → Type 0) → Determines Table → (bytes : List ℕ) (a b : M) → Means Table bytes a → Means Table bytes b → a ≡ b
+one_meaning : {M : Type 0} (Table : List WireField → M → Type 0) → Determines Table → (bytes : List ℕ) (a b : M)
+    → Means Table bytes a → Means Table bytes b → a ≡ b
 one_meaning Table one bytes a b h k =
-    one h.fields a b h.table (subst (λ fields. Table fields b) (sym (fields_once bytes h.fields k.fields h.read k.read)) k.table)
+    one h.fields a b h.table
+    (subst (λ fields. Table fields b) (sym (fields_once bytes h.fields k.fields h.read k.read)) k.table)
 
-one_joined : {M : Type 0} (Table : List WireField → M → Type 0) → Determines Table → (bodies : List (List ℕ)) (a b : Option M) → IsJoined Table bodies a → IsJoined Table bodies b → a ≡ b
+one_joined : {M : Type 0} (Table : List WireField → M → Type 0) → Determines Table
+    → (bodies : List (List ℕ)) (a b : Option M) → IsJoined Table bodies a → IsJoined Table bodies b → a ≡ b
 one_joined Table one [] None None h k = refl
 one_joined Table one [] None (Some b) h k = absurd k
 one_joined Table one [] (Some a) b h k = absurd h
@@ -25,7 +28,9 @@ one_joined Table one (body ∷ others) None b h k = absurd h
 one_joined Table one (body ∷ others) (Some a) None h k = absurd k
 one_joined Table one (body ∷ others) (Some a) (Some b) h k = ap Some (one_meaning Table one _ a b h k)
 
-one_list : {M : Type 0} (Table : List WireField → M → Type 0) → Determines Table → (bodies : List (List ℕ)) (xs ys : List M) → AllZip (Means Table) bodies xs → AllZip (Means Table) bodies ys → xs ≡ ys
+one_list : {M : Type 0} (Table : List WireField → M → Type 0) → Determines Table
+    → (bodies : List (List ℕ)) (xs ys : List M) → AllZip (Means Table) bodies xs → AllZip (Means Table) bodies ys
+    → xs ≡ ys
 one_list Table one [] [] [] h k = refl
 one_list Table one [] [] (b ∷ ys) h k = absurd k
 one_list Table one [] (a ∷ xs) ys h k = absurd h
@@ -59,7 +64,8 @@ one_stop_update fields a b h k = λ i. record {
 
 one_trip_update : Determines OfTripUpdate
 one_trip_update fields a b h k = λ i. record {
-  trip = some_is a.trip a.trip b.trip (one_joined OfTripDescriptor one_trip_descriptor _ (Some a.trip) (Some b.trip) h.trip.1 k.trip.1) i;
+  trip = some_is a.trip a.trip b.trip
+      (one_joined OfTripDescriptor one_trip_descriptor _ (Some a.trip) (Some b.trip) h.trip.1 k.trip.1) i;
   updates = one_list OfStopTimeUpdate one_stop_update _ a.updates b.updates h.stop_time_update k.stop_time_update i;
   timestamp = (h.timestamp ∙ sym k.timestamp) i;
 }
@@ -86,7 +92,8 @@ one_translated_string fields a b h k = one_list OfTranslation one_translation _ 
 
 one_translations : (number : ℕ) → Determines (AreTranslations number)
 one_translations number fields a b h k =
-    h.same ∙ ap (λ (o : Option (List Translation)). unwrap_or o []) (one_joined OfTranslatedString one_translated_string _ h.found k.found h.message.1 k.message.1) ∙ sym k.same
+    h.same ∙ ap (λ (o : Option (List Translation)). unwrap_or o [])
+    (one_joined OfTranslatedString one_translated_string _ h.found k.found h.message.1 k.message.1) ∙ sym k.same
 
 one_alert : Determines OfAlert
 one_alert fields a b h k = λ i. record {
@@ -115,7 +122,9 @@ one_header fields a b h k = λ i. record {
 
 one_message : Determines OfFeedMessage
 one_message fields a b h k =
-    let header : header_of a ≡ header_of b = some_is (header_of a) (header_of a) (header_of b) (one_joined OfFeedHeader one_header _ (Some (header_of a)) (Some (header_of b)) h.header.1 k.header.1) in
+    let header : header_of a ≡ header_of b =
+    some_is (header_of a) (header_of a) (header_of b)
+    (one_joined OfFeedHeader one_header _ (Some (header_of a)) (Some (header_of b)) h.header.1 k.header.1) in
     λ i. record {
       version = (header i).version;
       incrementality = (header i).incrementality;

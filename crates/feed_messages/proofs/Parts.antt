@@ -28,18 +28,22 @@ held_by number (part ∷ parts) = (if part.0 == number then part.1 else []) ++ h
 held_with : {X : Type 0} (what : Payload → Option X) (number m : ℕ) (ps : List Payload)
     → held what number (fields_with m ps) ≡ filter_map (λ p. if m == number then what p else None) ps
 held_with what number m [] = refl
-held_with {X} what number m (p ∷ ps) = ap (λ (l : List X). cons_option (if m == number then what p else None) l) (held_with what number m ps)
+held_with {X} what number m (p ∷ ps) =
+    ap (λ (l : List X). cons_option (if m == number then what p else None) l) (held_with what number m ps)
 
-passed : {X : Type 0} (what : Payload → Option X) (b : Bool) (ps : List Payload) → filter_map (λ p. if b then what p else None) ps ≡ filter_map what (if b then ps else [])
+passed : {X : Type 0} (what : Payload → Option X) (b : Bool) (ps : List Payload)
+    → filter_map (λ p. if b then what p else None) ps ≡ filter_map what (if b then ps else [])
 passed what true ps = refl
 passed what false [] = refl
 passed what false (p ∷ ps) = passed what false ps
 
-pub held_parts : {X : Type 0} (what : Payload → Option X) (number : ℕ) (parts : List (ℕ × List Payload)) → held what number (fields_of parts) ≡ filter_map what (held_by number parts)
+pub held_parts : {X : Type 0} (what : Payload → Option X) (number : ℕ) (parts : List (ℕ × List Payload))
+    → held what number (fields_of parts) ≡ filter_map what (held_by number parts)
 held_parts what number [] = refl
 held_parts {X} what number (part ∷ parts) =
     filter_map-append _ (fields_with part.0 part.1) (fields_of parts)
-    ∙ ap (λ (l : List X). l ++ held what number (fields_of parts)) (held_with what number part.0 part.1 ∙ passed what (part.0 == number) part.1)
+    ∙ ap (λ (l : List X). l ++ held what number (fields_of parts))
+    (held_with what number part.0 part.1 ∙ passed what (part.0 == number) part.1)
     ∙ ap (λ (l : List X). filter_map what (if part.0 == number then part.1 else []) ++ l) (held_parts what number parts)
     ∙ sym (filter_map-append what (if part.0 == number then part.1 else []) (held_by number parts))
 
@@ -73,30 +77,37 @@ pub record Builds (bytes : List ℕ) (parts : List (ℕ × List Payload)) : Type
 fields_of-append : (ps qs : List (ℕ × List Payload)) → fields_of (ps ++ qs) ≡ fields_of ps ++ fields_of qs
 fields_of-append [] qs = refl
 fields_of-append (p ∷ ps) qs =
-    ap (λ (l : List WireField). fields_with p.0 p.1 ++ l) (fields_of-append ps qs) ∙ sym (append_assoc (fields_with p.0 p.1) (fields_of ps) (fields_of qs))
+    ap (λ (l : List WireField). fields_with p.0 p.1 ++ l) (fields_of-append ps qs)
+    ∙ sym (append_assoc (fields_with p.0 p.1) (fields_of ps) (fields_of qs))
 
-pub then_built : {a b : List ℕ} {ps qs : List (ℕ × List Payload)} → Builds a ps → Builds b qs → Builds (a ++ b) (ps ++ qs)
+pub then_built : {a b : List ℕ} {ps qs : List (ℕ × List Payload)} → Builds a ps → Builds b qs
+    → Builds (a ++ b) (ps ++ qs)
 then_built {a} {b} {ps} {qs} h k = record {
   read = λ short.
       let front : length a < 2 ^ 64 = omega (arith, length-append a b) in
       let back : length b < 2 ^ 64 = omega (arith, length-append a b) in
-      subst (λ (fields : List WireField). AreFields (a ++ b) fields) (sym (fields_of-append ps qs)) (Concatenates-append (IsSpelling 64) (fields_of ps) (fields_of qs) a b (h.read front) (k.read back));
+      subst (λ (fields : List WireField). AreFields (a ++ b) fields) (sym (fields_of-append ps qs))
+      (Concatenates-append (IsSpelling 64) (fields_of ps) (fields_of qs) a b (h.read front) (k.read back));
 }
 
 body_fits : (number : ℕ) (body : List ℕ) → length (bytes_field number body) < 2 ^ 64 → length body < 2 ^ 64
 body_fits number body short = omega (arith, length-append (varint (number * 8 + 2) ++ varint (length body)) body)
 
-pub builds_body : (number : ℕ) (body : List ℕ) → 1 ≤ number → number ≤ 536870911 → Builds (bytes_field number body) ((number, Bytes body ∷ []) ∷ [])
+pub builds_body : (number : ℕ) (body : List ℕ) → 1 ≤ number → number ≤ 536870911
+    → Builds (bytes_field number body) ((number, Bytes body ∷ []) ∷ [])
 builds_body number body first last = record {
-  read = λ short. Concatenates-one (IsSpelling 64) (record { number = number; payload = Bytes body }) (bytes_field number body) (bytes_field_written number body first last (body_fits number body short));
+  read = λ short. Concatenates-one (IsSpelling 64) (record { number = number; payload = Bytes body })
+      (bytes_field number body) (bytes_field_written number body first last (body_fits number body short));
 }
 
-pub builds_optional_body : {X : Type 0} (number : ℕ) (written : X → List ℕ) (x : Option X) → 1 ≤ number → number ≤ 536870911
+pub builds_optional_body : {X : Type 0} (number : ℕ) (written : X → List ℕ) (x : Option X) → 1 ≤ number
+    → number ≤ 536870911
     → Builds (if_there (λ x. bytes_field number (written x)) x) ((number, body_part (option_map written x)) ∷ [])
 builds_optional_body number written None first last = record { read = λ short. refl }
 builds_optional_body number written (Some x) first last = builds_body number (written x) first last
 
-pub builds_optional_text : (number : ℕ) (text : Option (List ℕ)) → 1 ≤ number → number ≤ 536870911 → Builds (if_there (bytes_field number) text) ((number, body_part text) ∷ [])
+pub builds_optional_text : (number : ℕ) (text : Option (List ℕ)) → 1 ≤ number → number ≤ 536870911
+    → Builds (if_there (bytes_field number) text) ((number, body_part text) ∷ [])
 builds_optional_text number None first last = record { read = λ short. refl }
 builds_optional_text number (Some body) first last = builds_body number body first last
 
@@ -106,17 +117,26 @@ builds_bodies number written [] first last = record { read = λ short. refl }
 builds_bodies {X} number written (x ∷ xs) first last = record {
   read = λ short.
       let rest = flat_map (λ (x : X). bytes_field number (written x)) xs in
-      let front : length (bytes_field number (written x)) < 2 ^ 64 = omega (arith, length-append (bytes_field number (written x)) rest) in
-      let back : length rest < 2 ^ 64 = omega (arith, length-append (bytes_field number (written x)) rest) in
-      (bytes_field number (written x), rest, refl, bytes_field_written number (written x) first last (body_fits number (written x) front), (builds_bodies number written xs first last).read back);
+      let front : length (bytes_field number (written x)) < 2 ^ 64 =
+      omega (arith, length-append (bytes_field number (written x)) rest) in
+      let back : length rest < 2 ^ 64 = omega (arith, length-append (bytes_field number (written x)) rest) in (
+        bytes_field number (written x),
+        rest,
+        refl,
+        bytes_field_written number (written x) first last (body_fits number (written x) front),
+        (builds_bodies number written xs first last).read back,
+      );
 }
 
-pub builds_number : (number value : ℕ) → 1 ≤ number → number ≤ 536870911 → value < 2 ^ 64 → Builds (varint_field number value) ((number, Varint value ∷ []) ∷ [])
+pub builds_number : (number value : ℕ) → 1 ≤ number → number ≤ 536870911 → value < 2 ^ 64
+    → Builds (varint_field number value) ((number, Varint value ∷ []) ∷ [])
 builds_number number value first last small = record {
-  read = λ short. Concatenates-one (IsSpelling 64) (record { number = number; payload = Varint value }) (varint_field number value) (varint_field_written number value first last small);
+  read = λ short. Concatenates-one (IsSpelling 64) (record { number = number; payload = Varint value })
+      (varint_field number value) (varint_field_written number value first last small);
 }
 
-pub builds_optional_number : (number : ℕ) (value : Option ℕ) → 1 ≤ number → number ≤ 536870911 → IfSome value (λ n. n < 2 ^ 64) → Builds (if_there (varint_field number) value) ((number, number_part value) ∷ [])
+pub builds_optional_number : (number : ℕ) (value : Option ℕ) → 1 ≤ number → number ≤ 536870911
+    → IfSome value (λ n. n < 2 ^ 64) → Builds (if_there (varint_field number) value) ((number, number_part value) ∷ [])
 builds_optional_number number None first last small = record { read = λ short. refl }
 builds_optional_number number (Some value) first last small = builds_number number value first last small
 
@@ -124,34 +144,47 @@ cast_fits : (z : ℤ) → FitsSigned w64 z → cast_unsigned w64 z < 2 ^ 64
 cast_fits (pos n) fits = let small = fits.sfits in omega arith
 cast_fits (negsuc n) fits = let small = fits.sfits in omega arith
 
-pub builds_signed : (number : ℕ) (value : ℤ) → 1 ≤ number → number ≤ 536870911 → FitsSigned w64 value → Builds (signed_field number value) ((number, Varint (cast_unsigned w64 value) ∷ []) ∷ [])
-builds_signed number value first last fits = builds_number number (cast_unsigned w64 value) first last (cast_fits value fits)
+pub builds_signed : (number : ℕ) (value : ℤ) → 1 ≤ number → number ≤ 536870911 → FitsSigned w64 value
+    → Builds (signed_field number value) ((number, Varint (cast_unsigned w64 value) ∷ []) ∷ [])
+builds_signed number value first last fits =
+    builds_number number (cast_unsigned w64 value) first last (cast_fits value fits)
 
-pub builds_optional_signed : (number : ℕ) (value : Option ℤ) → 1 ≤ number → number ≤ 536870911 → IfSome value (FitsSigned w64) → Builds (if_there (signed_field number) value) ((number, signed_part value) ∷ [])
+pub builds_optional_signed : (number : ℕ) (value : Option ℤ) → 1 ≤ number → number ≤ 536870911
+    → IfSome value (FitsSigned w64) → Builds (if_there (signed_field number) value) ((number, signed_part value) ∷ [])
 builds_optional_signed number None first last fits = record { read = λ short. refl }
 builds_optional_signed number (Some value) first last fits = builds_signed number value first last fits
 
-if_written : (b : Bool) (field : List ℕ) (number : ℕ) (payload : Payload) → Builds field ((number, payload ∷ []) ∷ []) → Builds (if b then field else []) ((number, if b then payload ∷ [] else []) ∷ [])
+if_written : (b : Bool) (field : List ℕ) (number : ℕ) (payload : Payload) → Builds field ((number, payload ∷ []) ∷ [])
+    → Builds (if b then field else []) ((number, if b then payload ∷ [] else []) ∷ [])
 if_written true field number payload h = h
 if_written false field number payload h = record { read = λ short. refl }
 
-unless_written : (b : Bool) (field : List ℕ) (number : ℕ) (payload : Payload) → Builds field ((number, payload ∷ []) ∷ []) → Builds (if b then [] else field) ((number, if b then [] else payload ∷ []) ∷ [])
+unless_written : (b : Bool) (field : List ℕ) (number : ℕ) (payload : Payload)
+    → Builds field ((number, payload ∷ []) ∷ [])
+    → Builds (if b then [] else field) ((number, if b then [] else payload ∷ []) ∷ [])
 unless_written true field number payload h = record { read = λ short. refl }
 unless_written false field number payload h = h
 
-pub builds_relation : (relation : ℤ) → FitsSigned w64 relation → Builds (relation_field relation) ((5, relation_part relation) ∷ [])
-builds_relation relation fits = unless_written (unsigned_abs relation == 0) (signed_field 5 relation) 5 (Varint (cast_unsigned w64 relation)) (builds_signed 5 relation (omega arith) (omega arith) fits)
+pub builds_relation : (relation : ℤ) → FitsSigned w64 relation
+    → Builds (relation_field relation) ((5, relation_part relation) ∷ [])
+builds_relation relation fits =
+    unless_written (unsigned_abs relation == 0) (signed_field 5 relation) 5 (Varint (cast_unsigned w64 relation))
+    (builds_signed 5 relation (omega arith) (omega arith) fits)
 
 pub builds_deleted : (deleted : Bool) → Builds (deleted_field deleted) ((2, deleted_part deleted) ∷ [])
-builds_deleted deleted = if_written deleted (varint_field 2 1) 2 (Varint 1) (builds_number 2 1 (omega arith) (omega arith) (omega arith))
+builds_deleted deleted =
+    if_written deleted (varint_field 2 1) 2 (Varint 1) (builds_number 2 1 (omega arith) (omega arith) (omega arith))
 
-pub builds_translations : (number : ℕ) (texts : List Translation) → 1 ≤ number → number ≤ 536870911 → Builds (translated_field number texts) ((number, body_part (option_map translated_string (found_in texts))) ∷ [])
+pub builds_translations : (number : ℕ) (texts : List Translation) → 1 ≤ number → number ≤ 536870911
+    → Builds (translated_field number texts) ((number, body_part (option_map translated_string (found_in texts))) ∷ [])
 builds_translations number [] first last = record { read = λ short. refl }
 builds_translations number (text ∷ texts) first last = builds_body number (translated_string (text ∷ texts)) first last
 
 -- ---- no body is longer than the message
 
-pub short_body : (n : ℕ) (number : ℕ) (payload : Payload) (spelling : List ℕ) → IsSpelling 64 (record { number = number; payload = payload }) spelling → length spelling ≤ n → IfSome (body_in payload) (λ body. length body ≤ n)
+pub short_body : (n : ℕ) (number : ℕ) (payload : Payload) (spelling : List ℕ)
+    → IsSpelling 64 (record { number = number; payload = payload }) spelling → length spelling ≤ n
+    → IfSome (body_in payload) (λ body. length body ≤ n)
 short_body n number (Varint value) spelling h le = tt
 short_body n number (Fixed64 value) spelling h le = tt
 short_body n number (Bytes body) spelling h le =
@@ -159,22 +192,28 @@ short_body n number (Bytes body) spelling h le =
 short_body n number Group spelling h le = tt
 short_body n number (Fixed32 value) spelling h le = tt
 
-all_cons : {X : Type 0} (P : X → Type 0) (b : Bool) (x : Option X) (xs : List X) → IfSome x P → AllByRecursion P xs → AllByRecursion P (cons_option (if b then x else None) xs)
+all_cons : {X : Type 0} (P : X → Type 0) (b : Bool) (x : Option X) (xs : List X) → IfSome x P → AllByRecursion P xs
+    → AllByRecursion P (cons_option (if b then x else None) xs)
 all_cons P true None xs h k = k
 all_cons P true (Some x) xs h k = (h, k)
 all_cons P false x xs h k = k
 
-short_bodies : (n number : ℕ) (fields : List WireField) (bytes : List ℕ) → AreFields bytes fields → length bytes ≤ n → AllByRecursion (λ body. length body ≤ n) (bodies number fields)
+short_bodies : (n number : ℕ) (fields : List WireField) (bytes : List ℕ) → AreFields bytes fields → length bytes ≤ n
+    → AllByRecursion (λ body. length body ≤ n) (bodies number fields)
 short_bodies n number [] bytes h le = tt
 short_bodies n number (field ∷ fields) bytes h le =
     let parts = ap length h.2 ∙ length-append h.0 h.1 in
-    all_cons (λ body. length body ≤ n) (field.number == number) (body_in field.payload) (bodies number fields) (short_body n field.number field.payload h.0 h.3 (omega (arith, parts)))
+    all_cons (λ body. length body ≤ n) (field.number == number) (body_in field.payload) (bodies number fields)
+    (short_body n field.number field.payload h.0 h.3 (omega (arith, parts)))
     (short_bodies n number fields h.1 h.4 (omega (arith, parts)))
 
-all_weaker : {X : Type 0} (P Q : X → Type 0) (xs : List X) → ((x : X) → P x → Q x) → AllByRecursion P xs → AllByRecursion Q xs
+all_weaker : {X : Type 0} (P Q : X → Type 0) (xs : List X) → ((x : X) → P x → Q x) → AllByRecursion P xs
+    → AllByRecursion Q xs
 all_weaker P Q [] along h = tt
 all_weaker P Q (x ∷ xs) along h = (along x h.0, all_weaker P Q xs along h.1)
 
-pub countable_bodies : (number : ℕ) (fields : List WireField) (bytes : List ℕ) → AreFields bytes fields → length bytes < 2 ^ 64 → AllByRecursion (λ body. length body < 2 ^ 64) (bodies number fields)
+pub countable_bodies : (number : ℕ) (fields : List WireField) (bytes : List ℕ) → AreFields bytes fields
+    → length bytes < 2 ^ 64 → AllByRecursion (λ body. length body < 2 ^ 64) (bodies number fields)
 countable_bodies number fields bytes h short =
-    all_weaker (λ body. length body ≤ 2 ^ 64 - 1) (λ body. length body < 2 ^ 64) (bodies number fields) (λ body le. omega arith) (short_bodies (2 ^ 64 - 1) number fields bytes h (omega arith))
+    all_weaker (λ body. length body ≤ 2 ^ 64 - 1) (λ body. length body < 2 ^ 64) (bodies number fields)
+    (λ body le. omega arith) (short_bodies (2 ^ 64 - 1) number fields bytes h (omega arith))

@@ -15,7 +15,8 @@ use Rattle.feed_messages.specs.declared.fault.FeedFault.{FeedFault}
 use Rattle.feed_messages.specs.declared.fault.FeedFault.TheVariants.{EntityTooLong, Wire, NotText, MissingField, Memory}
 use Rattle.feed_messages.specs.Faults.{HasFault, IsTold}
 use Rattle.feed_messages.specs.Meaning.{bodies, Means}
-use Rattle.feed_messages.specs.Partly.{MeansShortFeed}
+use Rattle.feed_messages.specs.Limits.{entity_limit}
+use Rattle.feed_messages.specs.Partly.{AreShort, MeansShortFeed}
 use Rattle.feed_messages.specs.Tables.{MeansEntity, MeansFeed, OfFeedEntity, full_dataset}
 use Rattle.feed_messages.specs.Writable.{IsReadable, IsWritable}
 use Rattle.feed_messages.specs.Written.{feed_entity, header, written}
@@ -25,12 +26,13 @@ use Rattle.feed_messages.proofs.OneMeaning.{one_feed}
 use Rattle.feed_messages.proofs.ShortEntities.{means_short, short_has_no_fault}
 
 -- the bytes of entities that can be written mean them
-pub each_meant : (entities : List Entity) → AllByRecursion IsWritable entities → AllByRecursion (λ entity. MeansEntity (written entity) entity) entities
+pub each_meant : (entities : List Entity) → AllByRecursion IsWritable entities
+    → AllByRecursion (λ entity. MeansEntity (written entity) entity) entities
 each_meant [] h = tt
 each_meant (entity ∷ entities) h = (means_written entity h.0.sound h.0.counted, each_meant entities h.1)
 
 -- a body within the limit can be counted with its tag and its length
-few : (body : List ℕ) → length body ≤ 1048576 → length (bytes_field 2 body) < 2 ^ 64
+few : (body : List ℕ) → length body ≤ entity_limit → length (bytes_field 2 body) < 2 ^ 64
 few body short =
     let tag : length (varint 18) ≤ 10 = length-varint_10 18 (omega arith) in
     let size : length (varint (length body)) ≤ 10 = length-varint_10 (length body) (omega arith) in
@@ -46,14 +48,21 @@ abbrev entity_fields : List Entity → List WireField
 entity_fields [] = []
 entity_fields (entity ∷ entities) = record { number = 2; payload = Bytes (feed_entity entity) } ∷ entity_fields entities
 
-are_fields : (entities : List Entity) → AllByRecursion IsReadable entities → AreFields (flat_map written entities) (entity_fields entities)
+are_fields : (entities : List Entity) → AllByRecursion IsReadable entities
+    → AreFields (flat_map written entities) (entity_fields entities)
 are_fields [] h = refl
 are_fields (entity ∷ entities) h =
-    let least : length (feed_entity entity) ≤ 1048576 = h.0.short in
-    (written entity, flat_map written entities, refl, bytes_field_written 2 (feed_entity entity) (omega arith) (omega arith) (omega arith), are_fields entities h.1)
+    let least : length (feed_entity entity) ≤ entity_limit = h.0.short in (
+      written entity,
+      flat_map written entities,
+      refl,
+      bytes_field_written 2 (feed_entity entity) (omega arith) (omega arith) (omega arith),
+      are_fields entities h.1,
+    )
 
 -- their bodies are within the limit, and a header has none
-short_bodies : (entities : List Entity) → AllByRecursion IsReadable entities → AllByRecursion (λ body. length body ≤ 1048576) (bodies 2 (entity_fields entities))
+short_bodies : (entities : List Entity) → AllByRecursion IsReadable entities
+    → AreShort (bodies 2 (entity_fields entities))
 short_bodies [] h = tt
 short_bodies (entity ∷ entities) h = (h.0.short, short_bodies entities h.1)
 
@@ -61,25 +70,31 @@ no_bodies : (bodies : List (List ℕ)) → AllZip (Means OfFeedEntity) bodies []
 no_bodies [] h = refl
 no_bodies (body ∷ bodies) h = absurd h
 
-pub means_short_feed : (moment : ℤ) (entities : List Entity) → unsigned_abs moment < 2 ^ 64 → AllByRecursion IsReadable entities
+pub means_short_feed : (moment : ℤ) (entities : List Entity) → unsigned_abs moment < 2 ^ 64
+    → AllByRecursion IsReadable entities
     → MeansShortFeed (header moment ++ flat_map written entities) (full_dataset moment entities)
 means_short_feed moment entities small readable =
     let means = means_feed moment entities small (each_meant entities (each_writable entities readable)) in
     let front = means_header moment small in
-    let read = Concatenates-append (IsSpelling 64) front.fields (entity_fields entities) (header moment) (flat_map written entities) front.read (are_fields entities readable) in
+    let read = Concatenates-append (IsSpelling 64) front.fields (entity_fields entities) (header moment)
+    (flat_map written entities) front.read (are_fields entities readable) in
     let all : bodies 2 (front.fields ++ entity_fields entities) ≡ bodies 2 (entity_fields entities) =
     filter_map-append _ front.fields (entity_fields entities)
-    ∙ ap (λ (first : List (List ℕ)). first ++ bodies 2 (entity_fields entities)) (no_bodies (bodies 2 front.fields) front.table.entity) in
-    let same = fields_once (header moment ++ flat_map written entities) (front.fields ++ entity_fields entities) means.fields read means.read in
-    let short : AllByRecursion (λ body. length body ≤ 1048576) (bodies 2 (front.fields ++ entity_fields entities)) = rw all (short_bodies entities readable) in
+    ∙ ap (λ (first : List (List ℕ)). first ++ bodies 2 (entity_fields entities))
+    (no_bodies (bodies 2 front.fields) front.table.entity) in
+    let same = fields_once (header moment ++ flat_map written entities) (front.fields ++ entity_fields entities)
+    means.fields read means.read in
+    let short : AreShort (bodies 2 (front.fields ++ entity_fields entities)) =
+    rw all (short_bodies entities readable) in
     record {
       fields = means.fields;
       read = means.read;
-      table = (means.table, subst (λ (fields : List WireField). AllByRecursion (λ body. length body ≤ 1048576) (bodies 2 fields)) same short);
+      table = (means.table, subst (λ (fields : List WireField). AreShort (bodies 2 fields)) same short);
     }
 
 -- where bytes have no fault, want of memory alone is told
-only_memory : (bytes : List ℕ) (fault : FeedFault) → ((other : FeedFault) → ¬ HasFault bytes other) → IsTold bytes fault → fault ≡ Memory
+only_memory : (bytes : List ℕ) (fault : FeedFault) → ((other : FeedFault) → ¬ HasFault bytes other)
+    → IsTold bytes fault → fault ≡ Memory
 only_memory bytes (EntityTooLong at) none h = absurd (none (EntityTooLong at) h.0)
 only_memory bytes (Wire fault) none h = absurd (none (Wire fault) h.0)
 only_memory bytes (NotText at) none h = absurd (none (NotText at) h.0)

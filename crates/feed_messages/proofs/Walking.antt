@@ -14,22 +14,37 @@ use Rattle.feed_messages.specs.Pieces.{IsHere}
 abbrev pub from : ℕ → ℕ → List ℕ → Piece
 from tag start bytes = record { tag = tag; start = start; bytes = bytes }
 
-behind_first : (first others rest a b : List ℕ) (x y : WireField) → IsSpelling 64 x first → IsSpelling 64 y a → a ++ b ≡ (first ++ others) ++ rest → (b ≡ others ++ rest) × (length first ≡ length a)
+behind_first : (first others rest a b : List ℕ) (x y : WireField) → IsSpelling 64 x first → IsSpelling 64 y a
+    → a ++ b ≡ (first ++ others) ++ rest → (b ≡ others ++ rest) × (length first ≡ length a)
 behind_first first others rest a b x y h k e =
-    let s = (fields_apart 64).same y x a first b (others ++ rest) k h (e ∙ append_assoc first others rest) in
-    (s.1, omega (arith, ap length e, ap length s.1, length-append a b, length-append (first ++ others) rest, length-append first others, length-append others rest))
+    let s = (fields_apart 64).same y x a first b (others ++ rest) k h (e ∙ append_assoc first others rest) in (
+      s.1,
+      omega (
+        arith,
+        ap length e,
+        ap length s.1,
+        length-append a b,
+        length-append (first ++ others) rest,
+        length-append first others,
+        length-append others rest,
+      ),
+    )
 
 -- what stands in a piece is its first field, or stands behind it
-stands_by : (tag start : ℕ) (a b : List ℕ) (field : WireField) (number : ℕ) (inner : Piece) (fields : List WireField) → IsSpelling 64 field a → (h : Stands (from tag start (a ++ b)) number inner) → AreFields h.front fields
+stands_by : (tag start : ℕ) (a b : List ℕ) (field : WireField) (number : ℕ) (inner : Piece) (fields : List WireField)
+    → IsSpelling 64 field a → (h : Stands (from tag start (a ++ b)) number inner) → AreFields h.front fields
     → IsHere field start (start + length a) number inner ⊎ Stands (from tag (start + length a) b) number inner
 stands_by tag start a b field number inner [] spelled h read =
     let e : a ++ b ≡ h.spelling ++ h.rest = h.joined ∙ ap (λ (l : List ℕ). l ++ (h.spelling ++ h.rest)) read in
-    let s : (record { number = number; payload = Bytes inner.bytes } ≡ field) × (h.rest ≡ b) = (fields_apart 64).same _ field h.spelling a h.rest b h.spelled spelled (sym e) in
-    let len : length h.spelling ≡ length a = omega (arith, ap length e, ap length s.1, length-append a b, length-append h.spelling h.rest) in
+    let s : (record { number = number; payload = Bytes inner.bytes } ≡ field) × (h.rest ≡ b) =
+    (fields_apart 64).same _ field h.spelling a h.rest b h.spelled spelled (sym e) in
+    let len : length h.spelling ≡ length a =
+    omega (arith, ap length e, ap length s.1, length-append a b, length-append h.spelling h.rest) in
     let none : length h.front ≡ 0 = ap length read in
     inl (record { is = s.0; tag = omega (arith, h.tag); start_is = omega (arith, h.start, h.tag) })
 stands_by tag start a b field number inner (x ∷ fields) spelled h read =
-    let e : a ++ b ≡ (read.0 ++ read.1) ++ (h.spelling ++ h.rest) = h.joined ∙ ap (λ (l : List ℕ). l ++ (h.spelling ++ h.rest)) read.2 in
+    let e : a ++ b ≡ (read.0 ++ read.1) ++ (h.spelling ++ h.rest) =
+    h.joined ∙ ap (λ (l : List ℕ). l ++ (h.spelling ++ h.rest)) read.2 in
     let behind = behind_first read.0 read.1 (h.spelling ++ h.rest) a b x field read.3 spelled e in
     inr (record {
       front = read.1;
@@ -43,11 +58,15 @@ stands_by tag start a b field number inner (x ∷ fields) spelled h read =
       start = h.start;
     })
 
-pub stands_on : (tag start : ℕ) (a b : List ℕ) (field : WireField) (number : ℕ) (inner : Piece) → IsSpelling 64 field a → Stands (from tag start (a ++ b)) number inner
+pub stands_on : (tag start : ℕ) (a b : List ℕ) (field : WireField) (number : ℕ) (inner : Piece)
+    → IsSpelling 64 field a → Stands (from tag start (a ++ b)) number inner
     → IsHere field start (start + length a) number inner ⊎ Stands (from tag (start + length a) b) number inner
-stands_on tag start a b field number inner spelled h = stands_by tag start a b field number inner h.fields spelled h h.read
+stands_on tag start a b field number inner spelled h =
+    stands_by tag start a b field number inner h.fields spelled h h.read
 
-pub stands_later : (tag start : ℕ) (a b : List ℕ) (field : WireField) (number : ℕ) (inner : Piece) → IsSpelling 64 field a → Stands (from tag (start + length a) b) number inner → Stands (from tag start (a ++ b)) number inner
+pub stands_later : (tag start : ℕ) (a b : List ℕ) (field : WireField) (number : ℕ) (inner : Piece)
+    → IsSpelling 64 field a → Stands (from tag (start + length a) b) number inner
+    → Stands (from tag start (a ++ b)) number inner
 stands_later tag start a b field number inner spelled h = record {
   front = a ++ h.front;
   spelling = h.spelling;
@@ -60,7 +79,9 @@ stands_later tag start a b field number inner spelled h = record {
   start = h.start;
 }
 
-pub stands_here : (tag start : ℕ) (a b : List ℕ) (field : WireField) (number : ℕ) (inner : Piece) → IsSpelling 64 field a → IsHere field start (start + length a) number inner → Stands (from tag start (a ++ b)) number inner
+pub stands_here : (tag start : ℕ) (a b : List ℕ) (field : WireField) (number : ℕ) (inner : Piece)
+    → IsSpelling 64 field a → IsHere field start (start + length a) number inner
+    → Stands (from tag start (a ++ b)) number inner
 stands_here tag start a b field number inner spelled h = record {
   front = [];
   spelling = a;
@@ -74,13 +95,18 @@ stands_here tag start a b field number inner spelled h = record {
 }
 
 -- nothing stands where no field begins
-stands_not : (piece : Piece) (number : ℕ) (inner : Piece) (fields : List WireField) → BeginsNone piece.bytes → (h : Stands piece number inner) → AreFields h.front fields → ⊥
+stands_not : (piece : Piece) (number : ℕ) (inner : Piece) (fields : List WireField) → BeginsNone piece.bytes
+    → (h : Stands piece number inner) → AreFields h.front fields → ⊥
 stands_not piece number inner [] none h read =
-    none (record { number = number; payload = Bytes inner.bytes }) h.spelling h.rest (h.joined ∙ ap (λ (l : List ℕ). l ++ (h.spelling ++ h.rest)) read) h.spelled
+    none (record { number = number; payload = Bytes inner.bytes }) h.spelling h.rest
+    (h.joined ∙ ap (λ (l : List ℕ). l ++ (h.spelling ++ h.rest)) read) h.spelled
 stands_not piece number inner (x ∷ fields) none h read =
-    none x read.0 (read.1 ++ (h.spelling ++ h.rest)) (h.joined ∙ ap (λ (l : List ℕ). l ++ (h.spelling ++ h.rest)) read.2 ∙ append_assoc read.0 read.1 (h.spelling ++ h.rest)) read.3
+    none x read.0 (read.1 ++ (h.spelling ++ h.rest))
+    (h.joined ∙ ap (λ (l : List ℕ). l ++ (h.spelling ++ h.rest)) read.2
+    ∙ append_assoc read.0 read.1 (h.spelling ++ h.rest)) read.3
 
-pub stands_nowhere : (piece : Piece) (number : ℕ) (inner : Piece) → BeginsNone piece.bytes → Stands piece number inner → ⊥
+pub stands_nowhere : (piece : Piece) (number : ℕ) (inner : Piece) → BeginsNone piece.bytes → Stands piece number inner
+    → ⊥
 stands_nowhere piece number inner none h = stands_not piece number inner h.fields none h h.read
 
 pub none_at_end : BeginsNone []
@@ -88,7 +114,9 @@ none_at_end = stops_at_end (IsSpelling 64) (fields_apart 64)
 
 -- ---- where a piece breaks
 
-broken_by : (a b : List ℕ) (field : WireField) (at : ℕ) (kind : WireKind) (fields : List WireField) → IsSpelling 64 field a → (h : IsBroken (a ++ b) at kind) → AreFields h.front fields → (further : ℕ) × (at ≡ length a + further) × IsBroken b further kind
+broken_by : (a b : List ℕ) (field : WireField) (at : ℕ) (kind : WireKind) (fields : List WireField)
+    → IsSpelling 64 field a → (h : IsBroken (a ++ b) at kind) → AreFields h.front fields
+    → (further : ℕ) × (at ≡ length a + further) × IsBroken b further kind
 broken_by a b field at kind [] spelled h read =
     absurd (h.breaks.none field a b (sym (h.joined ∙ ap (λ (l : List ℕ). l ++ h.rest) read)) spelled)
 broken_by a b field at kind (x ∷ fields) spelled h read =
@@ -108,10 +136,12 @@ broken_by a b field at kind (x ∷ fields) spelled h read =
       },
     )
 
-pub broken_on : (a b : List ℕ) (field : WireField) (at : ℕ) (kind : WireKind) → IsSpelling 64 field a → IsBroken (a ++ b) at kind → (further : ℕ) × (at ≡ length a + further) × IsBroken b further kind
+pub broken_on : (a b : List ℕ) (field : WireField) (at : ℕ) (kind : WireKind) → IsSpelling 64 field a
+    → IsBroken (a ++ b) at kind → (further : ℕ) × (at ≡ length a + further) × IsBroken b further kind
 broken_on a b field at kind spelled h = broken_by a b field at kind h.fields spelled h h.read
 
-pub broken_later : (a b : List ℕ) (field : WireField) (at : ℕ) (kind : WireKind) → IsSpelling 64 field a → IsBroken b at kind → IsBroken (a ++ b) (length a + at) kind
+pub broken_later : (a b : List ℕ) (field : WireField) (at : ℕ) (kind : WireKind) → IsSpelling 64 field a
+    → IsBroken b at kind → IsBroken (a ++ b) (length a + at) kind
 broken_later a b field at kind spelled h = record {
   front = a ++ h.front;
   rest = h.rest;
@@ -153,7 +183,8 @@ long_here bytes h = record {
   place = refl;
 }
 
-pub long_later : (a b : List ℕ) (field : WireField) (at : ℕ) → IsSpelling 64 field a → IsLongAt b at → IsLongAt (a ++ b) (length a + at)
+pub long_later : (a b : List ℕ) (field : WireField) (at : ℕ) → IsSpelling 64 field a → IsLongAt b at
+    → IsLongAt (a ++ b) (length a + at)
 long_later a b field at spelled h = record {
   front = a ++ h.front;
   tag = h.tag;
@@ -181,10 +212,13 @@ here_from bytes at h read = record {
   long = h.long;
 }
 
-long_by : (a b : List ℕ) (field : WireField) (at : ℕ) (fields : List WireField) → IsSpelling 64 field a → (h : IsLongAt (a ++ b) at) → AreFields h.front fields → IsLongHere (a ++ b) ⊎ ((further : ℕ) × (at ≡ length a + further) × IsLongAt b further)
+long_by : (a b : List ℕ) (field : WireField) (at : ℕ) (fields : List WireField) → IsSpelling 64 field a
+    → (h : IsLongAt (a ++ b) at) → AreFields h.front fields
+    → IsLongHere (a ++ b) ⊎ ((further : ℕ) × (at ≡ length a + further) × IsLongAt b further)
 long_by a b field at [] spelled h read = inl (here_from (a ++ b) at h read)
 long_by a b field at (x ∷ fields) spelled h read =
-    let e : a ++ b ≡ (read.0 ++ read.1) ++ (h.tag ++ (h.size ++ h.rest)) = h.joined ∙ ap (λ (l : List ℕ). l ++ (h.tag ++ (h.size ++ h.rest))) read.2 in
+    let e : a ++ b ≡ (read.0 ++ read.1) ++ (h.tag ++ (h.size ++ h.rest)) =
+    h.joined ∙ ap (λ (l : List ℕ). l ++ (h.tag ++ (h.size ++ h.rest))) read.2 in
     let behind = behind_first read.0 read.1 (h.tag ++ (h.size ++ h.rest)) a b x field read.3 spelled e in
     inr (
       length read.1,
@@ -205,13 +239,17 @@ long_by a b field at (x ∷ fields) spelled h read =
       },
     )
 
-pub long_on : (a b : List ℕ) (field : WireField) (at : ℕ) → IsSpelling 64 field a → IsLongAt (a ++ b) at → IsLongHere (a ++ b) ⊎ ((further : ℕ) × (at ≡ length a + further) × IsLongAt b further)
+pub long_on : (a b : List ℕ) (field : WireField) (at : ℕ) → IsSpelling 64 field a → IsLongAt (a ++ b) at
+    → IsLongHere (a ++ b) ⊎ ((further : ℕ) × (at ≡ length a + further) × IsLongAt b further)
 long_on a b field at spelled h = long_by a b field at h.fields spelled h h.read
 
-long_not : (bytes : List ℕ) (at : ℕ) (fields : List WireField) → BeginsNone bytes → (h : IsLongAt bytes at) → AreFields h.front fields → IsLongHere bytes
+long_not : (bytes : List ℕ) (at : ℕ) (fields : List WireField) → BeginsNone bytes → (h : IsLongAt bytes at)
+    → AreFields h.front fields → IsLongHere bytes
 long_not bytes at [] none h read = here_from bytes at h read
 long_not bytes at (x ∷ fields) none h read =
-    absurd (none x read.0 (read.1 ++ (h.tag ++ (h.size ++ h.rest))) (h.joined ∙ ap (λ (l : List ℕ). l ++ (h.tag ++ (h.size ++ h.rest))) read.2 ∙ append_assoc read.0 read.1 (h.tag ++ (h.size ++ h.rest))) read.3)
+    absurd (none x read.0 (read.1 ++ (h.tag ++ (h.size ++ h.rest)))
+    (h.joined ∙ ap (λ (l : List ℕ). l ++ (h.tag ++ (h.size ++ h.rest))) read.2
+    ∙ append_assoc read.0 read.1 (h.tag ++ (h.size ++ h.rest))) read.3)
 
 pub long_only_here : (bytes : List ℕ) (at : ℕ) → BeginsNone bytes → IsLongAt bytes at → IsLongHere bytes
 long_only_here bytes at none h = long_not bytes at h.fields none h h.read

@@ -1,5 +1,6 @@
--- Which fault bytes have that are read as a feed. The public standard leaves it open which of several faults is told: it
--- is this project's choice to tell the one of least place, and at one place the first of the kinds as they stand below.
+-- Which fault bytes have that are read as a feed. The public standard leaves it open which of several faults is told:
+-- it is this project's choice to tell the one of least place, and at one place the first of the kinds as they stand
+-- below.
 use Rattle.std.specs.Prelude.{◌≡◌, ℕ, ◌+◌, ◌*◌, ◌<◌, ◌≤◌, List, [], ◌++◌, length, Option, Some, None, IsUtf8, ◌⊎◌}
 use Rattle.gw_base.specs.declared.required.Required.{Required}
 use Rattle.gw_base.specs.declared.required.Required.TheVariants.{Header, GtfsRealtimeVersion, Id, Trip, Text}
@@ -7,10 +8,12 @@ use Rattle.wire_fields.specs.Grammar.{Bytes, WireField, IsVarint, IsSpelling, Ar
 use Rattle.wire_fields.specs.Breaks.{IsBroken}
 use Rattle.feed_messages.specs.declared.fault.FeedFault.{FeedFault}
 use Rattle.feed_messages.specs.declared.fault.FeedFault.TheVariants as faults
+use Rattle.feed_messages.specs.Limits.{entity_limit}
 use Rattle.feed_messages.specs.Meaning.{bodies}
 use Rattle.feed_messages.specs.Known.{Known, Nothing, WithText, WithMessage, WithMessages, feed_known}
 
--- a piece of a message: where its tag stands and where its bytes begin, counted from the feed's first byte, and the bytes
+-- a piece of a message: where its tag stands and where its bytes begin, counted from the feed's first byte, and the
+-- bytes
 pub record Piece : Type 0 where
   pub tag : ℕ
   pub start : ℕ
@@ -32,8 +35,8 @@ pub record Stands (outer : Piece) (number : ℕ) (inner : Piece) : Type 0 where
   pub tag : inner.tag ≡ outer.start + length front
   pub start : inner.start + length inner.bytes ≡ inner.tag + length spelling
 
--- a message is told by which pieces it has. These are the pieces that stand in those of a message as fields of a number,
--- and a piece alone
+-- a message is told by which pieces it has. These are the pieces that stand in those of a message as fields of a
+-- number, and a piece alone
 abbrev pub Inside : ℕ → (Piece → Type 0) → Piece → Type 0
 Inside number Message inner = (outer : Piece) × Message outer × Stands outer number inner
 
@@ -106,8 +109,8 @@ HasFaultIn (WithMessages number inner others) Message end fault =
     InSome (Inside number Message) (λ piece fault. IsTorn piece fault ⊎ HasFaultIn inner (Only piece) end fault) fault
     ⊎ HasFaultIn others Message end fault
 
--- an entity's stated length is over the limit, whether its bytes are there or not: behind a list of fields stand the tag
--- of a field 2 with bytes, and such a length
+-- an entity's stated length is over the limit, whether its bytes are there or not: behind a list of fields stand the
+-- tag of a field 2 with bytes, and such a length
 pub record IsLongAt (bytes : List ℕ) (at : ℕ) : Type 0 where
   pub front : List ℕ
   pub tag : List ℕ
@@ -119,7 +122,7 @@ pub record IsLongAt (bytes : List ℕ) (at : ℕ) : Type 0 where
   pub tagged : IsVarint tag 18
   pub len : ℕ
   pub sized : IsVarint size len
-  pub long : 1048576 < len
+  pub long : entity_limit < len
   pub place : at ≡ length front
 
 abbrev pub IsTooLong : List ℕ → FeedFault → Type 0

@@ -3,6 +3,7 @@ use Rattle.std.specs.Prelude.{◌≡◌, ℕ, ◌<◌, List, [], ◌∷◌, ◌+
 use Rattle.wire_fields.specs.Grammar.{IsVarint}
 use Rattle.feed_messages.specs.declared.fault.FeedFault.{FeedFault}
 use Rattle.feed_messages.specs.Faults.{Piece, order}
+use Rattle.feed_messages.specs.Limits.{entity_limit}
 
 -- the earlier one of two faults
 abbrev pub earlier_of : Option FeedFault → Option FeedFault → Option FeedFault
@@ -29,4 +30,4 @@ pub record IsLongHere (bytes : List ℕ) : Type 0 where
   pub tagged : IsVarint tag 18
   pub len : ℕ
   pub sized : IsVarint size len
-  pub long : 1048576 < len
+  pub long : entity_limit < len

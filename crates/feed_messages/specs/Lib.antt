@@ -1,6 +1,7 @@
 pub mod Faults
 pub mod Found
 pub mod Known
+pub mod Limits
 pub mod Meaning
 pub mod Partly
 pub mod Parts

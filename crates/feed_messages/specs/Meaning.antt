@@ -42,15 +42,18 @@ abbrev pub IsInt64 : ℕ → List WireField → Option ℤ → Type 0
 IsInt64 number fields value = value ≡ option_map (cast_signed w64) (last_or None (numbers number fields))
 
 abbrev pub IsInt32 : ℕ → List WireField → Option ℤ → Type 0
-IsInt32 number fields value = value ≡ option_map (λ n. cast_signed w32 (n % 2 ^ 32)) (last_or None (numbers number fields))
+IsInt32 number fields value =
+    value ≡ option_map (λ n. cast_signed w32 (n % 2 ^ 32)) (last_or None (numbers number fields))
 
 -- an enum has its default where it is missing, and a number that the schema doesn't define is kept
 abbrev pub IsEnum : ℕ → ℤ → List WireField → ℤ → Type 0
-IsEnum number default fields value = value ≡ unwrap_or (option_map (λ n. cast_signed w32 (n % 2 ^ 32)) (last_or None (numbers number fields))) default
+IsEnum number default fields value =
+    value ≡ unwrap_or (option_map (λ n. cast_signed w32 (n % 2 ^ 32)) (last_or None (numbers number fields))) default
 
 -- a bool is true where the number isn't 0, and false where it is missing
 abbrev pub IsBool : ℕ → List WireField → Bool → Type 0
-IsBool number fields value = value ≡ unwrap_or (option_map (λ n. not (n == 0)) (last_or None (numbers number fields))) false
+IsBool number fields value =
+    value ≡ unwrap_or (option_map (λ n. not (n == 0)) (last_or None (numbers number fields))) false
 
 -- a text: that of the last field, if there is one; each is UTF-8
 abbrev pub IsText : ℕ → List WireField → Option (List ℕ) → Type 0

@@ -7,6 +7,7 @@ use Rattle.gw_base.specs.declared.messages.Feed.{Feed}
 use Rattle.wire_fields.specs.Grammar.{WireField}
 use Rattle.feed_messages.specs.declared.quick.found.Found.{Found}
 use Rattle.feed_messages.specs.declared.quick.found.Found.TheVariants.{Nothing, One, Joined}
+use Rattle.feed_messages.specs.Limits.{entity_limit}
 use Rattle.feed_messages.specs.Meaning.{bodies, Means, AreBodies, AreMessages}
 use Rattle.feed_messages.specs.Tables.{OfFeedEntity, OfFeedMessage}
 
@@ -31,14 +32,17 @@ IsFound number fields found = IsFoundIn (bodies number fields) found
 abbrev pub AreJoined : List ℕ → List ℕ → List ℕ → Type 0
 AreJoined first second bytes = AreBodies (first ∷ second ∷ []) × (bytes ≡ first ++ second)
 
--- entities of which none is too long
+-- bodies of entities of which none is too long
+abbrev pub AreShort : List (List ℕ) → Type 0
+AreShort bodies = AllByRecursion (λ body. length body ≤ entity_limit) bodies
+
+-- such entities
 abbrev pub AreShortEntities : List WireField → List Entity → Type 0
-AreShortEntities fields entities =
-    AreMessages OfFeedEntity 2 fields entities × AllByRecursion (λ body. length body ≤ 1048576) (bodies 2 fields)
+AreShortEntities fields entities = AreMessages OfFeedEntity 2 fields entities × AreShort (bodies 2 fields)
 
 -- a feed of such entities
 abbrev pub OfShortFeed : List WireField → Feed → Type 0
-OfShortFeed fields feed = OfFeedMessage fields feed × AllByRecursion (λ body. length body ≤ 1048576) (bodies 2 fields)
+OfShortFeed fields feed = OfFeedMessage fields feed × AreShort (bodies 2 fields)
 
 abbrev pub MeansShortFeed : List ℕ → Feed → Type 0
 MeansShortFeed bytes feed = Means OfShortFeed bytes feed

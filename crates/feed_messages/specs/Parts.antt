@@ -1,5 +1,5 @@
--- What is known of each message after some of its fields, as the quick reader keeps it: of a number the last one, before
--- it is read by its type.
+-- What is known of each message after some of its fields, as the quick reader keeps it: of a number the last one,
+-- before it is read by its type.
 use Rattle.std.specs.Prelude.{◌≡◌, List, [], ◌∷◌, ◌++◌}
 use Rattle.gw_base.specs.declared.messages.Entity.{Entity}
 use Rattle.wire_fields.specs.Grammar.{WireField}
@@ -75,7 +75,8 @@ pub record AfterEntity (fields : List WireField) (parts : EntityParts) : Type 0 
 -- the entity of the parts behind others
 abbrev pub AddsEntity : EntityParts → List Entity → List Entity → Type 0
 AddsEntity parts old new =
-    (entity : Entity) × (new ≡ old ++ entity ∷ []) × ((fields : List WireField) → AfterEntity fields parts → OfFeedEntity fields entity)
+    (entity : Entity) × (new ≡ old ++ entity ∷ [])
+    × ((fields : List WireField) → AfterEntity fields parts → OfFeedEntity fields entity)
 
 pub record AfterHeader (fields : List WireField) (parts : HeaderParts) : Type 0 where
   pub version : IsText 1 fields (seen parts.version)

@@ -35,7 +35,8 @@ pub record IsHere (field : WireField) (start end number : ℕ) (inner : faults.P
 abbrev pub IsPieceAt : WireField → ℕ → ℕ → ℕ → Option Piece → Type 0
 IsPieceAt field start end number None = (q : faults.Piece) → ¬ IsHere field start end number q
 IsPieceAt field start end number (Some inner) =
-    IsHere field start end number (piece_of inner) × ((q : faults.Piece) → IsHere field start end number q → q ≡ piece_of inner)
+    IsHere field start end number (piece_of inner)
+    × ((q : faults.Piece) → IsHere field start end number q → q ≡ piece_of inner)
 
 -- the pieces of a list
 abbrev pub Listed : List Piece → faults.Piece → Type 0
@@ -44,7 +45,8 @@ Listed pieces = Among (map piece_of pieces)
 -- where a list so far, with what stands in a rest, is told at the next place
 abbrev pub GoesOn : ℕ → List Piece → Piece → List Piece → Piece → Type 0
 GoesOn number list rest longer after =
-    SameSet (λ q. Listed list q ⊎ faults.Stands (piece_of rest) number q) (λ q. Listed longer q ⊎ faults.Stands (piece_of after) number q)
+    SameSet (λ q. Listed list q ⊎ faults.Stands (piece_of rest) number q)
+    (λ q. Listed longer q ⊎ faults.Stands (piece_of after) number q)
 
 -- a list has these pieces more
 abbrev pub Gains : List Piece → List Piece → (faults.Piece → Type 0) → Type 0
@@ -77,7 +79,8 @@ InText number name Message end fault =
     faults.InSome (faults.Inside number Message) faults.IsNotText fault ⊎ faults.IsMissing number name Message end fault
 
 abbrev pub InMessage : Known → (faults.Piece → Type 0) → ℕ → FeedFault → Type 0
-InMessage known Message end fault = faults.InSome Message faults.IsTorn fault ⊎ faults.HasFaultIn known Message end fault
+InMessage known Message end fault = faults.InSome Message faults.IsTorn fault
+    ⊎ faults.HasFaultIn known Message end fault
 
 abbrev pub InRequired : Known → ℕ → Option Required → (faults.Piece → Type 0) → ℕ → FeedFault → Type 0
 InRequired known number name Message end fault =

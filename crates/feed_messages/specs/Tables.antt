@@ -104,9 +104,20 @@ pub record MeansEntity (bytes : List ℕ) (entity : Entity) : Type 0 where
 
 -- a full dataset of version 2.0 that is made at that moment, of these entities
 abbrev pub full_dataset : ℤ → List Entity → Feed
-full_dataset moment entities = record { version = codes "2.0"; incrementality = pos 0; timestamp = Some (unsigned_abs moment); entities = entities }
+full_dataset moment entities =
+    record {
+      version = codes "2.0";
+      incrementality = pos 0;
+      timestamp = Some (unsigned_abs moment);
+      entities = entities;
+    }
 
 -- the feed with an entity more
 abbrev pub with_entity : Feed → Entity → Feed
 with_entity feed entity =
-    record { version = feed.version; incrementality = feed.incrementality; timestamp = feed.timestamp; entities = feed.entities ++ entity ∷ [] }
+    record {
+      version = feed.version;
+      incrementality = feed.incrementality;
+      timestamp = feed.timestamp;
+      entities = feed.entities ++ entity ∷ [];
+    }

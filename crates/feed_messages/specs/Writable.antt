@@ -1,6 +1,7 @@
 -- Which entities can be written, and which of them are read again.
 use Rattle.std.specs.Prelude.{◌<◌, ◌≤◌, ◌^◌, length}
 use Rattle.gw_base.specs.declared.messages.Entity.{Entity}
+use Rattle.feed_messages.specs.Limits.{entity_limit}
 use Rattle.feed_messages.specs.Sound.{IsSoundEntity}
 use Rattle.feed_messages.specs.Written.{feed_entity, written}
 
@@ -10,7 +11,7 @@ pub record IsWritable (entity : Entity) : Type 0 where
   pub sound : IsSoundEntity entity
   pub counted : length (written entity) < 2 ^ 64
 
--- and its body has at most 1,048,576 bytes, so that it isn't too long to be read
+-- and its body has no more bytes than one has at most, so that it isn't too long to be read
 pub record IsReadable (entity : Entity) : Type 0 where
   pub sound : IsSoundEntity entity
-  pub short : length (feed_entity entity) ≤ 1048576
+  pub short : length (feed_entity entity) ≤ entity_limit

@@ -55,7 +55,8 @@ time_range period = if_there (varint_field 1) period.start ++ if_there (varint_f
 abbrev pub entity_selector : Selector → List ℕ
 entity_selector selector =
     if_there (bytes_field 1) selector.agency_id ++ if_there (bytes_field 2) selector.route_id
-    ++ if_there (λ trip. bytes_field 4 (trip_descriptor trip)) selector.trip ++ if_there (bytes_field 5) selector.stop_id
+    ++ if_there (λ trip. bytes_field 4 (trip_descriptor trip)) selector.trip
+    ++ if_there (bytes_field 5) selector.stop_id
 
 abbrev pub translation : Translation → List ℕ
 translation text = bytes_field 1 text.text ++ if_there (bytes_field 2) text.language

@@ -3,8 +3,8 @@ use gw_base::Required;
 use thiserror::Error;
 use wire_fields::WireFault;
 
-/// Why bytes are no feed, with the place in bytes from the feed's first one. Of several faults the one of least place is
-/// told, and at one place the first in this order.
+/// Why bytes are no feed, with the place in bytes from the feed's first one. Of several faults the one of least place
+/// is told, and at one place the first in this order.
 #[derive(Clone, Copy, Debug, PartialEq, Eq, Error)]
 pub enum FeedFault {
     /// The length of an entity is over 1,048,576 bytes; at its tag.

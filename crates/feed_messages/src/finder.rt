@@ -1,5 +1,5 @@
-//! The fault that bytes have which are no feed: `specs/Faults.antt`. It is looked for only where a feed was not read, and
-//! in a time that grows with the bytes: each field is looked at once for each known field of its message.
+//! The fault that bytes have which are no feed: `specs/Faults.antt`. It is looked for only where a feed was not read,
+//! and in a time that grows with the bytes: each field is looked at once for each known field of its message.
 ghost use Rattle.std.specs.Prelude.{◌≡◌, IfOk};
 ghost use Rattle.feed_messages.specs.Faults.{HasFault, IsLeast};
 

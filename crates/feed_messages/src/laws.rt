@@ -18,7 +18,8 @@ pub fn the_feed_is_one()
 
 /// An entity behind a feed is one more entity of it.
 pub fn an_entity_is_added()
-    ensures { (front back : List ℕ) (feed : Feed) (entity : Entity) → MeansFeed front feed → MeansEntity back entity → MeansFeed (front ++ back) (with_entity feed entity) }
+    ensures { (front back : List ℕ) (feed : Feed) (entity : Entity) → MeansFeed front feed → MeansEntity back entity
+        → MeansFeed (front ++ back) (with_entity feed entity) }
 {}
 
 /// A header followed by written entities means the full dataset of just these, where each can be written, as
@@ -37,11 +38,14 @@ pub fn meant_entities_make_a_feed()
 
 /// Bytes have no fault exactly where they mean some feed and no entity is too long.
 pub fn no_fault_where_a_feed_is_meant()
-    ensures meant { (bytes : List ℕ) → ((fault : FeedFault) → ¬ HasFault bytes fault) → ((feed : Feed) × MeansFeed bytes feed) × ((at : ℕ) → ¬ IsLongAt bytes at) }
-    ensures no_fault { (bytes : List ℕ) (feed : Feed) → MeansFeed bytes feed → ((at : ℕ) → ¬ IsLongAt bytes at) → (fault : FeedFault) → ¬ HasFault bytes fault }
+    ensures meant { (bytes : List ℕ) → ((fault : FeedFault) → ¬ HasFault bytes fault)
+        → ((feed : Feed) × MeansFeed bytes feed) × ((at : ℕ) → ¬ IsLongAt bytes at) }
+    ensures no_fault { (bytes : List ℕ) (feed : Feed) → MeansFeed bytes feed → ((at : ℕ) → ¬ IsLongAt bytes at)
+        → (fault : FeedFault) → ¬ HasFault bytes fault }
 {}
 
 /// Bytes have a first fault, or they mean a feed of which no entity is too long.
 pub fn a_fault_or_a_feed()
-    ensures { (bytes : List ℕ) → ((fault : FeedFault) × IsFeedFault bytes fault) ⊎ (((feed : Feed) × MeansFeed bytes feed) × ((at : ℕ) → ¬ IsLongAt bytes at)) }
+    ensures { (bytes : List ℕ) → ((fault : FeedFault) × IsFeedFault bytes fault)
+        ⊎ (((feed : Feed) × MeansFeed bytes feed) × ((at : ℕ) → ¬ IsLongAt bytes at)) }
 {}

@@ -13,8 +13,8 @@ use gw_base::Feed;
 use nested::read;
 use std::alloc::Global;
 
-/// The feed that the bytes mean, or `Meaningless` where they mean none (GTFS Realtime, FeedMessage). `Memory` is the one
-/// answer that may come at any bytes.
+/// The feed that the bytes mean, or `Meaningless` where they mean none (GTFS Realtime, FeedMessage). `Memory` is the
+/// one answer that may come at any bytes.
 pub fn plain_feed(alloc: Global, bytes: &[u8]) -> Result<Feed, PlainFault>
     ensures means { IfOk result (λ feed. MeansFeed bytes.now feed) }
     ensures none { IsErrOf result PlainFault.Meaningless → (feed : Feed) → ¬ (MeansFeed bytes.now feed) }

@@ -14,8 +14,9 @@ use messages::MeasuredEntity;
 use nested::{WrittenMessage, put_sized};
 use std::alloc::{AllocError, Global};
 
-/// The entity as a field of its feed, tag and length included (GTFS Realtime, FeedEntity). Its length is measured first,
-/// and the bytes are written into one buffer. Want of memory comes also where it has more bytes than a buffer can have.
+/// The entity as a field of its feed, tag and length included (GTFS Realtime, FeedEntity). Its length is measured
+/// first, and the bytes are written into one buffer. Want of memory comes also where it has more bytes than a buffer
+/// can have.
 pub fn entity_bytes(alloc: Global, entity: &Entity) -> Result<Bytes, AllocError>
     ensures written { IfOk result (λ bytes. bytes ≡ written entity.now) }
     ensures means { IfOk result (λ bytes. MeansEntity bytes entity.now) }

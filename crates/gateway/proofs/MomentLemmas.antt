@@ -5,7 +5,8 @@ use Rattle.std.proofs.lemmas.Option.{none-some}
 use Rattle.gw_base.specs.Moments.{IsMoment}
 use Rattle.service_day.specs.Days.{date_number}
 use Rattle.service_day.specs.Digits.{has_form, two_at, four_at}
-use Rattle.service_day.specs.Utc.{utc_of, utc_form, moment_at, moment_if, is_moment, is_clock, seconds_at}
+use Rattle.gw_base.specs.Moments.{is_moment}
+use Rattle.service_day.specs.Utc.{utc_of, utc_form, moment_at, moment_if, is_clock, seconds_at}
 
 is_moment-IsMoment : (secs : ℤ) → is_moment secs ≡ true → IsMoment secs
 is_moment-IsMoment secs e = grind (arith, ints)

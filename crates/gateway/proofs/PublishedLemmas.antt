@@ -17,13 +17,13 @@ use Rattle.stop_schedule.specs.declared.table_fault.TableFault.{TableFault}
 use Rattle.feed_messages.specs.Tables.{MeansFeed}
 use Rattle.gateway_core.specs.Deliveries.{schedule_in}
 use Rattle.gateway.specs.Bodies.{differential_end}
+use Rattle.gateway.specs.Done.{Done}
 use Rattle.gateway.specs.Published.{IsFullFeed, IsSetting, IsZone, Publishes, PublishesFeed, PublishesLines, PublishesOf, PublishesSiri}
 use Rattle.gateway.specs.Words.{IsJob, Job, NamedZone, Scope, Show, ToGtfsrt, ToSiri, by_rule, by_file, gtfsrt_job, show_job, siri_job}
 use Rattle.gateway.specs.Work.{Directory, FileFeed, JobWork, SettingOf, ShowWork, ToGtfsrtWork, ToSiriWork, Zone, body_limit, folder, full, further, zone_limit}
 use Rattle.gateway.specs.declared.exit.Exit.{Exit}
 use Rattle.gateway.specs.declared.exit.Exit.TheVariants.{Refused}
 use Rattle.gateway_core.specs.declared.setting.Setting.{Setting}
-use Rattle.gateway.specs.declared.work.Done.{Done}
 
 -- what a step found, by its answer
 
@@ -47,10 +47,11 @@ found_zone (by_rule text) files zone is = is
 found_zone (by_file path) files zone (bytes, read, is) = (bytes, found_body zone_limit path (bytes_of files path) bytes read, is)
 
 is_setting : (over : Scope) (files : Directory) (setting : Setting) → SettingOf over files (Ok setting) → IsSetting over files setting
-is_setting over files setting (table, folder_is, (zone, zone_is, (table_same, zone_same, window_is))) = record {
+is_setting over files setting (table, folder_is, (zone, zone_is, (table_same, zone_same, window_is, stays))) = record {
   folder = subst (λ (t : Timetable). timetable files over.gtfs ≡ Ok (seen t)) (sym table_same) (found_table over.gtfs (timetable files over.gtfs) (seen table) folder_is);
   zone = subst (λ (z : Rules). IsZone over.zone files z) (sym zone_same) (found_zone over.zone files zone zone_is);
   window = subst (λ (z : Rules). IsWindow z over.from over.days setting.window) (sym zone_same) window_is;
+  stays = stays;
 }
 
 -- a feed that was read of a file is a full dataset
@@ -75,14 +76,14 @@ is_full_feed name files feed (body, held, (read, means, full_is)) =
       full = subst (λ (f : Feed). f.incrementality ≢ pos 1) (sym same.0) same.1;
     }
 
--- the feed of the deliveries that were read gives just the readings of the latest records
+-- the feed of what arrived gives just the readings of the latest records
 feed_published : (files : Directory) (command : ToGtfsrt) (done : Done) (before now : Option (List ℕ))
     → ToGtfsrtWork command files (Ok done) → now ≡ with_bytes before done.out → PublishesFeed command files before now
-feed_published files command done before now (setting, setting_is, (deliveries, read, converted)) written =
+feed_published files command done before now (setting, setting_is, (arrived, read, converted)) written =
     record {
       setting = setting;
       over = is_setting command.over files setting setting_is;
-      deliveries = deliveries;
+      arrived = arrived;
       read = read;
       bytes = done.out;
       written = written;

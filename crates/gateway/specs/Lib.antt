@@ -1,8 +1,10 @@
 pub mod Bodies
 pub mod Devices
+pub mod Done
 pub mod Exits
 pub mod FolderTexts
 pub mod Forms
+pub mod Outputs
 pub mod Pairs
 pub mod Published
 pub mod Rows

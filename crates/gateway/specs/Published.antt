@@ -1,6 +1,6 @@
 -- What the commands publish, in the words of the two standards (SIRI 2.0, EstimatedVehicleJourney; GTFS Realtime 2.0,
 -- FeedMessage).
-use Rattle.std.specs.Prelude.{◌≡◌, ◌≢◌, ℕ, pos, List, [], Option, Some, Ok}
+use Rattle.std.specs.Prelude.{◌≡◌, ◌≢◌, ℕ, pos, List, Option, Some, None, Ok}
 use Rattle.gw_base.specs.Directory.{bytes_of}
 use Rattle.gw_base.specs.Told.{with_bytes}
 use Rattle.gw_base.specs.declared.messages.Feed.{Feed}
@@ -15,12 +15,12 @@ use Rattle.propagation.specs.Feeds.{IsReading}
 use Rattle.propagation.specs.declared.feeds.FeedReading.{FeedReading}
 use Rattle.show_command.specs.Lines.{shown}
 use Rattle.reverse_calls.specs.Siri.{IsSiri}
-use Rattle.gateway_core.specs.Deliveries.{all_situations, all_taken, schedule_in}
-use Rattle.gateway_core.specs.Feeds.{IsRebuilt}
+use Rattle.gateway_core.specs.Arrivals.{moments_of, present, schedule_at}
+use Rattle.gateway_core.specs.Deliveries.{schedule_in}
 use Rattle.gateway_core.specs.Gives.{GivesEach}
+use Rattle.gateway_core.specs.Recording.{IsRebuiltOf}
 use Rattle.gateway.specs.Words.{IsJob, Job, NamedZone, Scope, Show, ToGtfsrt, ToSiri, by_rule, by_file, gtfsrt_job, siri_job, show_job}
-use Rattle.gateway.specs.Work.{Deliveries, Directory}
-use Rattle.gateway_core.specs.declared.named.Named.{Named}
+use Rattle.gateway.specs.Work.{Arrived, Arrives, Directory, nothing}
 use Rattle.gateway_core.specs.declared.setting.Setting.{Setting}
 
 -- a zone is the one that is named: of a rule, or of the bytes of a file
@@ -28,24 +28,28 @@ abbrev pub IsZone : NamedZone → Directory → Rules → Type 0
 IsZone (by_rule text) files zone = IsRuleZone text zone
 IsZone (by_file path) files zone = (bytes : List ℕ) × (bytes_of files path ≡ Some bytes) × IsTableZone bytes zone
 
--- the folder has a timetable, and the days make a window in the zone that is named: together they are the setting
+-- the folder has a timetable, and the days make a window in the zone that is named, which stays: together they are
+-- the setting
 pub record IsSetting (over : Scope) (files : Directory) (setting : Setting) : Type 0 where
   pub folder : timetable files over.gtfs ≡ Ok (seen setting.table)
   pub zone : IsZone over.zone files setting.zone
   pub window : IsWindow setting.zone over.from over.days setting.window
+  pub stays : setting.keep ≡ None
 
--- standard output got the feed that is rebuilt from all records and situations taken of the files' deliveries, in order. Read as
--- protobuf, its bytes mean a full dataset of version 2.0, made at the moment of the command; and this feed, propagated by GTFS
--- Realtime's rules, gives every stop of every journey exactly the time, skip or absence of the last-recorded SIRI journey
+-- standard output got the feed that is rebuilt of what arrived of the files' deliveries, in order, each taken behind those
+-- before. Read as protobuf, its bytes mean a full dataset of version 2.0, made at the moment of the command; and this feed,
+-- propagated by GTFS Realtime's rules, gives every stop of every journey exactly the time, skip or absence of the
+-- last-recorded SIRI journey
 pub record PublishesFeed (command : ToGtfsrt) (files : Directory) (before now : Option (List ℕ)) : Type 0 where
   pub setting : Setting
   pub over : IsSetting command.over files setting
-  pub deliveries : List Named
-  pub read : Deliveries setting files command.more [] (Ok deliveries)
+  pub arrived : Arrived
+  pub read : Arrives setting command.at files command.more nothing (Ok arrived)
   pub bytes : List ℕ
   pub written : now ≡ with_bytes before bytes
-  pub rebuilt : IsRebuilt command.at (schedule_in setting) (all_taken deliveries) (all_situations deliveries) bytes
-  pub gives : GivesEach command.at (schedule_in setting) (all_taken deliveries) bytes
+  pub rebuilt : IsRebuiltOf setting command.at arrived.arrivals bytes
+  pub gives : GivesEach command.at (schedule_at setting (moments_of arrived.arrivals))
+      (present setting arrived.arrivals) bytes
 
 -- the file has these bytes, and they mean this feed, which is a full dataset
 pub record IsFullFeed (name : List ℕ) (files : Directory) (feed : Feed) : Type 0 where

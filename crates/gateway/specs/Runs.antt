@@ -4,12 +4,12 @@ use Rattle.gw_base.specs.Answers.{UnlessFree}
 use Rattle.gw_base.specs.Changes.{Change}
 use Rattle.gw_base.specs.Count.{Rose}
 use Rattle.gw_base.specs.Told.{with_bytes, PutsUnless}
+use Rattle.gateway.specs.Done.{Done}
 use Rattle.gateway.specs.Exits.{is_free, status_of, text_of}
 use Rattle.gateway.specs.Work.{Directory, JobWork}
 use Rattle.gateway.specs.Words.{IsJob, IsRefusedAt, Job}
 use Rattle.gateway.specs.declared.exit.Exit.{Exit}
 use Rattle.gateway.specs.declared.exit.Exit.TheVariants.{Failed}
-use Rattle.gateway.specs.declared.work.Done.{Done}
 
 -- what a run did to the outside: to the files, to standard output and to standard error
 pub record Outside : Type 0 where

@@ -25,25 +25,23 @@ use Rattle.stop_schedule.specs.declared.table_fault.TableFault.{TableFault}
 use Rattle.stop_schedule.specs.declared.timetable.Timetable.{Timetable}
 use Rattle.gateway.specs.Exits.{missing}
 use Rattle.gateway.specs.FolderTexts.{folder_end}
-use Rattle.gateway_core.specs.Feeds.{IsRebuilt}
+use Rattle.gateway_core.specs.Arrivals.{Arrival, Given, journeys, moments_of, present, schedule_at, situations}
+use Rattle.gateway_core.specs.Deliveries.{schedule_in}
 use Rattle.gateway_core.specs.Gives.{GivesEach}
+use Rattle.gateway_core.specs.Recording.{IsRebuiltOf}
+use Rattle.gateway_core.specs.Reports.{feed_report}
+use Rattle.gateway_core.specs.Taking.{TakesJourneys, TakesSituations}
+use Rattle.gateway_core.specs.declared.setting.Setting.{Setting}
+use Rattle.journey_model.specs.Records.{Recorded}
+use Rattle.journey_model.specs.declared.situation.Situation.{Situation}
 use Rattle.siri_calls.specs.Deliveries.{ReadsBody}
-use Rattle.siri_calls.specs.declared.delivery.Delivery.{Delivery}
 use Rattle.siri_calls.specs.declared.delivery.DeliveryFault.{DeliveryFault}
 use Rattle.siri_situations.specs.Deliveries.{ReadsSituations}
-use Rattle.siri_situations.specs.declared.delivery.SituationDelivery.{SituationDelivery}
-use Rattle.gateway_core.specs.Alerts.{limited_delivery}
-use Rattle.gateway_core.specs.Deliveries.{all_reports, all_situations, all_taken, schedule_in}
-use Rattle.gateway_core.specs.Reports.{feed_report}
 use Rattle.gateway.specs.Bodies.{body_end, differential_end, feed_end, many_calls_end}
+use Rattle.gateway.specs.Done.{Done}
 use Rattle.gateway.specs.Words.{Job, NamedZone, Scope, Show, ToGtfsrt, ToSiri, by_rule, by_file, gtfsrt_job, siri_job, show_job}
-use Rattle.gateway_core.specs.declared.named.Delivered.{Delivered}
-use Rattle.gateway_core.specs.declared.named.Delivered.TheVariants.{Journeys, Situations}
-use Rattle.gateway_core.specs.declared.named.Named.{Named}
 use Rattle.gateway.specs.declared.exit.Exit.{Exit}
 use Rattle.gateway.specs.declared.exit.Exit.TheVariants.{Refused}
-use Rattle.gateway.specs.declared.work.Done.{Done}
-use Rattle.gateway_core.specs.declared.setting.Setting.{Setting}
 
 -- files by name, of which the first with a name counts
 abbrev pub Directory : Type 0
@@ -98,9 +96,9 @@ Zone (by_file path) files = do
 abbrev pub Found : {A : Type 0} → A → Result A Exit → Type 0
 Found found answer = answer ≡ Ok found
 
--- the timetable and the zone, with the window of so many days from the first on in that zone
+-- the timetable and the zone, with the window of so many days from the first on in that zone, which stays
 abbrev pub Windowed : Timetable → Rules → ℤ → ℕ → Result Setting Exit → Type 0
-Windowed table zone first days (Ok setting) = (setting.table ≡ table) × (setting.zone ≡ zone) × IsWindow zone first days setting.window
+Windowed table zone first days (Ok setting) = (setting.table ≡ table) × (setting.zone ≡ zone) × IsWindow zone first days setting.window × (setting.keep ≡ None)
 Windowed table zone first days (Err end) = ⊥
 
 -- the zone and the window behind a timetable
@@ -115,62 +113,71 @@ SettingOf over files = do
   table ← Folder over.gtfs files
   Over table over.zone over.from over.days files
 
--- what a delivery's body says over a setting, or the end that its fault is
-abbrev pub DeliveryOf : Setting → List ℕ → List ℕ → Result Delivery Exit → Type 0
-DeliveryOf setting name body (Ok delivery) = ReadsBody (schedule_in setting) body (Ok delivery)
-DeliveryOf setting name body (Err end) = (fault : DeliveryFault) × ReadsBody (schedule_in setting) body (Err fault) × (end ≡ body_end name fault)
+-- what a delivery's body gives at that moment behind some arrivals, with the report on it; or the end that its fault is
+abbrev pub JourneysGiven : Setting → ℤ → List ℕ → List ℕ → List Arrival → Result (Given × Report) Exit → Type 0
+JourneysGiven setting at name body arrivals (Ok found) =
+    (records : List Recorded) × (found.0 ≡ journeys records) × TakesJourneys setting arrivals at body found.1 records
+JourneysGiven setting at name body arrivals (Err end) =
+    (fault : DeliveryFault) × ReadsBody (schedule_at setting (at ∷ moments_of arrivals)) body (Err fault)
+    × (end ≡ body_end name fault)
 
--- and what one of situations says: those with too long an alert are set aside
-abbrev pub SituationsRead : Setting → List ℕ → List ℕ → Result SituationDelivery Exit → Type 0
-SituationsRead setting name body (Ok delivery) = ReadsSituations (schedule_in setting) body (Ok delivery)
-SituationsRead setting name body (Err end) = (fault : DeliveryFault) × ReadsSituations (schedule_in setting) body (Err fault) × (end ≡ body_end name fault)
+-- the same of one of situations
+abbrev pub SituationsGiven : Setting → ℤ → List ℕ → List ℕ → List Arrival → Result (Given × Report) Exit → Type 0
+SituationsGiven setting at name body arrivals (Ok found) =
+    (all : List Situation) × (found.0 ≡ situations all) × TakesSituations setting arrivals at body found.1 all
+SituationsGiven setting at name body arrivals (Err end) =
+    (fault : DeliveryFault) × ReadsSituations (schedule_at setting (at ∷ moments_of arrivals)) body (Err fault)
+    × (end ≡ body_end name fault)
 
-abbrev pub SituationsOf : Setting → List ℕ → List ℕ → Result SituationDelivery Exit → Type 0
-SituationsOf setting name body = do
-  delivery ← SituationsRead setting name body
-  Found (limited_delivery (seen setting.table) delivery)
+-- what a body gives: behind the flag `--sx` situations, and behind `--et` journeys
+abbrev pub BodyGives : Setting → ℤ → List ℕ → List ℕ → List ℕ → List Arrival → Result (Given × Report) Exit → Type 0
+BodyGives setting at flag name body arrivals answer =
+    MatchBool (bytes_eq flag (codes "--sx"))
+    (SituationsGiven setting at name body arrivals answer) (JourneysGiven setting at name body arrivals answer)
 
--- what a body delivers: behind the flag `--sx` situations, and behind `--et` journeys
-abbrev pub DeliversJourneys : Setting → List ℕ → List ℕ → Result Delivered Exit → Type 0
-DeliversJourneys setting name body = do
-  delivery ← DeliveryOf setting name body
-  Found (Journeys delivery)
-
-abbrev pub DeliversSituations : Setting → List ℕ → List ℕ → Result Delivered Exit → Type 0
-DeliversSituations setting name body = do
-  delivery ← SituationsOf setting name body
-  Found (Situations delivery)
-
-abbrev pub Delivers : Setting → List ℕ → List ℕ → List ℕ → Result Delivered Exit → Type 0
-Delivers setting flag name body answer =
-    MatchBool (bytes_eq flag (codes "--sx")) (DeliversSituations setting name body answer) (DeliversJourneys setting name body answer)
-
--- what a file delivers
-abbrev pub FileDelivers : Setting → List ℕ → List ℕ → Directory → Result Delivered Exit → Type 0
-FileDelivers setting flag name files = do
+-- what a file gives
+abbrev pub FileGives : Setting → ℤ → List ℕ → List ℕ → Directory → List Arrival → Result (Given × Report) Exit → Type 0
+FileGives setting at flag name files arrivals = do
   body ← FurtherFile body_limit name files
-  Delivers setting flag name body
+  BodyGives setting at flag name body arrivals
 
--- the deliveries of the files that words name, a flag before each, behind those read so far
-abbrev pub Deliveries : Setting → Directory → List (List ℕ) → List Named → Result (List Named) Exit → Type 0
-Deliveries setting files [] so_far = Found so_far
-Deliveries setting files (flag ∷ []) so_far = Found so_far
-Deliveries setting files (flag ∷ name ∷ words) so_far = do
-  delivered ← FileDelivers setting flag name files
-  Deliveries setting files words (so_far ++ record { name = name; delivered = delivered } ∷ [])
+-- what arrived of some files, the newest first, and the reports on them, in order
+pub record Arrived : Type 0 where
+  pub arrivals : List Arrival
+  pub reports : List ℕ
 
--- the feed of what was taken, made at that moment, which gives each journey its latest reading, and the reports on all deliveries
-abbrev pub Converted : ℤ → Setting → List Named → Result Done Exit → Type 0
-Converted at setting deliveries (Ok done) =
-    IsRebuilt at (schedule_in setting) (all_taken deliveries) (all_situations deliveries) done.out
-    × GivesEach at (schedule_in setting) (all_taken deliveries) done.out × (done.err ≡ all_reports deliveries)
-Converted at setting deliveries (Err end) = ⊥
+abbrev pub nothing : Arrived
+nothing = record { arrivals = []; reports = [] }
+
+-- with what a file more gives at that moment, and the report on it
+abbrev pub with_file : ℤ → List ℕ → Arrived → Given × Report → Arrived
+with_file at name before found = record {
+  arrivals = record { moment = at; gives = found.0 } ∷ before.arrivals;
+  reports = before.reports ++ feed_report name found.1;
+}
+
+-- what arrives at that moment of the files that words name, a flag before each, behind what arrived before
+abbrev pub Arrives : Setting → ℤ → Directory → List (List ℕ) → Arrived → Result Arrived Exit → Type 0
+Arrives setting at files [] before = Found before
+Arrives setting at files (flag ∷ []) before = Found before
+Arrives setting at files (flag ∷ name ∷ words) before = do
+  found ← FileGives setting at flag name files before.arrivals
+  Arrives setting at files words (with_file at name before found)
+
+-- the feed that is rebuilt of what arrived, made at that moment, which gives each journey its latest reading, and the
+-- reports
+abbrev pub Converted : ℤ → Setting → Arrived → Result Done Exit → Type 0
+Converted at setting arrived (Ok done) =
+    IsRebuiltOf setting at arrived.arrivals done.out
+    × GivesEach at (schedule_at setting (moments_of arrived.arrivals)) (present setting arrived.arrivals) done.out
+    × (done.err ≡ arrived.reports)
+Converted at setting arrived (Err end) = ⊥
 
 -- the conversion of the files' deliveries
 abbrev pub Conversion : ℤ → Setting → List (List ℕ) → Directory → Result Done Exit → Type 0
 Conversion at setting words files = do
-  deliveries ← Deliveries setting files words []
-  Converted at setting deliveries
+  arrived ← Arrives setting at files words nothing
+  Converted at setting arrived
 
 -- the work of `to-gtfsrt`
 abbrev pub ToGtfsrtWork : ToGtfsrt → Directory → Result Done Exit → Type 0

@@ -1,23 +1,22 @@
-//! The deliveries that a command reads, file by file. The functions meet `specs/Work.antt`.
-ghost use Rattle.std.specs.Prelude.{◌≡◌, ◌++◌, ◌∷◌, [], IfOk, IfSome, IsErrOf, OnOk, option_map};
+//! The deliveries that a command reads, file by file, each taken by the gateway. The functions meet `specs/Work.antt`.
+ghost use Rattle.std.specs.Prelude.{◌≡◌, ◌++◌, [], List, IfOk, IfSome, IsErrOf, OnOk, option_map};
 ghost use Rattle.gw_base.specs.Answers.{UnlessFree};
 ghost use Rattle.gw_base.specs.Count.{Counts};
 ghost use Rattle.gateway.specs.Bodies as ends;
 ghost use Rattle.gateway.specs.Exits.{is_free};
-ghost use Rattle.gateway.specs.Served.{IsNext};
+ghost use Rattle.gateway.specs.Served.{IsNext, Takes, TakesAll};
 ghost use Rattle.gateway.specs.Work as steps;
-ghost use Rattle.gateway_core.specs.Alerts as alerts;
-ghost use Rattle.gateway_core.specs.Deliveries.{CanServe, CanServeEach, schedule_in};
-ghost use Rattle.siri_calls.specs.Deliveries.{AreServable};
-ghost use Rattle.siri_situations.specs.Deliveries.{ReferToKnown};
-ghost use Rattle.stop_schedule.specs.Seen.{seen};
+ghost use Rattle.gateway.specs.Work.{nothing};
+ghost use Rattle.gateway_core.specs.Arrivals.{Arrival};
+ghost use Rattle.gateway_core.specs.Reports as reports;
+ghost use Rattle.gateway_core.specs.Standing.{Stands};
 
 use crate::exit::Exit;
 use crate::reading::{BODY_LIMIT, further_file, joined};
-use gateway_core::{Delivered, Named, Setting, limited_delivery};
-use gw_base::{Files, List, Text};
-use siri_calls::{Delivery, DeliveryFault, read_delivery};
-use siri_situations::{SituationDelivery, read_situations};
+use gateway_core::{Gateway, feed_report};
+use gw_base::{Bytes, Files, Moment, Text};
+use journey_model::Report;
+use siri_calls::DeliveryFault;
 use std::alloc::{AllocError, Global};
 
 // The end that a fault of a file's body is.
@@ -38,85 +37,83 @@ fn body_end(alloc: Global, name: &str, fault: DeliveryFault) -> Result<Exit, All
 // The flag of a delivery of situations.
 const SITUATIONS: &str = "--sx";
 
-// What a delivery's body says.
-fn delivery(alloc: Global, body: &[u8], name: &str, setting: &Setting) -> Result<Delivery, Exit>
-    ensures told { UnlessFree is_free result (steps.DeliveryOf setting.now name.now body.now) }
+// Takes the body of a delivery of journeys, which arrives at that moment.
+fn journeys_taken(
+    alloc: Global,
+    gate: &mut Gateway,
+    at: Moment,
+    body: &[u8],
+    name: &str,
+) -> Result<Report, Exit>
+    ensures told { (arrivals : List Arrival) → Stands gate.old arrivals → UnlessFree is_free result
+        (Takes (steps.JourneysGiven gate.old.setting at name.now body.now arrivals) at arrivals gate.new) }
     ensures calm { ¬ IsErrOf result Exit.Failed }
-    ensures servable { IfOk result (λ delivery.
-        AreServable (schedule_in setting.now) delivery.items) }
+    ensures setting { gate.new.setting ≡ gate.old.setting }
 {
-    match read_delivery(alloc, body, &setting.context()) {
-        Ok(delivery) => Ok(delivery),
+    match gate.take_estimated(alloc, body, at) {
+        Ok(accepted) => Ok(accepted.report),
         Err(fault) => Err(body_end(alloc, name, fault)?),
     }
 }
 
-// What the body of a delivery of situations says.
-fn situations_read(
+// Takes the body of a delivery of situations.
+fn situations_taken(
     alloc: Global,
+    gate: &mut Gateway,
+    at: Moment,
     body: &[u8],
     name: &str,
-    setting: &Setting,
-) -> Result<SituationDelivery, Exit>
-    ensures told { UnlessFree is_free result (steps.SituationsRead setting.now name.now body.now) }
+) -> Result<Report, Exit>
+    ensures told { (arrivals : List Arrival) → Stands gate.old arrivals → UnlessFree is_free result
+        (Takes (steps.SituationsGiven gate.old.setting at name.now body.now arrivals) at arrivals gate.new) }
     ensures calm { ¬ IsErrOf result Exit.Failed }
-    ensures known { IfOk result (λ delivery. ReferToKnown (seen setting.now.table) delivery.items) }
+    ensures setting { gate.new.setting ≡ gate.old.setting }
 {
-    match read_situations(alloc, body, &setting.context()) {
-        Ok(delivery) => Ok(delivery),
+    match gate.take_situations(alloc, body, at) {
+        Ok(accepted) => Ok(accepted.report),
         Err(fault) => Err(body_end(alloc, name, fault)?),
     }
 }
 
-// The same, where those with too long an alert are set aside.
-fn situations(
+// Takes a body, of what its flag says.
+fn body_taken(
     alloc: Global,
-    body: &[u8],
-    name: &str,
-    setting: &Setting,
-) -> Result<SituationDelivery, Exit>
-    ensures told { UnlessFree is_free result (steps.SituationsOf setting.now name.now body.now) }
-    ensures calm { ¬ IsErrOf result Exit.Failed }
-    ensures known { IfOk result (λ delivery. ReferToKnown (seen setting.now.table) delivery.items) }
-{
-    let delivery = situations_read(alloc, body, name, setting)?;
-    Ok(limited_delivery(alloc, &setting.table, delivery)?)
-}
-
-// What a body delivers behind a flag.
-fn delivered(
-    alloc: Global,
+    gate: &mut Gateway,
+    at: Moment,
     flag: &str,
     body: &[u8],
     name: &str,
-    setting: &Setting,
-) -> Result<Delivered, Exit>
-    ensures told { UnlessFree is_free result (steps.Delivers setting.now flag.now name.now body.now) }
+) -> Result<Report, Exit>
+    ensures told { (arrivals : List Arrival) → Stands gate.old arrivals → UnlessFree is_free result
+        (Takes (steps.BodyGives gate.old.setting at flag.now name.now body.now arrivals) at arrivals gate.new) }
     ensures calm { ¬ IsErrOf result Exit.Failed }
-    ensures servable { IfOk result (λ delivered. CanServe (schedule_in setting.now) delivered) }
+    ensures setting { gate.new.setting ≡ gate.old.setting }
 {
     if flag == SITUATIONS {
-        Ok(Delivered::Situations(situations(alloc, body, name, setting)?))
+        situations_taken(alloc, gate, at, body, name)
     } else {
-        Ok(Delivered::Journeys(delivery(alloc, body, name, setting)?))
+        journeys_taken(alloc, gate, at, body, name)
     }
 }
 
-// What a file delivers.
-fn file_delivered<F: Files>(
+// Takes what a file delivers.
+fn file_taken<F: Files>(
     alloc: Global,
     files: &mut F,
+    gate: &mut Gateway,
+    at: Moment,
     flag: &str,
     name: &str,
-    setting: &Setting,
-) -> Result<Delivered, Exit>
-    ensures told { IfSome (F.told files.old) (λ told. UnlessFree is_free result (steps.FileDelivers setting.now flag.now name.now told)) }
+) -> Result<Report, Exit>
+    ensures told { IfSome (F.told files.old) (λ told. (arrivals : List Arrival)
+        → Stands gate.old arrivals → UnlessFree is_free result
+        (Takes (steps.FileGives gate.old.setting at flag.now name.now told arrivals) at arrivals gate.new)) }
     ensures counts { Counts (IsErrOf result Exit.Failed) (F.faults files.old) (F.faults files.new) }
     ensures same { F.told files.new ≡ F.told files.old }
-    ensures servable { IfOk result (λ delivered. CanServe (schedule_in setting.now) delivered) }
+    ensures setting { gate.new.setting ≡ gate.old.setting }
 {
     let body = further_file(alloc, files, name, BODY_LIMIT)?;
-    delivered(alloc, flag, body.as_slice(), name, setting)
+    body_taken(alloc, gate, at, flag, body.as_slice(), name)
 }
 
 // The first two words, a flag and a path, and the words behind them.
@@ -129,40 +126,44 @@ fn next_file(words: &[Text]) -> Option<(&Text, &Text, &[Text])>
     }
 }
 
-// The deliveries so far with the one of a file more.
-fn push_named(
+// The reports so far with the one on a file more.
+fn add_report(
     alloc: Global,
-    found: &mut List<Named>,
+    so_far: &mut Bytes,
     name: &str,
-    delivered: Delivered,
+    report: &Report,
 ) -> Result<(), AllocError>
-    ensures { OnOk result (found.new ≡ found.old ++ record { name = name.now; delivered = delivered } ∷ []) }
+    ensures { OnOk result (so_far.new ≡ so_far.old ++ reports.feed_report name.now report.now) }
 {
-    let name = Text::copied(alloc, name)?;
-    found.push(Named { name, delivered })
+    let lines = feed_report(alloc, name, report)?;
+    so_far.extend(lines.as_slice())
 }
 
-/// The deliveries of the files that words name, a flag before each, in order.
+/// Takes the deliveries of the files that words name, a flag before each, in order, by a gateway that took nothing yet.
+/// Each arrives at that moment. Answers the reports on them.
 pub fn deliveries<F: Files>(
     alloc: Global,
     files: &mut F,
-    setting: &Setting,
+    gate: &mut Gateway,
+    at: Moment,
     words: &[Text],
-) -> Result<List<Named>, Exit>
-    ensures told { IfSome (F.told files.old) (λ told. UnlessFree is_free result (steps.Deliveries setting.now told words.now [])) }
+) -> Result<Bytes, Exit>
+    requires new { Stands gate.old [] }
+    ensures told { IfSome (F.told files.old) (λ told. UnlessFree is_free result
+        (TakesAll (steps.Arrives gate.old.setting at told words.now nothing) gate.new)) }
     ensures counts { Counts (IsErrOf result Exit.Failed) (F.faults files.old) (F.faults files.new) }
     ensures same { F.told files.new ≡ F.told files.old }
-    ensures servable { IfOk result (λ deliveries. CanServeEach (schedule_in setting.now) deliveries) }
+    ensures setting { gate.new.setting ≡ gate.old.setting }
 {
-    let mut found = List::new(alloc);
+    let mut so_far = Bytes::new(alloc);
     let mut rest = words;
     while let Some((flag, name, behind)) = next_file(rest) {
-        let delivered = match file_delivered(alloc, files, flag.as_str(), name.as_str(), setting) {
-            Ok(delivered) => delivered,
+        let report = match file_taken(alloc, files, gate, at, flag.as_str(), name.as_str()) {
+            Ok(report) => report,
             Err(end) => return Err(end),
         };
-        push_named(alloc, &mut found, name.as_str(), delivered)?;
+        add_report(alloc, &mut so_far, name.as_str(), &report)?;
         rest = behind;
     }
-    Ok(found)
+    Ok(so_far)
 }

@@ -6,9 +6,9 @@ ghost use Rattle.gateway.specs.Bodies as ends;
 ghost use Rattle.gateway.specs.Exits.{is_free};
 ghost use Rattle.gateway.specs.Work as steps;
 
+use crate::done::Done;
 use crate::exit::Exit;
 use crate::reading::{BODY_LIMIT, further_file, joined};
-use crate::work::Done;
 use feed_messages::{FeedFault, read_feed};
 use gateway_core::{Setting, feed_report};
 use gw_base::{Bytes, Feed, Files, Moment, Text, WireKind};
@@ -138,7 +138,7 @@ pub fn siri_of(
     match reverse_calls::siri_of(alloc, feed, &setting.context(), at) {
         Ok((out, report)) => {
             let err = feed_report(alloc, name, &report)?;
-            Ok(Done { out, err })
+            Ok(Done::texts(out, err))
         }
         Err(ReverseFault::TooManyCalls(count)) => {
             Err(Exit::Refused(numbered(alloc, name, " TooManyCalls ", count)?))
@@ -154,8 +154,5 @@ pub fn lines_of(alloc: Global, setting: &Setting, feed: &Feed) -> Result<Done, A
 {
     let reading = readings_of(alloc, feed, &setting.context())?;
     let out = show_lines(alloc, &setting.context(), &reading)?;
-    Ok(Done {
-        out,
-        err: Bytes::new(alloc),
-    })
+    Ok(Done::texts(out, Bytes::new(alloc)))
 }

@@ -5,6 +5,7 @@
 mod command_line;
 mod deliveries;
 mod devices;
+mod done;
 mod exit;
 mod feeds;
 mod folder_end;

@@ -7,6 +7,7 @@ mod feed;
 mod feeds;
 mod folder;
 mod frame;
+mod full;
 mod items;
 mod rounds;
 mod runs;

@@ -7,9 +7,10 @@ ghost use Rattle.gateway.specs.Published.{Publishes};
 ghost use Rattle.gateway.specs.Exits.{status_of, text_of};
 ghost use Rattle.gateway.specs.Runs.{IsRun, line};
 
+use crate::done::Done;
 use crate::exit::{Exit, FAILED};
 use crate::words::job;
-use crate::work::{Done, carried_out};
+use crate::work::carried_out;
 use arrayvec::ArrayString;
 use gw_base::{Clock, Door, Failed, Files, Sink, Text, put_all};
 use itoa::Buffer;
@@ -69,8 +70,8 @@ fn written<S: Sink, E: Sink>(out: &mut S, err: &mut E, done: &Done) -> Result<()
     ensures counts { (S.faults out.old ≤ S.faults out.new) × (E.faults err.old ≤ E.faults err.new) }
     ensures others { (S.beside out.new ≡ S.beside out.old) × (E.beside err.new ≡ E.beside err.old) }
 {
-    put_all(out, done.out.as_slice())?;
-    put_all(err, done.err.as_slice())
+    done.write_out(out)?;
+    put_all(err, done.err())
 }
 
 /// Carries out the words over the devices, and answers the status: 0 where the work was done, 2 for

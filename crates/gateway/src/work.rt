@@ -8,28 +8,19 @@ ghost use Rattle.gateway.specs.Windowed.{HasWindow};
 ghost use Rattle.gateway.specs.Words as said;
 ghost use Rattle.gateway.specs.Words.{by_file, scope_in};
 ghost use Rattle.gateway.specs.Works.{job_of, scope_of, zone_of};
-ghost use Rattle.gateway_core.specs.Deliveries.{CanServeEach, schedule_in};
 
 use crate::deliveries::deliveries;
+use crate::done::Done;
 use crate::exit::Exit;
 use crate::feeds::{feed_file, lines_of, siri_of};
 use crate::folder_end::folder_end;
 use crate::reading::{ZONE_LIMIT, further_file};
 use crate::words::{Scope, Work, ZoneWord};
-use gateway_core::{Named, Setting, rebuilt, reports};
-use gw_base::{Bytes, Files, Moment, Text};
+use gateway_core::{Gateway, Setting};
+use gw_base::{Files, Moment, Text};
 use service_day::{Window, Zone, ZoneFault};
-use std::alloc::{AllocError, Global};
+use std::alloc::Global;
 use stop_schedule::{Timetable, read_timetable};
-
-/// What a command writes.
-#[derive(Debug, Drop)]
-pub struct Done {
-    /// For standard output.
-    pub out: Bytes,
-    /// For standard error, afterwards.
-    pub err: Bytes,
-}
 
 // The timetable of a folder.
 fn folder<F: Files>(alloc: Global, files: &mut F, dir: &str) -> Result<Timetable, Exit>
@@ -126,37 +117,24 @@ fn setting<F: Files>(alloc: Global, files: &mut F, scope: &Scope<'_>) -> Result<
     }
 }
 
-// The feed and the reports of deliveries.
-fn converted(
-    alloc: Global,
-    at: Moment,
-    setting: &Setting,
-    deliveries: &[Named],
-) -> Result<Done, AllocError>
-    requires { CanServeEach (schedule_in setting.now) deliveries.now }
-    ensures { IfOk result (λ done. steps.Converted at setting.now deliveries.now (Ok done)) }
-{
-    Ok(Done {
-        out: rebuilt(alloc, at, &setting.context(), deliveries)?,
-        err: reports(alloc, deliveries)?,
-    })
-}
-
 // The conversion of the deliveries of the files that words name.
 fn conversion<F: Files>(
     alloc: Global,
     files: &mut F,
     at: Moment,
-    setting: &Setting,
+    setting: Setting,
     words: &[Text],
 ) -> Result<Done, Exit>
     ensures told { IfSome (F.told files.old) (λ told. UnlessFree is_free result
-        (steps.Conversion at setting.now words.now told)) }
+        (steps.Conversion at setting words.now told)) }
     ensures counts { Counts (IsErrOf result Exit.Failed) (F.faults files.old) (F.faults files.new) }
     ensures same { F.told files.new ≡ F.told files.old }
 {
-    let deliveries = deliveries(alloc, files, setting, words)?;
-    Ok(converted(alloc, at, setting, deliveries.as_slice())?)
+    let mut gate = Gateway::start(alloc, setting)?;
+    match deliveries(alloc, files, &mut gate, at, words) {
+        Ok(reports) => Ok(Done::feed(gate, at, reports)),
+        Err(end) => Err(end),
+    }
 }
 
 // The work of `to-gtfsrt`.
@@ -175,7 +153,7 @@ fn to_gtfsrt<F: Files>(
     ensures same { F.told files.new ≡ F.told files.old }
 {
     match setting(alloc, files, scope) {
-        Ok(setting) => conversion(alloc, files, at, &setting, more),
+        Ok(setting) => conversion(alloc, files, at, setting, more),
         Err(end) => Err(end),
     }
 }

@@ -7,7 +7,7 @@ use Rattle.std.proofs.lemmas.List.{append-nil, append_assoc}
 use Rattle.std.proofs.lemmas.List.Elements.{filter-append, filter_map-append}
 use Rattle.std.specs.Prelude.{filter, find, is_some, length, nat_lt}
 use Rattle.std.specs.List.{AllByRecursion, list_all, list_any}
-use Rattle.std.specs.Ordering.{is_eq, is_lt}
+use Rattle.std.specs.Ordering.{is_eq, is_gt, is_lt}
 use Rattle.std.specs.Result.{result_ok}
 use Rattle.std.specs.declared.cmp.Ordering.{Ordering}
 use Rattle.journey_model.specs.declared.fault.Fault.{Fault}
@@ -16,10 +16,10 @@ use Rattle.latest_store.specs.Latest.{HasLatestOf}
 use Rattle.gateway_core.specs.Arrivals.{has_room}
 use Rattle.gateway_core.specs.Deliveries.{taken}
 use Rattle.gateway_core.specs.Feeds.{are_ordered_by}
-use Rattle.gateway_core.specs.Keeping.{AreLatest, Keeps, at_key, with_one}
+use Rattle.gateway_core.specs.Keeping.{AreLatest, Keeps, above, at_key, below, with_one}
 use Rattle.gateway_core.specs.Taking.{with_room}
 use Rattle.gateway_core.specs.Winners.{IsKeyed, counts_by}
-use Rattle.gateway_core.proofs.HeldLemmas.{all_among}
+use Rattle.gateway_core.proofs.HeldLemmas.{all_among, all_joined}
 use Rattle.gateway_core.proofs.LatestLemmas.{key_is, latest_filter, latest_put, latest_same, none_behind, own, room_is}
 use Rattle.gateway_core.proofs.OrderedLemmas.{map-put, some_found}
 use Rattle.gateway_core.proofs.RollLemmas.{all_with_room, filter_all}
@@ -73,15 +73,24 @@ taken_same {A} verdicts fault = filter_map-append (λ (verdict : Result A Fault)
 
 -- ---- entries
 
+-- what holds of all holds of those that pass a test
+pub all_filtered : {X : Type 0} (P : X → Type 0) (p : X → Bool) (xs : List X) → AllByRecursion P xs → AllByRecursion P (filter p xs)
+all_filtered P p [] h = tt
+all_filtered {X} P p (x ∷ xs) h = by (p x) (all_filtered P p xs h.1)
+  where
+    by : (b : Bool) → AllByRecursion P (filter p xs) → AllByRecursion P (cond b (x ∷ filter p xs) (filter p xs))
+    by true rest = (h.0, rest)
+    by false rest = rest
+
 module _ {A Q E : Type 0} (cmp : Q → Q → Ordering) (key_of : A → Q) (is_its : Q → A → Bool) (is_later : A → A → Bool)
     (keyed : IsKeyed cmp key_of is_its is_later) (comes_before : A → A → Bool)
     (by_key : (a b : A) → comes_before a b ≡ is_lt (cmp (key_of a) (key_of b)))
-    (entry : A → E) (key_in : E → Q) (its_key : (a : A) → key_in (entry a) ≡ key_of a) where
+    (entry : A → E) (good : A → Type 0) (key_in : E → Q) (its_key : (a : A) → key_in (entry a) ≡ key_of a) where
   abbrev IsKept : List A → List E → Type 0
-  IsKept all entries = Keeps is_its is_later comes_before entry all entries
+  IsKept all entries = Keeps is_its is_later comes_before entry good all entries
 
   pub keeps_none : IsKept [] []
-  keeps_none = record { ordered = []; are_latest = record { in_order = refl; latest = λ q. refl }; entries_are = refl }
+  keeps_none = record { ordered = []; are_latest = record { in_order = refl; latest = λ q. refl }; entries_are = refl; all_good = tt }
 
   -- what is found at a key
   entry_found : (q : Q) (xs : List A) → at_key key_in cmp (map entry xs) q ≡ option_map entry (find (is_its q) xs)
@@ -115,14 +124,18 @@ module _ {A Q E : Type 0} (cmp : Q → Q → Ordering) (key_of : A → Q) (is_it
         by (Some old) = ap not (later_is old one)
 
     -- one more that counts is put at its key
-    pub keeps_put : (all : List A) (entries : List E) (one : A) → IsKept all entries → counts_over (at_key key_in cmp entries (key_of one)) one ≡ true
+    pub keeps_put : (all : List A) (entries : List E) (one : A) → IsKept all entries → counts_over (at_key key_in cmp entries (key_of one)) one ≡ true → good one
         → IsKept (all ++ one ∷ []) (with_one key_in cmp entries (entry one))
-    keeps_put all entries one h won = record {
+    keeps_put all entries one h won its_good = record {
       ordered = with_one key_of cmp h.ordered one;
       are_latest = latest_put cmp key_of is_its is_later keyed comes_before by_key all h.ordered one h.are_latest (sym (counts_is all entries h one) ∙ won);
       entries_are =
           ap (λ (es : List E). with_one key_in cmp es (entry one)) h.entries_are
           ∙ sym (map-put cmp key_of is_its is_later keyed comes_before by_key entry key_in its_key h.ordered one);
+      all_good =
+          all_joined good (below key_of cmp (key_of one) h.ordered) (one ∷ above key_of cmp (key_of one) h.ordered)
+          (all_filtered good (λ x. is_lt (cmp (key_of x) (key_of one))) h.ordered h.all_good)
+          (its_good, all_filtered good (λ x. is_gt (cmp (key_of x) (key_of one))) h.ordered h.all_good);
     }
 
     -- one more that doesn't count changes nothing
@@ -132,6 +145,7 @@ module _ {A Q E : Type 0} (cmp : Q → Q → Ordering) (key_of : A → Q) (is_it
       ordered = h.ordered;
       are_latest = latest_same cmp key_of is_its is_later keyed comes_before by_key all h.ordered one h.are_latest (sym (counts_is all entries h one) ∙ lost);
       entries_are = h.entries_are;
+      all_good = h.all_good;
     }
 
   length-map : (xs : List A) → length (map entry xs) ≡ length xs
@@ -158,6 +172,7 @@ module _ {A Q E : Type 0} (cmp : Q → Q → Ordering) (key_of : A → Q) (is_it
     ordered = filter p h.ordered;
     are_latest = latest_filter cmp key_of is_its is_later keyed comes_before by_key p passes same all h.ordered h.are_latest;
     entries_are = refl;
+    all_good = all_filtered good p h.ordered h.all_good;
   }
 
   -- what holds of all holds of what is kept
@@ -221,11 +236,11 @@ module _ {A Q E : Type 0} (cmp : Q → Q → Ordering) (key_of : A → Q) (is_it
 
     module _ (later_than : E → A → Bool) (later_is : (old one : A) → later_than (entry old) one ≡ is_later old one) where
       pub after_won : (so_far : List (Result A Fault)) (one : A) (entries : List E) → has_room is_same counts limit (now_admitted is_same counts limit before so_far) one ≡ true
-          → counts_over later_than later_is (at_key key_in cmp entries (key_of one)) one ≡ true → KeepsAfter so_far entries
+          → counts_over later_than later_is (at_key key_in cmp entries (key_of one)) one ≡ true → good one → KeepsAfter so_far entries
           → KeepsAfter (so_far ++ Ok one ∷ []) (with_one key_in cmp entries (entry one))
-      after_won so_far one entries room won h =
+      after_won so_far one entries room won its_good h =
           one_more so_far one (with_one key_in cmp entries (entry one)) room
-          (keeps_put later_than later_is (filter counts before ++ taken (roomy is_same counts limit before so_far)) entries one h won)
+          (keeps_put later_than later_is (filter counts before ++ taken (roomy is_same counts limit before so_far)) entries one h won its_good)
 
       pub after_lost : (so_far : List (Result A Fault)) (one : A) (entries : List E) → has_room is_same counts limit (now_admitted is_same counts limit before so_far) one ≡ true
           → counts_over later_than later_is (at_key key_in cmp entries (key_of one)) one ≡ false → KeepsAfter so_far entries

@@ -143,19 +143,19 @@ module _ {A Q : Type 0} (cmp : Q → Q → Ordering) (key_of : A → Q) (is_its 
       let e : Less ≡ Greater = sym (less a b before) ∙ keyed.total.antisymm (key_of a) (key_of b) ∙ ap ordering_reverse (less b a behind) in
       absurd cc
 
-  one_keyed : (xs ys : List A) → are_ordered_by comes_before xs ≡ true → are_ordered_by comes_before ys ≡ true
+  pub one_keyed : (xs ys : List A) → are_ordered_by comes_before xs ≡ true → are_ordered_by comes_before ys ≡ true
       → ((q : Q) → find (is_its q) xs ≡ find (is_its q) ys) → xs ≡ ys
   one_keyed xs ys h k same = one_order is_its key_of comes_before own other turned xs ys h k same
 
 -- ---- one feed
 
-before_less : (a b : Recorded) → comes_before a b ≡ true → key_cmp (key_of a) (key_of b) ≡ Less
+pub before_less : (a b : Recorded) → comes_before a b ≡ true → key_cmp (key_of a) (key_of b) ≡ Less
 before_less a b h = of_keys (a.day, a.trip) (b.day, b.trip) h
   where
     of_keys : (a b : ℤ × ℕ) → (int_lt a.0 b.0 || (int_eq a.0 b.0 && nat_lt a.1 b.1)) ≡ true → key_cmp a b ≡ Less
     of_keys a b h = grind (arith, ints)
 
-number_less : (a b : Situation) → has_lesser_number a b ≡ true → slice_cmp nat_cmp a.number b.number ≡ Less
+pub number_less : (a b : Situation) → has_lesser_number a b ≡ true → slice_cmp nat_cmp a.number b.number ≡ Less
 number_less a b h = by (slice_cmp nat_cmp a.number b.number) h
   where
     by : (o : Ordering) → is_lt o ≡ true → o ≡ Less

@@ -106,7 +106,7 @@ filter_has {X} p (x ∷ xs) = by (p x) refl (filter_has p xs)
     )
     by false e rest = ((λ passes. absurd (both_ways (p x) e passes)), rest)
 
-filter_of : {X : Type 0} (P : X → Type 0) (p : X → Bool) (xs : List X) → AllByRecursion P xs → AllByRecursion (λ x. P x × (p x ≡ true)) (filter p xs)
+pub filter_of : {X : Type 0} (P : X → Type 0) (p : X → Bool) (xs : List X) → AllByRecursion P xs → AllByRecursion (λ x. P x × (p x ≡ true)) (filter p xs)
 filter_of P p [] h = tt
 filter_of {X} P p (x ∷ xs) h = by (p x) refl (filter_of P p xs h.1)
   where
@@ -222,7 +222,7 @@ module _ {A Q : Type 0} (cmp : Q → Q → Ordering) (key_of : A → Q) (is_its 
       by true h rest f = omega arith
       by false h rest f = let lt : length (filter (λ x. not (t x)) xs) < length xs = rest f in omega arith
 
-  at_most : (xs ys : List A) → Distinct xs → ((q : Q) → list_any (is_its q) xs ≡ true → list_any (is_its q) ys ≡ true) → length xs ≤ length ys
+  pub at_most : (xs ys : List A) → Distinct xs → ((q : Q) → list_any (is_its q) xs ≡ true → list_any (is_its q) ys ≡ true) → length xs ≤ length ys
   at_most [] ys h among = omega arith
   at_most (x ∷ xs) ys h among =
       let less : length (filter (λ y. not (is_its (key_of x) y)) ys) < length ys =

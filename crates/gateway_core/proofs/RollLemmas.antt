@@ -224,7 +224,7 @@ module _ {E : Type 0} (entry : Recorded → E) (gone : E → Bool) (first : ℤ)
 
 -- ---- the entity of a record is the same over both windows
 
-start_there : (setting : Setting) (moments : List ℤ) (one : Recorded) → is_within (window_at setting moments) one ≡ true
+pub start_there : (setting : Setting) (moments : List ℤ) (one : Recorded) → is_within (window_at setting moments) one ≡ true
     → start_in (window_at setting moments) one.day ≡ Some (start setting.zone one.day)
 start_there setting moments one within =
     (window_from-is setting.zone (first_day setting moments) (length setting.window.starts)).starts_are one.day

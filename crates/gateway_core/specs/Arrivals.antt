@@ -74,6 +74,13 @@ schedule_at setting moments = record { table = seen setting.table; zone = settin
 
 -- ---- what is admitted: at most so many keys
 
+-- the most journeys with days in the window, and the most numbers of situations
+abbrev pub most_journeys : ℕ
+most_journeys = 50000
+
+abbrev pub most_numbers : ℕ
+most_numbers = 5000
+
 -- one that arrives has room where one of its key was admitted before, or where fewer keys than the limit have one that counts
 module _ {A : Type 0} (is_same : A → A → Bool) where
   -- of each key the first
@@ -106,20 +113,20 @@ always one = true
 -- a record has room where fewer than 50,000 journeys that were admitted have days in the window, and a situation where
 -- fewer than 5,000 numbers were admitted
 abbrev pub journey_has_room : DayStarts → List Recorded → Recorded → Bool
-journey_has_room window before one = has_room is_same_journey (is_within window) 50000 before one
+journey_has_room window before one = has_room is_same_journey (is_within window) most_journeys before one
 
 abbrev pub situation_has_room : List Situation → Situation → Bool
-situation_has_room before one = has_room is_same_number always 5000 before one
+situation_has_room before one = has_room is_same_number always most_numbers before one
 
 abbrev pub admitted : Setting → List Arrival → List Recorded
 admitted setting [] = []
 admitted setting (one ∷ earlier) =
-    admit is_same_journey (is_within (window_at setting (one.moment ∷ moments_of earlier))) 50000
+    admit is_same_journey (is_within (window_at setting (one.moment ∷ moments_of earlier))) most_journeys
     (admitted setting earlier) (records_of one.gives)
 
 abbrev pub admitted_situations : List Arrival → List Situation
 admitted_situations [] = []
-admitted_situations (one ∷ earlier) = admit is_same_number always 5000 (admitted_situations earlier) (situations_of one.gives)
+admitted_situations (one ∷ earlier) = admit is_same_number always most_numbers (admitted_situations earlier) (situations_of one.gives)
 
 -- of the records that were admitted those with days in the window
 abbrev pub present : Setting → List Arrival → List Recorded

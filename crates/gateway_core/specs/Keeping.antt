@@ -1,5 +1,6 @@
 -- Of each key the latest, in the order of the keys, and lists of elements with keys.
 use Rattle.std.specs.Prelude.{◌≡◌, Bool, true, List, ◌∷◌, ◌++◌, filter, find, fold, map, Option}
+use Rattle.std.specs.List.{AllByRecursion}
 use Rattle.std.specs.Ordering.{is_eq, is_gt, is_lt}
 use Rattle.std.specs.declared.cmp.Ordering.{Ordering}
 use Rattle.latest_store.specs.Latest.{HasLatestOf}
@@ -10,11 +11,13 @@ pub record AreLatest {A Q : Type 0} (is_its : Q → A → Bool) (is_later comes_
   pub in_order : are_ordered_by comes_before ordered ≡ true
   pub latest : (key : Q) → HasLatestOf (is_its key) is_later all (find (is_its key) ordered)
 
--- entries are those of the latest of each key
-pub record Keeps {A Q E : Type 0} (is_its : Q → A → Bool) (is_later comes_before : A → A → Bool) (entry : A → E) (all : List A) (entries : List E) : Type 0 where
+-- entries are those of the latest of each key, each of which is good
+pub record Keeps {A Q E : Type 0} (is_its : Q → A → Bool) (is_later comes_before : A → A → Bool) (entry : A → E)
+    (good : A → Type 0) (all : List A) (entries : List E) : Type 0 where
   pub ordered : List A
   pub are_latest : AreLatest is_its is_later comes_before all ordered
   pub entries_are : entries ≡ map entry ordered
+  pub all_good : AllByRecursion good ordered
 
 module _ {K X : Type 0} (key_of : X → K) (cmp : K → K → Ordering) where
   -- the elements of lesser keys, and those of greater ones

@@ -2,11 +2,14 @@ pub mod Alerts
 pub mod Arrivals
 pub mod Deliveries
 pub mod Feeds
+pub mod FeedTexts
 pub mod Gives
+pub mod JourneySteps
 pub mod Keeping
 pub mod Recording
 pub mod Reports
 pub mod Settings
+pub mod SituationSteps
 pub mod Standing
 pub mod Steps
 pub mod Taking

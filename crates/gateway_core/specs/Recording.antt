@@ -4,7 +4,7 @@ use Rattle.std.specs.List.{Contains}
 use Rattle.std.specs.List.Sorted.{IsPermutation}
 use Rattle.journey_model.specs.Records.{Recorded}
 use Rattle.journey_model.specs.declared.situation.Situation.{Situation}
-use Rattle.gateway_core.specs.Arrivals.{Arrival, admitted_situations, firsts, is_same_journey, is_same_number, moments_of, present, records_of, schedule_at, situations_of, window_at}
+use Rattle.gateway_core.specs.Arrivals.{Arrival, admitted_situations, firsts, is_same_journey, is_same_number, moments_of, most_journeys, most_numbers, present, records_of, schedule_at, situations_of, window_at}
 use Rattle.gateway_core.specs.Feeds.{IsRebuilt}
 use Rattle.gateway_core.specs.declared.setting.Setting.{Setting}
 
@@ -22,8 +22,8 @@ every_situation (one ∷ earlier) = every_situation earlier ++ situations_of one
 pub record AreDecided (arrivals : List Arrival) : Type 0 where
   pub by_moment : (a b : Recorded) → Contains (every_record arrivals) a → Contains (every_record arrivals) b → is_same_journey a b ≡ true → a.at ≡ b.at → a ≡ b
   pub by_version : (a b : Situation) → Contains (every_situation arrivals) a → Contains (every_situation arrivals) b → is_same_number a b ≡ true → a.version ≡ b.version → a ≡ b
-  pub few_journeys : length (firsts is_same_journey (every_record arrivals)) ≤ 50000
-  pub few_numbers : length (firsts is_same_number (every_situation arrivals)) ≤ 5000
+  pub few_journeys : length (firsts is_same_journey (every_record arrivals)) ≤ most_journeys
+  pub few_numbers : length (firsts is_same_number (every_situation arrivals)) ≤ most_numbers
 
 -- the same records and situations arrived as often, in any two orders, and the windows are equal now
 pub record ArriveAlike (setting : Setting) (arrivals others : List Arrival) : Type 0 where

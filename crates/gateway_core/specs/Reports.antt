@@ -1,6 +1,6 @@
--- The report on a delivery, and on a feed.
-use Rattle.std.specs.Prelude.{◌+◌, ℕ, List, [], ◌∷◌, ◌++◌, codes, length, decimal, Option, Some, None, is_none}
-use Rattle.std.specs.List.{count_by, flat_map}
+-- The report on what a file brought.
+use Rattle.std.specs.Prelude.{◌+◌, ℕ, List, [], ◌∷◌, ◌++◌, codes, length, decimal, Option, Some, None}
+use Rattle.std.specs.List.{flat_map}
 use Rattle.journey_model.specs.FaultTexts.{fault_text}
 use Rattle.journey_model.specs.declared.fault.Fault.{Fault}
 use Rattle.journey_model.specs.declared.report.Report.{Report}
@@ -20,11 +20,6 @@ abbrev pub count_line : List ℕ → ℕ → ℕ → ℕ → List ℕ
 count_line file taken passed aside =
     file ++ codes " taken " ++ decimal taken ++ codes " passed " ++ decimal passed ++ codes " aside " ++ decimal aside ++ codes "\n"
 
--- the report on items, by the faults of those that have one: a line for each that is set aside, and the line of counts
-abbrev pub report_text : List ℕ → List (Option Fault) → ℕ → List ℕ
-report_text file faults passed =
-    flat_map (aside_line file) (aside_from 0 faults) ++ count_line file (count_by is_none faults) passed (length (aside_from 0 faults))
-
--- the report on a feed's entities
+-- the report on the items of a file: a line for each that is set aside, and the line of counts
 abbrev pub feed_report : List ℕ → Report → List ℕ
 feed_report file report = flat_map (aside_line file) report.aside ++ count_line file report.taken report.passed (length report.aside)

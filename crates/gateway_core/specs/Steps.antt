@@ -8,7 +8,7 @@ use Rattle.journey_model.specs.declared.fault.Fault.{Fault}
 use Rattle.journey_model.specs.declared.situation.Situation.{Situation}
 use Rattle.stop_schedule.specs.Table.{Table}
 use Rattle.latest_store.specs.Latest.{is_later}
-use Rattle.gateway_core.specs.Arrivals.{always, is_within}
+use Rattle.gateway_core.specs.Arrivals.{always, is_within, most_journeys, most_numbers}
 use Rattle.gateway_core.specs.Deliveries.{taken}
 use Rattle.gateway_core.specs.Keeping.{at_key, with_one}
 use Rattle.gateway_core.specs.Standing.{JourneyEntry, KeepsJourneys, KeepsSituations, SituationEntry}
@@ -34,10 +34,10 @@ situation_kept entries one = at_key (λ entry. entry.key) (slice_cmp nat_cmp) en
 
 -- one has room: something is kept under its key, or fewer are kept than the limit
 abbrev pub journey_fits : List JourneyEntry → Recorded → Bool
-journey_fits entries one = is_some (journey_kept entries one) || nat_lt (length entries) 50000
+journey_fits entries one = is_some (journey_kept entries one) || nat_lt (length entries) most_journeys
 
 abbrev pub situation_fits : List SituationEntry → Situation → Bool
-situation_fits entries one = is_some (situation_kept entries one) || nat_lt (length entries) 5000
+situation_fits entries one = is_some (situation_kept entries one) || nat_lt (length entries) most_numbers
 
 -- one counts where what is kept isn't later
 abbrev pub journey_counts : Option JourneyEntry → Recorded → Bool

@@ -1,6 +1,6 @@
 -- What a gateway answers to a body that is taken or refused, and what it stands for then (SIRI 2.0, ServiceDelivery; GTFS
 -- Realtime, FeedMessage).
-use Rattle.std.specs.Prelude.{◌≡◌, ℕ, ℤ, Bool, false, nat_le, List, [], ◌∷◌, ◌++◌, codes, decimal, map, Some, Result, Ok, Err, is_none, if◌then◌else◌}
+use Rattle.std.specs.Prelude.{◌≡◌, ℕ, ℤ, Bool, false, true, nat_le, List, [], ◌∷◌, ◌++◌, codes, decimal, map, Some, None, Result, Ok, Err, is_none, if◌then◌else◌, ⊤}
 use Rattle.std.specs.List.{count_by}
 use Rattle.std.specs.Result.{result_err}
 use Rattle.gw_base.specs.declared.messages.Feed.{Feed}
@@ -18,16 +18,22 @@ use Rattle.siri_calls.specs.Verdicts.{tree_of}
 use Rattle.siri_situations.specs.Deliveries as situation_items
 use Rattle.siri_situations.specs.Situations as situation_verdicts
 use Rattle.stop_schedule.specs.Seen.{seen}
-use Rattle.reverse_calls.specs.Siri.{IsSiri}
-use Rattle.gateway_core.specs.Alerts.{alert_len}
+use Rattle.reverse_calls.specs.Siri.{HasTooMany, IsSiri}
+use Rattle.gateway_core.specs.Alerts.{alert_len, alert_limit}
 use Rattle.stop_schedule.specs.Table.{Table}
 use Rattle.service_day.specs.Windows.{DayStarts}
 use Rattle.feed_messages.specs.declared.fault.FeedFault.{FeedFault}
 use Rattle.siri_calls.specs.Deliveries.{without_count}
 use Rattle.siri_calls.specs.Verdicts.{passed_count}
 use Rattle.reverse_calls.specs.Siri.{is_differential}
-use Rattle.gateway_core.specs.Arrivals.{Arrival, admitted, admitted_situations, always, feed, has_room, is_same_journey, is_same_number, is_within, journeys, moments_of, schedule_at, situations, window_at}
+use Rattle.gateway_core.specs.Arrivals.{Arrival, Given, admitted, admitted_situations, always, feed, has_room, is_same_journey, is_same_number, is_within, journeys, moments_of, most_journeys, most_numbers, schedule_at, situations, window_at}
 use Rattle.gateway_core.specs.Deliveries.{taken}
+use Rattle.gateway_core.specs.declared.accepted.Accepted.{Accepted}
+use Rattle.gateway_core.specs.declared.accepted.FeedRefusal.{FeedRefusal}
+use Rattle.gateway_core.specs.declared.accepted.FeedRefusal.TheVariants.{Differential, TooManyCalls}
+use Rattle.gateway_core.specs.declared.setting.Setting.{Setting}
+use Rattle.siri_calls.specs.declared.delivery.DeliveryFault.{DeliveryFault}
+use Rattle.siri_calls.specs.declared.delivery.DeliveryFault.TheVariants.{NotJson, NotDelivery, Memory}
 use Rattle.gateway_core.specs.Reports.{aside_from}
 use Rattle.gateway_core.specs.Standing.{Kept, Stands}
 
@@ -70,48 +76,80 @@ with_room is_same counts limit before (Ok one ∷ others) =
 
 -- the records of a delivery's verdicts, and those that have room after some arrivals
 abbrev pub journeys_with_room : DayStarts → List Recorded → List (Result Recorded Fault) → List (Result Recorded Fault)
-journeys_with_room window before verdicts = with_room is_same_journey (is_within window) 50000 before verdicts
+journeys_with_room window before verdicts = with_room is_same_journey (is_within window) most_journeys before verdicts
 
 abbrev pub situations_with_room : List Situation → List (Result Situation Fault) → List (Result Situation Fault)
-situations_with_room before verdicts = with_room is_same_number always 5000 before verdicts
+situations_with_room before verdicts = with_room is_same_number always most_numbers before verdicts
 
 -- the verdicts on situations, of which one is set aside that has too long an alert
 abbrev pub limited_verdict : Table → Result Situation Fault → Result Situation Fault
-limited_verdict table (Ok one) = if nat_le (alert_len table one) 65536 then Ok one else Err (EntityTooLong (alert_len table one))
+limited_verdict table (Ok one) = if nat_le (alert_len table one) alert_limit then Ok one else Err (EntityTooLong (alert_len table one))
 limited_verdict table (Err fault) = Err fault
 
 abbrev pub limited_verdicts : Table → List (Result (Situation × ℕ) Fault) → List (Result Situation Fault)
 limited_verdicts table all = map (limited_verdict table) (map situation_items.without_count all)
 
--- ---- what is answered
+-- ---- what is taken
 
--- a gateway that kept this took a delivery of journeys that arrived at a moment: each item is judged over the window of that
--- moment, and those without room are set aside; now it stands for what it stood for followed by the delivery's records
-pub record TakesJourneys (kept : Kept) (arrivals : List Arrival) (moment : ℤ) (body : List ℕ) (report : Report) (now : Kept) : Type 0 where
+-- a delivery of journeys arrives at a moment behind these arrivals: each item is judged over the window of that moment, and one
+-- without room is set aside; it gives these records, and this is the report
+pub record TakesJourneys (setting : Setting) (arrivals : List Arrival) (moment : ℤ) (body : List ℕ) (report : Report) (records : List Recorded) : Type 0 where
   pub root : Data
   pub is_tree : tree_of body ≡ Some root
   pub all : List (Result (Recorded × ℕ) Fault)
-  pub judged : journey_items.verdicts (schedule_at kept.setting (moment ∷ moments_of arrivals)) root ≡ Ok all
-  pub report_is : report ≡ report_on (journeys_with_room (window_at kept.setting (moment ∷ moments_of arrivals)) (admitted kept.setting arrivals) (map without_count all)) (passed_count all)
-  pub setting_is : now.setting ≡ kept.setting
-  pub stands : Stands now (record { moment = moment; gives = journeys (taken (map without_count all)) } ∷ arrivals)
+  pub judged : journey_items.verdicts (schedule_at setting (moment ∷ moments_of arrivals)) root ≡ Ok all
+  pub records_are : records ≡ taken (map without_count all)
+  pub report_is : report ≡ report_on (journeys_with_room (window_at setting (moment ∷ moments_of arrivals)) (admitted setting arrivals) (map without_count all)) (passed_count all)
 
 -- the same of a delivery of situations, of which those with too long an alert are set aside first
-pub record TakesSituations (kept : Kept) (arrivals : List Arrival) (moment : ℤ) (body : List ℕ) (report : Report) (now : Kept) : Type 0 where
+pub record TakesSituations (setting : Setting) (arrivals : List Arrival) (moment : ℤ) (body : List ℕ) (report : Report) (given : List Situation) : Type 0 where
   pub root : Data
   pub is_tree : tree_of body ≡ Some root
   pub all : List (Result (Situation × ℕ) Fault)
-  pub judged : situation_verdicts.verdicts (schedule_at kept.setting (moment ∷ moments_of arrivals)) root ≡ Ok all
-  pub report_is : report ≡ report_on (situations_with_room (admitted_situations arrivals) (limited_verdicts (seen kept.setting.table) all)) (situation_items.passed_count all)
-  pub setting_is : now.setting ≡ kept.setting
-  pub stands : Stands now (record { moment = moment; gives = situations (taken (limited_verdicts (seen kept.setting.table) all)) } ∷ arrivals)
+  pub judged : situation_verdicts.verdicts (schedule_at setting (moment ∷ moments_of arrivals)) root ≡ Ok all
+  pub given_are : given ≡ taken (limited_verdicts (seen setting.table) all)
+  pub report_is : report ≡ report_on (situations_with_room (admitted_situations arrivals) (limited_verdicts (seen setting.table) all)) (situation_items.passed_count all)
 
 -- the same of a feed, which is a full dataset without a fault
-pub record TakesFeed (kept : Kept) (arrivals : List Arrival) (moment : ℤ) (body : List ℕ) (report : Report) (now : Kept) : Type 0 where
-  pub given : Feed
+pub record TakesFeed (setting : Setting) (arrivals : List Arrival) (moment : ℤ) (body : List ℕ) (report : Report) (given : Feed) : Type 0 where
   pub means : MeansFeed body given
   pub faultless : (fault : FeedFault) → ¬ HasFault body fault
   pub full : is_differential given ≡ false
-  pub siri : IsSiri (schedule_at kept.setting (moment ∷ moments_of arrivals)) given moment now.text report
+  pub text : List ℕ
+  pub siri : IsSiri (schedule_at setting (moment ∷ moments_of arrivals)) given moment text report
+
+-- ---- what is answered
+
+-- a gateway has the setting that it had, and stands for one arrival more
+pub record Follows (kept : Kept) (arrivals : List Arrival) (moment : ℤ) (gives : Given) (now : Kept) : Type 0 where
   pub setting_is : now.setting ≡ kept.setting
-  pub stands : Stands now (record { moment = moment; gives = feed given } ∷ arrivals)
+  pub stands : Stands now (record { moment = moment; gives = gives } ∷ arrivals)
+
+-- what a gateway answers to a delivery of journeys, and what it stands for then; want of memory is free
+abbrev pub JourneysAnswer : Kept → List Arrival → ℤ → List ℕ → Result Accepted DeliveryFault → Kept → Type 0
+JourneysAnswer kept arrivals moment body (Ok accepted) now =
+    (records : List Recorded) × TakesJourneys kept.setting arrivals moment body accepted.report records × Follows kept arrivals moment (journeys records) now
+JourneysAnswer kept arrivals moment body (Err NotJson) now = tree_of body ≡ None
+JourneysAnswer kept arrivals moment body (Err (NotDelivery member)) now =
+    (root : Data) × (tree_of body ≡ Some root) × (journey_items.verdicts (schedule_at kept.setting (moment ∷ moments_of arrivals)) root ≡ Err member)
+JourneysAnswer kept arrivals moment body (Err Memory) now = ⊤
+
+abbrev pub SituationsAnswer : Kept → List Arrival → ℤ → List ℕ → Result Accepted DeliveryFault → Kept → Type 0
+SituationsAnswer kept arrivals moment body (Ok accepted) now =
+    (given : List Situation) × TakesSituations kept.setting arrivals moment body accepted.report given × Follows kept arrivals moment (situations given) now
+SituationsAnswer kept arrivals moment body (Err NotJson) now = tree_of body ≡ None
+SituationsAnswer kept arrivals moment body (Err (NotDelivery member)) now =
+    (root : Data) × (tree_of body ≡ Some root) × (situation_verdicts.verdicts (schedule_at kept.setting (moment ∷ moments_of arrivals)) root ≡ Err member)
+SituationsAnswer kept arrivals moment body (Err Memory) now = ⊤
+
+-- what it answers to a feed: first the fault of its bytes, then that it is differential, then that it has too many calls
+abbrev pub FeedAnswer : Kept → List Arrival → ℤ → List ℕ → Result Accepted FeedRefusal → Kept → Type 0
+FeedAnswer kept arrivals moment body (Ok accepted) now =
+    (given : Feed) × TakesFeed kept.setting arrivals moment body accepted.report given × Follows kept arrivals moment (feed given) now
+FeedAnswer kept arrivals moment body (Err (FeedRefusal.Feed fault)) now = HasFault body fault
+FeedAnswer kept arrivals moment body (Err Differential) now =
+    (given : Feed) × MeansFeed body given × ((fault : FeedFault) → ¬ HasFault body fault) × (is_differential given ≡ true)
+FeedAnswer kept arrivals moment body (Err (TooManyCalls calls)) now =
+    (given : Feed) × MeansFeed body given × ((fault : FeedFault) → ¬ HasFault body fault) × (is_differential given ≡ false)
+    × HasTooMany (schedule_at kept.setting (moment ∷ moments_of arrivals)) given calls
+FeedAnswer kept arrivals moment body (Err FeedRefusal.Memory) now = ⊤

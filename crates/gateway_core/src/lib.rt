@@ -1,23 +1,36 @@
-//! What deliveries make together: of all records taken the latest of each journey, and of all situations the newest of each
-//! number, the feed that is rebuilt from them, and the reports on what was taken and set aside.
+//! The gateway's state: of all deliveries and feeds that were taken what is needed to serve, while the window of service days rolls;
+//! the feed and the SIRI text that it serves, and the reports on what was taken and set aside.
 #![tactic(auto)]
 
-mod alerts;
+mod accepted;
 mod arrival_laws;
-mod latest;
+#[cfg(test)]
+mod arrival_tests;
+mod estimated;
+#[cfg(test)]
+mod estimated_tests;
+mod feed_law;
+mod gateway;
+mod journeys;
+mod keys;
 mod laws;
-mod named;
-mod newest;
-mod rebuilding;
+mod report_text;
 mod reporting;
+mod rolling;
+mod serving;
 mod setting;
+mod situations;
+mod state_laws;
+mod taking;
 #[cfg(test)]
 mod tests;
 
-pub use alerts::limited_delivery;
+pub use accepted::{Accepted, FeedRefusal, TakeFault};
 pub use arrival_laws::recording_decides;
+pub use feed_law::serves_what_arrived;
+pub use gateway::Gateway;
+pub use keys::{Edition, JourneyKey};
 pub use laws::the_rebuilt_feed_is_one;
-pub use named::{Delivered, Named};
-pub use rebuilding::rebuilt;
-pub use reporting::{feed_report, reports};
+pub use reporting::feed_report;
 pub use setting::Setting;
+pub use state_laws::what_is_served_is_one;

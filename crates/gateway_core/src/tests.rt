@@ -1,14 +1,10 @@
-//! A delivery of journeys and one of situations over a small folder: their feed and their reports.
-ghost use Rattle.std.specs.Prelude.{IfSome};
-ghost use Rattle.gateway_core.specs.Deliveries.{CanServe};
-ghost use Rattle.journey_model.specs.Schedules.{schedule_of};
+//! A delivery of journeys and one of situations over a small folder: the feed of both.
+mod serving;
 
-use crate::{Delivered, Named, Setting, feed_report, limited_delivery, rebuilt, reports};
-use gw_base::{Bytes, List, MemoryFiles, Moment, Text};
-use journey_model::{Context, Report};
+use crate::{Gateway, Setting, feed_report};
+use gw_base::{Bytes, List, MemoryFiles, MemorySink, Moment, Text};
+use journey_model::Report;
 use service_day::{DayForm, Window, Zone, read_day};
-use siri_calls::read_delivery;
-use siri_situations::read_situations;
 use std::alloc::{AllocError, Global};
 use stop_schedule::{Timetable, read_timetable};
 
@@ -36,8 +32,6 @@ const SITUATIONS: &[u8] =
 // The header, the entity of T1, and the alert of S2 (made by hand from GTFS Realtime's messages).
 const FEED: &[u8] =
     b"\x0a\x0d\x0a\x032.0\x10\x00\x18\xe0\xb4\xc7\xb1\x06\x12\x27\x0a\x0b20240501:T1\x1a\x18\x0a\x10\x0a\x02T1\x1a\x0820240501\x20\x03\x20\xe0\xb4\xc7\xb1\x06\x12\x16\x0a\x08alert:S2*\x0a*\x04\x12\x02R10\x018\x08";
-
-const REPORT: &[u8] = b"f taken 1 passed 0 aside 0\nf taken 1 passed 0 aside 0\n";
 
 // The timetable of the folder.
 fn table(alloc: Global) -> Result<Timetable, AllocError> {
@@ -70,67 +64,23 @@ fn setting(table: Timetable) -> Option<Setting> {
     }
 }
 
-// What the journeys deliver.
-fn journeys(alloc: Global, context: &Context<'_>) -> Option<Delivered>
-    ensures { IfSome result (CanServe (schedule_of context.now)) }
-{
-    match read_delivery(alloc, JOURNEYS, context) {
-        Ok(delivery) => Some(Delivered::Journeys(delivery)),
-        Err(_) => None,
-    }
-}
-
-// What the situations deliver.
-fn situations(alloc: Global, context: &Context<'_>) -> Option<Delivered>
-    ensures { IfSome result (CanServe (schedule_of context.now)) }
-{
-    let delivery = read_situations(alloc, SITUATIONS, context).ok()?;
-    match limited_delivery(alloc, context.table, delivery) {
-        Ok(delivery) => Some(Delivered::Situations(delivery)),
-        Err(_) => None,
-    }
-}
-
-// The feed and the reports of both.
-fn made(alloc: Global, setting: &Setting) -> Option<(Bytes, Bytes)> {
-    let context = setting.context();
-    let first = journeys(alloc, &context)?;
-    let second = situations(alloc, &context)?;
-    made_of(alloc, &context, first, second).ok()
-}
-
-// The feed and the reports of two deliveries.
-fn made_of(
-    alloc: Global,
-    context: &Context<'_>,
-    first: Delivered,
-    second: Delivered,
-) -> Result<(Bytes, Bytes), AllocError>
-    requires first { CanServe (schedule_of context.now) first }
-    requires second { CanServe (schedule_of context.now) second }
-{
-    let deliveries = [
-        Named {
-            name: Text::copied(alloc, "f")?,
-            delivered: first,
-        },
-        Named {
-            name: Text::copied(alloc, "f")?,
-            delivered: second,
-        },
-    ];
-    let at = Moment::new(1_714_543_200).unwrap();
-    let feed = rebuilt(alloc, at, context, &deliveries)?;
-    Ok((feed, reports(alloc, &deliveries)?))
+// The feed of a gateway that took both deliveries.
+fn feed_of_both(alloc: Global, setting: Setting) -> Option<MemorySink> {
+    let at = Moment::new(1_714_543_200)?;
+    let mut gate = Gateway::start(alloc, setting).ok()?;
+    let _journeys = gate.take_estimated(alloc, JOURNEYS, at).ok()?;
+    let _situations = gate.take_situations(alloc, SITUATIONS, at).ok()?;
+    let mut sink = MemorySink::make(alloc, 1_000, List::new(alloc)).ok()?;
+    gate.write_feed(at, &mut sink).ok()?;
+    Some(sink)
 }
 
 #[test]
-fn deliveries_make_a_feed_and_reports(rt: HostRuntime) {
+fn deliveries_make_a_feed(rt: HostRuntime) {
     let alloc = rt.alloc();
     let setting = setting(table(alloc).expect(&rt, "a timetable")).expect(&rt, "a setting");
-    let (feed, report) = made(alloc, &setting).expect(&rt, "a feed");
-    assert_eq!(rt; feed.as_slice(), FEED);
-    assert_eq!(rt; report.as_slice(), REPORT);
+    let feed = feed_of_both(alloc, setting).expect(&rt, "a feed");
+    assert_eq!(rt; feed.written(), FEED);
 }
 
 #[test]

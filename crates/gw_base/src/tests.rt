@@ -1,6 +1,8 @@
 //! Each public call once on its happy path, and the objects in memory with uses that fail.
 ghost use Rattle.std.specs.Prelude.{None};
 
+mod doors;
+
 use super::*;
 use std::alloc::Global;
 use std::process::Abort;

@@ -13,11 +13,14 @@ Rise from (one ∷ others) = (from ≤ one.0) × Rise (one.0 + 1) others
 -- the last of the updates that supply a stop
 abbrev pub last_supplier : ℕ → List (ℕ × StopUpdate) → Option (ℕ × StopUpdate)
 last_supplier place [] = None
-last_supplier place (one ∷ others) = option_or (last_supplier place others) (if supplies place one then Some one else None)
+last_supplier place (one ∷ others) =
+    option_or (last_supplier place others) (if supplies place one then Some one else None)
 
-stands_from : (place from : ℕ) (placed : List (ℕ × StopUpdate)) → Rise from placed → IfSome (last_supplier place placed) (λ one. from ≤ one.0)
+stands_from : (place from : ℕ) (placed : List (ℕ × StopUpdate)) → Rise from placed
+    → IfSome (last_supplier place placed) (λ one. from ≤ one.0)
 stands_from place from [] rise = tt
-stands_from place from (one ∷ others) rise = by (last_supplier place others) (stands_from place (one.0 + 1) others rise.1) (supplies place one)
+stands_from place from (one ∷ others) rise =
+    by (last_supplier place others) (stands_from place (one.0 + 1) others rise.1) (supplies place one)
   where
     by : (found : Option (ℕ × StopUpdate)) → IfSome found (λ later. one.0 + 1 ≤ later.0) → (own : Bool)
         → IfSome (option_or found (if own then Some one else None)) (λ later. from ≤ later.0)
@@ -25,7 +28,8 @@ stands_from place from (one ∷ others) rise = by (last_supplier place others) (
     by None h true = rise.0
     by None h false = tt
 
-pub supplier-last : (place from : ℕ) (placed : List (ℕ × StopUpdate)) → Rise from placed → supplier place placed ≡ last_supplier place placed
+pub supplier-last : (place from : ℕ) (placed : List (ℕ × StopUpdate)) → Rise from placed
+    → supplier place placed ≡ last_supplier place placed
 supplier-last place from [] rise = refl
 supplier-last place from (one ∷ others) rise =
     ap (greater (if supplies place one then Some one else None)) (supplier-last place (one.0 + 1) others rise.1)

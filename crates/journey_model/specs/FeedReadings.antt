@@ -1,5 +1,5 @@
 -- What a feed says of journeys (GTFS Realtime reference, FeedEntity, TripUpdate, TripDescriptor).
-use Rattle.std.specs.Prelude.{◌&&◌, ◌||◌, ◌==◌, ◌+◌, ℕ, ℤ, pos, ◌-ℤ◌, nat_le, Bool, List, [], ◌∷◌, length, map, position, replicate, Option, Some, None, is_none, option_map, option_and_then, Result, Ok, Err, if◌then◌else◌}
+use Rattle.std.specs.Prelude.{◌&&◌, ◌||◌, ◌==◌, ◌+◌, ℕ, ℤ, pos, ◌-ℤ◌, Bool, List, [], ◌∷◌, length, map, position, replicate, Option, Some, None, is_none, option_map, option_and_then, Result, Ok, Err, if◌then◌else◌}
 use Rattle.std.specs.List.{filter_map}
 use Rattle.std.specs.Option.{option_or}
 use Rattle.std.specs.Ordering.{int_eq}
@@ -9,6 +9,7 @@ use Rattle.gw_base.specs.declared.messages.Feed.{Feed}
 use Rattle.gw_base.specs.declared.messages.TripUpdate.{TripUpdate}
 use Rattle.service_day.specs.DayTexts.{day_of}
 use Rattle.service_day.specs.Starts.{local_day}
+use Rattle.service_day.specs.Utc.{moment_if}
 use Rattle.service_day.specs.declared.days.DayForm.TheVariants.{Compact}
 use Rattle.journey_model.specs.Propagation.{propagated}
 use Rattle.journey_model.specs.Runs.{Run}
@@ -23,7 +24,7 @@ use Rattle.journey_model.specs.declared.readings.StopReading.TheVariants.{Absent
 
 -- a timestamp, where it is a moment
 abbrev pub moment_in : Option ℕ → Option ℤ
-moment_in timestamp = option_and_then (λ secs. if nat_le secs 253370764799 then Some (pos secs) else None) timestamp
+moment_in timestamp = option_and_then (λ secs. moment_if (pos secs)) timestamp
 
 -- when an update was recorded: its own timestamp, else the feed's
 abbrev pub recorded_in : Feed → TripUpdate → Option ℤ
@@ -31,7 +32,8 @@ recorded_in feed update = option_or (moment_in update.timestamp) (moment_in feed
 
 -- the trip that an update names
 abbrev pub trip_named : Schedule → TripUpdate → Option ℕ
-trip_named schedule update = option_and_then (λ id. position (bytes_eq id) schedule.table.trips) (filled_text update.trip.trip_id)
+trip_named schedule update =
+    option_and_then (λ id. position (bytes_eq id) schedule.table.trips) (filled_text update.trip.trip_id)
 
 -- a day on which a trip runs: a local date, else the day before it
 abbrev pub running_day : Schedule → ℕ → ℤ → Option ℤ
@@ -39,14 +41,15 @@ running_day schedule trip day =
     if schedule.table.runs trip day then Some day
     else (if schedule.table.runs trip (day -ℤ pos 1) then Some (day -ℤ pos 1) else None)
 
--- the day of an update: the one that its start_date names; without a start_date the local date of the feed's timestamp, or
--- the day before, on which the trip runs
+-- the day of an update: the one that its start_date names; without a start_date the local date of the feed's
+-- timestamp, or the day before, on which the trip runs
 abbrev pub day_by : Schedule → ℕ → Option ℤ → Option (List ℕ) → Option ℤ
 day_by schedule trip made (Some date) = day_of Compact date
 day_by schedule trip made None = option_and_then (λ secs. running_day schedule trip (local_day schedule.zone secs)) made
 
 abbrev pub day_named : Schedule → Feed → ℕ → TripUpdate → Option ℤ
-day_named schedule feed trip update = day_by schedule trip (moment_in feed.timestamp) (filled_text update.trip.start_date)
+day_named schedule feed trip update =
+    day_by schedule trip (moment_in feed.timestamp) (filled_text update.trip.start_date)
 
 -- CANCELED, or SCHEDULED
 abbrev pub is_cancelled : TripUpdate → Bool
@@ -64,7 +67,8 @@ stops_said run update (Ok at) = Ok (Stops (propagated run at update.updates))
 abbrev pub reading_said : Run → TripUpdate → Result JourneyReading Fault
 reading_said run update =
     if is_cancelled update then Ok Cancelled else
-    (if is_scheduled update then stops_said run update (places run update.updates) else Err (OtherRelation update.trip.relation))
+    (if is_scheduled update then stops_said run update (places run update.updates)
+    else Err (OtherRelation update.trip.relation))
 
 abbrev pub with_reading : ℕ → ℤ → Option ℤ → Result JourneyReading Fault → Result DatedReading Fault
 with_reading trip day recorded (Err fault) = Err fault
@@ -85,7 +89,8 @@ said_of_day schedule feed update trip (Some day) = said_on schedule feed update 
 
 abbrev pub said_of_trip : Schedule → Feed → TripUpdate → Option ℕ → Result DatedReading Fault
 said_of_trip schedule feed update None = Err UnknownJourney
-said_of_trip schedule feed update (Some trip) = said_of_day schedule feed update trip (day_named schedule feed trip update)
+said_of_trip schedule feed update (Some trip) =
+    said_of_day schedule feed update trip (day_named schedule feed trip update)
 
 -- what a trip update says, or the first fault for which it is set aside
 abbrev pub update_said : Schedule → Feed → TripUpdate → Result DatedReading Fault
@@ -96,7 +101,8 @@ update_said schedule feed update =
 
 -- what an entity says: nothing where it is to be deleted or has no trip update, and is then passed
 abbrev pub entity_said : Schedule → Feed → Entity → Option (Result DatedReading Fault)
-entity_said schedule feed entity = if entity.deleted then None else option_map (update_said schedule feed) entity.trip_update
+entity_said schedule feed entity =
+    if entity.deleted then None else option_map (update_said schedule feed) entity.trip_update
 
 -- what the entities of a feed say, in order
 abbrev pub readings : Schedule → Feed → List (Option (Result DatedReading Fault))

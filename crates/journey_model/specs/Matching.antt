@@ -30,14 +30,16 @@ stands_at test place stops = option_map_or test (slice_get stops place) false
 
 -- the stop of that place in the order, counted from 1, is that one and lies from a place on
 abbrev pub fits_order : ℕ → ℕ → ℕ → List StopRow → Bool
-fits_order stop from order stops = nat_le 1 order && (nat_le from (order - 1) && stands_at (is_of_stop stop) (order - 1) stops)
+fits_order stop from order stops =
+    nat_le 1 order && (nat_le from (order - 1) && stands_at (is_of_stop stop) (order - 1) stops)
 
--- the place of a call behind the one before (SIRI 2.0, EstimatedCall: StopPointRef, Order): by its order where the stop of
--- that order is its stop and lies behind, else the first place of its stop behind
+-- the place of a call behind the one before (SIRI 2.0, EstimatedCall: StopPointRef, Order): by its order where the
+-- stop of that order is its stop and lies behind, else the first place of its stop behind
 abbrev pub call_place : List StopRow → Option ℕ → ℕ → Option ℕ → Option ℕ
 call_place stops after stop None = first_place stop (place_behind after) stops
 call_place stops after stop (Some order) =
-    if fits_order stop (place_behind after) order stops then Some (order - 1) else first_place stop (place_behind after) stops
+    if fits_order stop (place_behind after) order stops then Some (order - 1)
+    else first_place stop (place_behind after) stops
 
 -- a place, where it lies from a place on
 abbrev pub in_order : ℕ → ℕ → Result ℕ MatchFault
@@ -52,7 +54,8 @@ agrees (Known stop) row = is_of_stop stop.0 row
 -- the place of an update by its sequence, of which the stop has this place, from a place on
 abbrev pub place_by_sequence : List StopRow → ℕ → NamedStop → Option ℕ → Result ℕ MatchFault
 place_by_sequence stops from named None = Err UnknownStop
-place_by_sequence stops from named (Some place) = if stands_at (agrees named) place stops then in_order from place else Err StopMismatch
+place_by_sequence stops from named (Some place) =
+    if stands_at (agrees named) place stops then in_order from place else Err StopMismatch
 
 -- the place of an update by its stop alone, from a place on
 abbrev pub place_by_stop : List StopRow → ℕ → NamedStop → Result ℕ MatchFault
@@ -61,8 +64,9 @@ place_by_stop stops from Unknown = Err UnknownStop
 place_by_stop stops from (Known stop) =
     if list_any (is_of_stop stop.0) stops then ok_or (first_place stop.0 from stops) OutOfOrder else Err UnknownStop
 
--- the place of an update behind the one before (GTFS Realtime reference, StopTimeUpdate: stop_sequence, stop_id), or why it
--- has none
+-- the place of an update behind the one before (GTFS Realtime reference, StopTimeUpdate: stop_sequence, stop_id), or
+-- why it has none
 abbrev pub update_place : List StopRow → Option ℕ → Option ℕ → NamedStop → Result ℕ MatchFault
 update_place stops after None named = place_by_stop stops (place_behind after) named
-update_place stops after (Some sequence) named = place_by_sequence stops (place_behind after) named (position (has_sequence sequence) stops)
+update_place stops after (Some sequence) named =
+    place_by_sequence stops (place_behind after) named (position (has_sequence sequence) stops)

@@ -4,8 +4,8 @@ use Rattle.std.specs.Option.{option_map_or}
 use Rattle.stop_schedule.specs.Planned.{planned}
 use Rattle.stop_schedule.specs.declared.stop_times.StopRow.{StopRow}
 
--- the ids of the timetable's stops, by which they are numbered; the second at which the service day starts; and the stops of
--- the trip with their planned times
+-- the ids of the timetable's stops, by which they are numbered; the second at which the service day starts; and the
+-- stops of the trip with their planned times
 pub record Run : Type 0 where
   pub ids : List (List ℕ)
   pub start : ℤ

@@ -30,8 +30,8 @@ run_on schedule trip day = option_map (run_from schedule.table trip) (start_in s
 abbrev pub in_window : Schedule → ℤ → Bool
 in_window schedule day = is_some (start_in schedule.window day)
 
--- a reading of a trip on a day can be served: the trip is there and runs on the day, the day is in the window, and there is
--- one reading for each stop, at most a week from the planned times
+-- a reading of a trip on a day can be served: the trip is there and runs on the day, the day is in the window, and
+-- there is one reading for each stop, at most a week from the planned times
 pub record IsServable (schedule : Schedule) (trip : ℕ) (day : ℤ) (reading : JourneyReading) : Type 0 where
   pub trip_in : trip < length schedule.table.trips
   pub runs : schedule.table.runs trip day ≡ true
@@ -39,8 +39,8 @@ pub record IsServable (schedule : Schedule) (trip : ℕ) (day : ℤ) (reading : 
   pub on_day : run_on schedule trip day ≡ Some run
   pub fits : fits_trip run.start run.stops reading ≡ true
 
--- a reading of a trip on a day fits a schedule: the trip is there, the day is in the window, and there is one reading for each
--- stop, at most a week from the planned times
+-- a reading of a trip on a day fits a schedule: the trip is there, the day is in the window, and there is one reading
+-- for each stop, at most a week from the planned times
 pub record FitsSchedule (schedule : Schedule) (trip : ℕ) (day : ℤ) (reading : JourneyReading) : Type 0 where
   pub trip_in : trip < length schedule.table.trips
   pub run : Run

@@ -1,5 +1,5 @@
--- Times of arrival and departure against the planned ones (GTFS Realtime reference, StopTimeEvent; SIRI 2.0, the times of
--- EstimatedCall).
+-- Times of arrival and departure against the planned ones (GTFS Realtime reference, StopTimeEvent; SIRI 2.0, the
+-- times of EstimatedCall).
 use Rattle.std.specs.Prelude.{ℕ, ℤ, pos, negsuc, ◌+ℤ◌, ◌-ℤ◌, Bool, ◌&&◌, int_le, Option, Some, None, if◌then◌else◌}
 use Rattle.std.specs.Option.{option_or}
 use Rattle.journey_model.specs.declared.fault.Fault.{Fault}
@@ -19,8 +19,10 @@ is_delay delay = int_le (negsuc 604799) delay && int_le delay (pos 604800)
 -- the fault of an event whose delay is more, in the call or the update of that number
 abbrev pub event_fault : ℕ → ℤ → Option ℤ → Option Fault
 event_fault number planned None = None
-event_fault number planned (Some time) = if is_delay (time -ℤ planned) then None else Some (DelayRange number (time -ℤ planned))
+event_fault number planned (Some time) =
+    if is_delay (time -ℤ planned) then None else Some (DelayRange number (time -ℤ planned))
 
 -- the first such fault of two events, the arrival before the departure
 abbrev pub delay_fault : ℕ → ℤ × ℤ → Option ℤ → Option ℤ → Option Fault
-delay_fault number planned arrival departure = option_or (event_fault number planned.0 arrival) (event_fault number planned.1 departure)
+delay_fault number planned arrival departure =
+    option_or (event_fault number planned.0 arrival) (event_fault number planned.1 departure)

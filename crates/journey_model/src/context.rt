@@ -1,14 +1,15 @@
 //! What journeys are read over, and a trip on a day. The functions meet `specs/Schedules.antt`.
 ghost use Rattle.std.specs.Prelude.{◌≡◌, ◌<◌, ◌≤◌, length, true, option_map, IfSome};
 ghost use Rattle.service_day.specs.Starts.{IsDayStart};
-ghost use Rattle.service_day.specs.Utc.{IsMoment};
+ghost use Rattle.gw_base.specs.Moments.{IsMoment};
+ghost use Rattle.stop_schedule.specs.Limits.{stop_limit};
 ghost use Rattle.stop_schedule.specs.Stops.{are_rising, are_timed};
 
 use service_day::{Day, Window, Zone};
 use stop_schedule::{StopRow, Timetable, TripNo};
 
-/// What journeys are read over: a timetable, the zone of its times, and a window. That the window is one of the zone is kept by
-/// whoever lends the three.
+/// What journeys are read over: a timetable, the zone of its times, and a window. That the window is one of the zone
+/// is kept by whoever lends the three.
 #[derive(Clone, Copy)]
 pub struct Context<'a> {
     /// What the GTFS Schedule folder says.
@@ -31,7 +32,7 @@ pub struct DatedTrip<'a> {
     /// The trip's stops, in rising sequence.
     pub stops: &'a [StopRow],
     pub ghost rising: { are_rising stops.now ≡ true },
-    pub ghost few: { length stops.now ≤ 250 },
+    pub ghost few: { length stops.now ≤ stop_limit },
     pub ghost start_in: { IsMoment start },
     pub ghost day_start: { IsDayStart start },
     pub ghost timed: { are_timed stops.now ≡ true },

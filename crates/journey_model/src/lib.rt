@@ -1,6 +1,6 @@
 //! What journeys read as: the readings of stops and journeys, how calls and updates are matched to the stops of a
-//! trip, the faults for which an item is set aside, reports, and situations. The definitions of propagation and of what a feed
-//! says stand here, since several layers cite them. Nothing in this crate takes memory.
+//! trip, the faults for which an item is set aside, reports, and situations. The definitions of propagation and of
+//! what a feed says stand here, since several layers cite them. Nothing in this crate takes memory.
 #![tactic(auto)]
 
 mod context;

@@ -26,19 +26,25 @@ given-push (None ∷ said) last = given-push said last
 given-push (Some (Ok one) ∷ said) last = ap (λ rest. one ∷ rest) (given-push said last)
 given-push (Some (Err fault) ∷ said) last = given-push said last
 
-passed-push : (said : List Said) (last : Said) → passed_count (said ++ last ∷ []) ≡ passed_count said + passed_count (last ∷ [])
+passed-push : (said : List Said) (last : Said)
+    → passed_count (said ++ last ∷ []) ≡ passed_count said + passed_count (last ∷ [])
 passed-push [] last = omega arith
 passed-push (None ∷ said) last = omega (arith, passed-push said last)
 passed-push (Some one ∷ said) last = passed-push said last
 
-aside-push : (number : ℕ) (said : List Said) (last : Said) → aside_from number (said ++ last ∷ []) ≡ aside_from number said ++ aside_from (number + length said) (last ∷ [])
+aside-push : (number : ℕ) (said : List Said) (last : Said)
+    → aside_from number (said ++ last ∷ []) ≡ aside_from number said ++ aside_from (number + length said) (last ∷ [])
 aside-push number [] last = ap (λ from. aside_from from (last ∷ [])) (omega arith)
 aside-push number (None ∷ said) last =
-    aside-push (number + 1) said last ∙ ap (λ from. aside_from (number + 1) said ++ aside_from from (last ∷ [])) (omega arith)
+    aside-push (number + 1) said last
+    ∙ ap (λ from. aside_from (number + 1) said ++ aside_from from (last ∷ [])) (omega arith)
 aside-push number (Some (Ok one) ∷ said) last =
-    aside-push (number + 1) said last ∙ ap (λ from. aside_from (number + 1) said ++ aside_from from (last ∷ [])) (omega arith)
+    aside-push (number + 1) said last
+    ∙ ap (λ from. aside_from (number + 1) said ++ aside_from from (last ∷ [])) (omega arith)
 aside-push number (Some (Err fault) ∷ said) last =
-    ap (λ rest. (number, fault) ∷ rest) (aside-push (number + 1) said last ∙ ap (λ from. aside_from (number + 1) said ++ aside_from from (last ∷ [])) (omega arith))
+    ap (λ rest. (number, fault) ∷ rest)
+    (aside-push (number + 1) said last
+    ∙ ap (λ from. aside_from (number + 1) said ++ aside_from from (last ∷ [])) (omega arith))
 
 pub passed-most : (said : List Said) → passed_count said ≤ length said
 passed-most [] = omega arith
@@ -49,7 +55,8 @@ passed-most (Some one ∷ said) = omega (arith, passed-most said)
 abbrev pub said_to : Schedule → Feed → ℕ → List Said
 said_to schedule feed number = map (entity_said schedule feed) (take number feed.entities)
 
-pub record SortedTo (schedule : Schedule) (feed : Feed) (number : ℕ) (given : List DatedReading) (passed : ℕ) (aside : List (ℕ × Fault)) : Type 0 where
+pub record SortedTo (schedule : Schedule) (feed : Feed) (number : ℕ) (given : List DatedReading) (passed : ℕ)
+    (aside : List (ℕ × Fault)) : Type 0 where
   pub given_is : given ≡ given_all (said_to schedule feed number)
   pub passed_is : passed ≡ passed_count (said_to schedule feed number)
   pub aside_is : aside ≡ aside_from 0 (said_to schedule feed number)
@@ -59,26 +66,36 @@ pub sorted_none : (schedule : Schedule) (feed : Feed) → SortedTo schedule feed
 sorted_none schedule feed = record { given_is = refl; passed_is = refl; aside_is = refl; many = refl }
 
 -- an entity more
-said-more : (schedule : Schedule) (feed : Feed) (number : ℕ) (entity : Entity) (said : Said) → number < length feed.entities → entity ≡ get_or feed.entities number entity
-    → said ≡ entity_said schedule feed entity → said_to schedule feed (number + 1) ≡ said_to schedule feed number ++ said ∷ []
+said-more : (schedule : Schedule) (feed : Feed) (number : ℕ) (entity : Entity) (said : Said)
+    → number < length feed.entities → entity ≡ get_or feed.entities number entity
+    → said ≡ entity_said schedule feed entity
+    → said_to schedule feed (number + 1) ≡ said_to schedule feed number ++ said ∷ []
 said-more schedule feed number entity said within is says =
     let taken : take (number + 1) feed.entities ≡ take number feed.entities ++ entity ∷ [] =
-    take_more feed.entities number entity within ∙ ap (λ (last : Entity). take number feed.entities ++ last ∷ []) (sym is) in
+    take_more feed.entities number entity within
+    ∙ ap (λ (last : Entity). take number feed.entities ++ last ∷ []) (sym is) in
     ap (map (entity_said schedule feed)) taken
     ∙ (map-append (entity_said schedule feed) (take number feed.entities) (entity ∷ [])
     ∙ ap (λ (last : Said). said_to schedule feed number ++ last ∷ []) (sym says))
 
-pub sorted_more : (schedule : Schedule) (feed : Feed) (number : ℕ) (given given' : List DatedReading) (passed passed' : ℕ) (aside aside' : List (ℕ × Fault)) (entity : Entity) (said : Said)
-    → SortedTo schedule feed number given passed aside → number < length feed.entities → entity ≡ get_or feed.entities number entity → said ≡ entity_said schedule feed entity
-    → given' ≡ given ++ given_all (said ∷ []) → passed' ≡ passed + passed_count (said ∷ []) → aside' ≡ aside ++ aside_from number (said ∷ [])
+pub sorted_more : (schedule : Schedule) (feed : Feed) (number : ℕ) (given given' : List DatedReading)
+    (passed passed' : ℕ) (aside aside' : List (ℕ × Fault)) (entity : Entity) (said : Said)
+    → SortedTo schedule feed number given passed aside → number < length feed.entities
+    → entity ≡ get_or feed.entities number entity → said ≡ entity_said schedule feed entity
+    → given' ≡ given ++ given_all (said ∷ []) → passed' ≡ passed + passed_count (said ∷ [])
+    → aside' ≡ aside ++ aside_from number (said ∷ [])
     → SortedTo schedule feed (number + 1) given' passed' aside'
-sorted_more schedule feed number given given' passed passed' aside aside' entity said h within is says more_given more_passed more_aside =
+sorted_more schedule feed number given given' passed passed' aside aside' entity said h within is says more_given
+    more_passed more_aside =
     let grown = said-more schedule feed number entity said within is says in
     let before = said_to schedule feed number in
     record {
       given_is = more_given ∙ (rw (h.given_is, grown) (sym (given-push before said)));
       passed_is = more_passed ∙ (rw (h.passed_is, grown) (sym (passed-push before said)));
-      aside_is = more_aside ∙ (rw (h.aside_is, grown) (sym (aside-push 0 before said ∙ ap (λ from. aside_from 0 before ++ aside_from from (said ∷ [])) (omega (arith, h.many)))));
+      aside_is = more_aside
+          ∙ (rw (h.aside_is, grown)
+          (sym (aside-push 0 before said
+          ∙ ap (λ from. aside_from 0 before ++ aside_from from (said ∷ [])) (omega (arith, h.many)))));
       many = rw grown (length-push before said ∙ ap (λ n. n + 1) h.many);
     }
   where
@@ -97,10 +114,12 @@ key_of one = (one.day, one.trip.0)
 pub record LastTo (given left : List DatedReading) (keys : List (ℤ × ℕ)) (last : List DatedReading) : Type 0 where
   pub behind : List DatedReading
   pub split : given ≡ left ++ behind
-  pub saw : (one : DatedReading) → list_any (same_key (key_of one)) keys ≡ is_some (last_reading one.trip.0 one.day behind)
+  pub saw : (one : DatedReading)
+      → list_any (same_key (key_of one)) keys ≡ is_some (last_reading one.trip.0 one.day behind)
   pub last_is : last ≡ reverse (last_of_each behind)
 
-pub last_none : (given left : List DatedReading) (keys : List (ℤ × ℕ)) (last : List DatedReading) → left ≡ given → keys ≡ [] → last ≡ [] → LastTo given left keys last
+pub last_none : (given left : List DatedReading) (keys : List (ℤ × ℕ)) (last : List DatedReading) → left ≡ given
+    → keys ≡ [] → last ≡ [] → LastTo given left keys last
 last_none given left keys last same no_keys none = record {
   behind = [];
   split = sym (append-nil left ∙ same);
@@ -140,7 +159,8 @@ key_is other one =
     ∙ ap (λ (trips : Bool). trips && int_eq other.day one.day) (nat_eq_equiv.symm other.trip.0 one.trip.0)
     ∙ ap (λ (days : Bool). (one.trip.0 == other.trip.0) && days) (int_eq_equiv.symm other.day one.day)
 
-or-some : (own : Bool) (found : Option JourneyReading) (reading : JourneyReading) → (own || is_some found) ≡ is_some (option_or found (if own then Some reading else None))
+or-some : (own : Bool) (found : Option JourneyReading) (reading : JourneyReading)
+    → (own || is_some found) ≡ is_some (option_or found (if own then Some reading else None))
 or-some true None reading = refl
 or-some true (Some last) reading = refl
 or-some false None reading = refl
@@ -159,11 +179,14 @@ not_false true e = refl
 not_false false e = e
 
 -- a reading whose journey is new is the last of it, and one whose journey was seen isn't
-pub last_new : (given left left' : List DatedReading) (keys keys' : List (ℤ × ℕ)) (last last' : List DatedReading) (one : DatedReading) (key : ℤ × ℕ)
-    → LastTo given left keys last → left ≡ left' ++ one ∷ [] → key ≡ key_of one → true ≡ not (list_any (same_key key) keys)
+pub last_new : (given left left' : List DatedReading) (keys keys' : List (ℤ × ℕ)) (last last' : List DatedReading)
+    (one : DatedReading) (key : ℤ × ℕ)
+    → LastTo given left keys last → left ≡ left' ++ one ∷ [] → key ≡ key_of one
+    → true ≡ not (list_any (same_key key) keys)
     → IsPermutation (key ∷ keys) keys' → last' ≡ last ++ one ∷ [] → LastTo given left' keys' last'
 last_new given left left' keys keys' last last' one key h popped same new puts pushed =
-    let none : is_some (last_reading one.trip.0 one.day h.behind) ≡ false = sym (h.saw one) ∙ (rw (← same) (not_true _ new)) in
+    let none : is_some (last_reading one.trip.0 one.day h.behind) ≡ false =
+    sym (h.saw one) ∙ (rw (← same) (not_true _ new)) in
     record {
       behind = one ∷ h.behind;
       split = h.split ∙ (rw popped (append_assoc left' (one ∷ []) h.behind));
@@ -174,10 +197,13 @@ last_new given left left' keys keys' last last' one key h popped same new puts p
       last_is = pushed ∙ (rw (h.last_is, none) (sym (reverse-append (one ∷ []) (last_of_each h.behind))));
     }
 
-pub last_seen : (given left left' : List DatedReading) (keys keys' : List (ℤ × ℕ)) (last : List DatedReading) (one : DatedReading) (key : ℤ × ℕ)
-    → LastTo given left keys last → left ≡ left' ++ one ∷ [] → key ≡ key_of one → false ≡ not (list_any (same_key key) keys) → keys' ≡ keys → LastTo given left' keys' last
+pub last_seen : (given left left' : List DatedReading) (keys keys' : List (ℤ × ℕ)) (last : List DatedReading)
+    (one : DatedReading) (key : ℤ × ℕ)
+    → LastTo given left keys last → left ≡ left' ++ one ∷ [] → key ≡ key_of one
+    → false ≡ not (list_any (same_key key) keys) → keys' ≡ keys → LastTo given left' keys' last
 last_seen given left left' keys keys' last one key h popped same old kept =
-    let seen : is_some (last_reading one.trip.0 one.day h.behind) ≡ true = sym (h.saw one) ∙ (rw (← same) (not_false _ old)) in
+    let seen : is_some (last_reading one.trip.0 one.day h.behind) ≡ true =
+    sym (h.saw one) ∙ (rw (← same) (not_false _ old)) in
     record {
       behind = one ∷ h.behind;
       split = h.split ∙ (rw popped (append_assoc left' (one ∷ []) h.behind));
@@ -185,19 +211,26 @@ last_seen given left left' keys keys' last one key h popped same old kept =
       last_is = h.last_is ∙ (rw seen refl);
     }
   where
-    repeated : (other : DatedReading) (own : Bool) → is_of other.trip.0 other.day one ≡ own → is_some (last_reading one.trip.0 one.day h.behind) ≡ true
-        → is_some (last_reading other.trip.0 other.day h.behind) ≡ is_some (option_or (last_reading other.trip.0 other.day h.behind) (if is_of other.trip.0 other.day one then Some one.reading else None))
+    repeated : (other : DatedReading) (own : Bool) → is_of other.trip.0 other.day one ≡ own
+        → is_some (last_reading one.trip.0 one.day h.behind) ≡ true
+        → is_some (last_reading other.trip.0 other.day h.behind)
+        ≡ is_some (option_or (last_reading other.trip.0 other.day h.behind)
+        (if is_of other.trip.0 other.day one then Some one.reading else None))
     repeated other true e seen =
-        or-kept (last_reading other.trip.0 other.day h.behind) _ (ap (λ (found : Option JourneyReading). is_some found) (same-behind other.trip.0 other.day one h.behind e) ∙ seen)
+        or-kept (last_reading other.trip.0 other.day h.behind) _
+        (ap (λ (found : Option JourneyReading). is_some found) (same-behind other.trip.0 other.day one h.behind e)
+        ∙ seen)
     repeated other false e seen = rw e (or-some false (last_reading other.trip.0 other.day h.behind) one.reading)
 
-pub last_done : (given left : List DatedReading) (keys : List (ℤ × ℕ)) (last : List DatedReading) → LastTo given left keys last → length left ≡ 0
+pub last_done : (given left : List DatedReading) (keys : List (ℤ × ℕ)) (last : List DatedReading)
+    → LastTo given left keys last → length left ≡ 0
     → last ≡ reverse (last_of_each given)
 last_done given [] keys last h none = rw h.split h.last_is
 last_done given (one ∷ left) keys last h none = absurd (omega arith)
 
 -- all entities were sorted out
-pub sorted_all : (schedule : Schedule) (feed : Feed) (number : ℕ) → length feed.entities ≤ number → said_to schedule feed number ≡ readings schedule feed
+pub sorted_all : (schedule : Schedule) (feed : Feed) (number : ℕ) → length feed.entities ≤ number
+    → said_to schedule feed number ≡ readings schedule feed
 sorted_all schedule feed number all = ap (map (entity_said schedule feed)) (take-all number feed.entities all)
   where
     take-all : (n : ℕ) (entities : List Entity) → length entities ≤ n → take n entities ≡ entities

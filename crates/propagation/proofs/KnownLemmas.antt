@@ -5,7 +5,8 @@ use Rattle.stop_schedule.specs.Stops.{are_known}
 use Rattle.stop_schedule.specs.declared.stop_times.StopRow.{StopRow}
 
 -- each stop of a trip is one of so many
-pub known_at : (stops : ℕ) (rows : List StopRow) (place : ℕ) (row : StopRow) → are_known stops rows ≡ true → slice_get rows place ≡ Some row → row.stop.0 < stops
+pub known_at : (stops : ℕ) (rows : List StopRow) (place : ℕ) (row : StopRow) → are_known stops rows ≡ true
+    → slice_get rows place ≡ Some row → row.stop.0 < stops
 known_at stops [] place row known at = absurd (cc)
 known_at stops (first ∷ rows) zero row known at =
     let same : first ≡ row = cc in

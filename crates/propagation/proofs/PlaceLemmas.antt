@@ -37,30 +37,41 @@ no_data-other relation e = rw ((signed_Decides relation (pos 2)).0 e) refl
 
 -- an update that is read stands at its place, or has a fault there
 pub placed_there : (run : Run) (number place : ℕ) (update : StopUpdate) → is_read update ≡ true
-    → with_place place (said_at number (planned_at run place) update) ≡ placed_by run update (place_timed run number update (Ok place))
+    → with_place place (said_at number (planned_at run place) update)
+    ≡ placed_by run update (place_timed run number update (Ok place))
 placed_there run number place update read = skips (is_skipped update) refl
   where
-    timed : (late : Option Fault) (both : Option (ℤ × ℤ)) → delay_fault number (planned_at run place) (arrival_time (planned_at run place) update) (departure_time (planned_at run place) update) ≡ late
-        → times (planned_at run place) update ≡ both → is_skipped update ≡ false → is_no_data update ≡ false → is_scheduled update ≡ true
-        → with_place place (said_times number (planned_at run place) late both) ≡ placed_by run update (place_unless (times_fault number (planned_at run place) update) place)
+    timed : (late : Option Fault) (both : Option (ℤ × ℤ))
+        → delay_fault number (planned_at run place) (arrival_time (planned_at run place) update)
+        (departure_time (planned_at run place) update) ≡ late
+        → times (planned_at run place) update ≡ both → is_skipped update ≡ false → is_no_data update ≡ false
+        → is_scheduled update ≡ true
+        → with_place place (said_times number (planned_at run place) late both)
+        ≡ placed_by run update (place_unless (times_fault number (planned_at run place) update) place)
     timed late None is_late is_both kept known counts = rw (counts, is_both) refl
     timed None (Some both) is_late is_both kept known counts = rw (counts, is_both, is_late, kept, known, is_both) refl
     timed (Some fault) (Some both) is_late is_both kept known counts = rw (counts, is_both, is_late) refl
 
     no_data : (b : Bool) → is_no_data update ≡ b → is_skipped update ≡ false
-        → with_place place (said_at number (planned_at run place) update) ≡ placed_by run update (place_timed run number update (Ok place))
+        → with_place place (said_at number (planned_at run place) update)
+        ≡ placed_by run update (place_timed run number update (Ok place))
     no_data true e kept = rw (kept, e, no_data-other update.relation e) (rw (kept, e) refl)
     no_data false e kept =
         let counts : is_scheduled update ≡ true = grind (arith, read, e, kept) in
         rw (kept, e) (timed _ _ refl refl kept e counts)
 
-    skips : (b : Bool) → is_skipped update ≡ b → with_place place (said_at number (planned_at run place) update) ≡ placed_by run update (place_timed run number update (Ok place))
+    skips : (b : Bool) → is_skipped update ≡ b
+        → with_place place (said_at number (planned_at run place) update)
+        ≡ placed_by run update (place_timed run number update (Ok place))
     skips true e = rw (e, skipped-other update.relation e) (rw e refl)
     skips false e = no_data (is_no_data update) refl e
 
-pub placed_said : (run : Run) (number place : ℕ) (update : StopUpdate) (planned : ℤ × ℤ) (said : Result Says Fault) → is_read update ≡ true
-    → planned ≡ planned_at run place → said ≡ said_at number planned update → with_place place said ≡ placed_by run update (place_timed run number update (Ok place))
-placed_said run number place update planned said read same is = rw (is, same) (placed_there run number place update read)
+pub placed_said : (run : Run) (number place : ℕ) (update : StopUpdate) (planned : ℤ × ℤ) (said : Result Says Fault)
+    → is_read update ≡ true
+    → planned ≡ planned_at run place → said ≡ said_at number planned update
+    → with_place place said ≡ placed_by run update (place_timed run number update (Ok place))
+placed_said run number place update planned said read same is =
+    rw (is, same) (placed_there run number place update read)
 
 -- the places of placed updates
 abbrev pub places_of : List Placed → List ℕ
@@ -71,13 +82,15 @@ pub record IsAt (run : Run) (update : StopUpdate) (said : Result ℕ Fault) (one
   pub place : said ≡ Ok one.place
   pub says : one ≡ placed_at run (one.place, update)
 
-pub is_at : (run : Run) (update : StopUpdate) (said : Result ℕ Fault) (one : Placed) → Ok one ≡ placed_by run update said → IsAt run update said one
+pub is_at : (run : Run) (update : StopUpdate) (said : Result ℕ Fault) (one : Placed)
+    → Ok one ≡ placed_by run update said → IsAt run update said one
 is_at run update (Ok place) one e =
     let same : one ≡ placed_at run (place, update) = cc in
     rw same (record { place = refl; says = refl })
 is_at run update (Err fault) one e = cc
 
-pub is_fault : (run : Run) (update : StopUpdate) (said : Result ℕ Fault) (fault : Fault) → Err fault ≡ placed_by run update said → said ≡ Err fault
+pub is_fault : (run : Run) (update : StopUpdate) (said : Result ℕ Fault) (fault : Fault)
+    → Err fault ≡ placed_by run update said → said ≡ Err fault
 is_fault run update (Ok place) fault e = cc
 is_fault run update (Err other) fault e = cc
 
@@ -91,7 +104,8 @@ prefixed-none (Ok others) = refl
 prefixed-none (Err fault) = refl
 
 -- updates up to a number stand at these places
-pub record PlacedTo (run : Run) (updates : List StopUpdate) (number : ℕ) (after : Option ℕ) (all : List Placed) : Type 0 where
+pub record PlacedTo (run : Run) (updates : List StopUpdate) (number : ℕ) (after : Option ℕ) (all : List Placed) : Type
+    0 where
   pub so_far : places run updates ≡ prefixed (places_of all) (places_from run number after (drop number updates))
   pub are_at : all ≡ map (placed_at run) (zip (places_of all) updates)
   pub many : length all ≡ number
@@ -99,36 +113,54 @@ pub record PlacedTo (run : Run) (updates : List StopUpdate) (number : ℕ) (afte
 pub placed_none : (run : Run) (updates : List StopUpdate) → PlacedTo run updates 0 None []
 placed_none run updates = record { so_far = sym (prefixed-none (places run updates)); are_at = refl; many = refl }
 
-zip-push : (at : List ℕ) (updates : List StopUpdate) (place : ℕ) (update : StopUpdate) → length at < length updates → update ≡ get_or updates (length at) update
+zip-push : (at : List ℕ) (updates : List StopUpdate) (place : ℕ) (update : StopUpdate) → length at < length updates
+    → update ≡ get_or updates (length at) update
     → zip (at ++ place ∷ []) updates ≡ zip at updates ++ (place, update) ∷ []
 zip-push [] [] place update h e = absurd (omega arith)
 zip-push [] (first ∷ updates) place update h e = ap (λ (one : StopUpdate). (place, one) ∷ []) (sym e)
 zip-push (a ∷ at) [] place update h e = absurd (omega arith)
-zip-push (a ∷ at) (first ∷ updates) place update h e = ap (λ rest. (a, first) ∷ rest) (zip-push at updates place update (omega arith) e)
+zip-push (a ∷ at) (first ∷ updates) place update h e =
+    ap (λ rest. (a, first) ∷ rest) (zip-push at updates place update (omega arith) e)
 
-places-step : (run : Run) (number : ℕ) (after : Option ℕ) (update : StopUpdate) (updates : List StopUpdate) (front : List ℕ) (place : ℕ)
+places-step : (run : Run) (number : ℕ) (after : Option ℕ) (update : StopUpdate) (updates : List StopUpdate)
+    (front : List ℕ) (place : ℕ)
     → place_of run number after update ≡ Ok place
-    → prefixed front (places_from run number after (update ∷ updates)) ≡ prefixed (front ++ place ∷ []) (places_from run (number + 1) (Some place) updates)
-places-step run number after update updates front place e = rw e (by (places_from run (number + 1) (Some place) updates))
+    → prefixed front (places_from run number after (update ∷ updates))
+    ≡ prefixed (front ++ place ∷ []) (places_from run (number + 1) (Some place) updates)
+places-step run number after update updates front place e =
+    rw e (by (places_from run (number + 1) (Some place) updates))
   where
-    by : (said : Result (List ℕ) Fault) → prefixed front (said >>= λ others. Ok (place ∷ others)) ≡ prefixed (front ++ place ∷ []) said
+    by : (said : Result (List ℕ) Fault)
+        → prefixed front (said >>= λ others. Ok (place ∷ others)) ≡ prefixed (front ++ place ∷ []) said
     by (Ok others) = ap (λ all. Ok all) (sym (append_assoc front (place ∷ []) others))
     by (Err fault) = refl
 
-pub placed_more : (run : Run) (updates : List StopUpdate) (number : ℕ) (after : Option ℕ) (all all' : List Placed) (update : StopUpdate) (next : Placed)
+pub placed_more : (run : Run) (updates : List StopUpdate) (number : ℕ) (after : Option ℕ) (all all' : List Placed)
+    (update : StopUpdate) (next : Placed)
     → PlacedTo run updates number after all → number < length updates → update ≡ get_or updates number update
-    → IsAt run update (place_of run number after update) next → all' ≡ all ++ next ∷ [] → PlacedTo run updates (number + 1) (Some next.place) all'
+    → IsAt run update (place_of run number after update) next → all' ≡ all ++ next ∷ []
+    → PlacedTo run updates (number + 1) (Some next.place) all'
 placed_more run updates number after all all' update next h within is at pushed =
-    let left : drop number updates ≡ update ∷ drop (number + 1) updates = drop_more updates number update within ∙ ap (λ (first : StopUpdate). first ∷ drop (number + 1) updates) (sym is) in
-    let grown : places_of (all ++ next ∷ []) ≡ places_of all ++ next.place ∷ [] = map-append (λ (one : Placed). one.place) all (next ∷ []) in
+    let left : drop number updates ≡ update ∷ drop (number + 1) updates =
+    drop_more updates number update within
+    ∙ ap (λ (first : StopUpdate). first ∷ drop (number + 1) updates) (sym is) in
+    let grown : places_of (all ++ next ∷ []) ≡ places_of all ++ next.place ∷ [] =
+    map-append (λ (one : Placed). one.place) all (next ∷ []) in
     let many : length (places_of all) ≡ number = length-places all ∙ h.many in
-    let zipped : zip (places_of all ++ next.place ∷ []) updates ≡ zip (places_of all) updates ++ (next.place, update) ∷ [] =
+    let zipped : zip (places_of all ++ next.place ∷ []) updates ≡ zip (places_of all) updates ++ (next.place, update)
+    ∷ [] =
     zip-push (places_of all) updates next.place update (omega arith) (rw many is) in
     rw pushed (record {
       so_far = h.so_far ∙ (ap (λ rest. prefixed (places_of all) (places_from run number after rest)) left
           ∙ (places-step run number after update (drop (number + 1) updates) (places_of all) next.place at.place
-          ∙ ap (λ front. prefixed front (places_from run (number + 1) (Some next.place) (drop (number + 1) updates))) (sym grown)));
-      are_at = sym (rw (grown, zipped, map-append (placed_at run) (zip (places_of all) updates) ((next.place, update) ∷ []), ← h.are_at)
+          ∙ ap (λ front. prefixed front (places_from run (number + 1) (Some next.place) (drop (number + 1) updates)))
+          (sym grown)));
+      are_at = sym (rw (
+        grown,
+        zipped,
+        map-append (placed_at run) (zip (places_of all) updates) ((next.place, update) ∷ []),
+        ← h.are_at,
+      )
           (ap (λ (one : Placed). all ++ one ∷ []) (sym at.says)));
       many = length-push all next ∙ ap (λ n. n + 1) h.many;
     })
@@ -141,15 +173,19 @@ placed_more run updates number after all all' update next h within is at pushed 
     length-push [] one = refl
     length-push (first ∷ all) one = omega (arith, length-push all one)
 
-pub placed_all-fault : (run : Run) (updates : List StopUpdate) (number : ℕ) (after : Option ℕ) (all : List Placed) (update : StopUpdate) (fault : Fault)
+pub placed_all-fault : (run : Run) (updates : List StopUpdate) (number : ℕ) (after : Option ℕ) (all : List Placed)
+    (update : StopUpdate) (fault : Fault)
     → PlacedTo run updates number after all → number < length updates → update ≡ get_or updates number update
     → place_of run number after update ≡ Err fault → placed_all run updates (places run updates) ≡ Err fault
 placed_all-fault run updates number after all update fault h within is e =
-    let left : drop number updates ≡ update ∷ drop (number + 1) updates = drop_more updates number update within ∙ ap (λ (first : StopUpdate). first ∷ drop (number + 1) updates) (sym is) in
+    let left : drop number updates ≡ update ∷ drop (number + 1) updates =
+    drop_more updates number update within
+    ∙ ap (λ (first : StopUpdate). first ∷ drop (number + 1) updates) (sym is) in
     rw (h.so_far, left, e) refl
 
 pub placed_all-done : (run : Run) (updates : List StopUpdate) (number : ℕ) (after : Option ℕ) (all : List Placed)
-    → PlacedTo run updates number after all → length updates ≡ number → placed_all run updates (places run updates) ≡ Ok all
+    → PlacedTo run updates number after all → length updates ≡ number
+    → placed_all run updates (places run updates) ≡ Ok all
 placed_all-done run updates number after all h e =
     let none : drop number updates ≡ [] = drop_all number updates (omega arith) in
     rw (h.so_far, none, append-nil (places_of all)) (ap (λ l. Ok l) (sym h.are_at))
@@ -158,11 +194,14 @@ placed_all-done run updates number after all h e =
 ordered : (from place found : ℕ) → in_order from place ≡ Ok found → nat_le from found ≡ true
 ordered from place found e = by (nat_le from place) refl e
   where
-    by : (b : Bool) → nat_le from place ≡ b → ◌≡◌ {A = Result ℕ MatchFault} (if b then Ok place else Err match.OutOfOrder) (Ok found) → nat_le from found ≡ true
+    by : (b : Bool) → nat_le from place ≡ b
+        → ◌≡◌ {A = Result ℕ MatchFault} (if b then Ok place else Err match.OutOfOrder) (Ok found)
+        → nat_le from found ≡ true
     by true le same = let is : place ≡ found = cc in rw (← is) le
     by false le same = cc
 
-sequence-behind : (stops : List StopRow) (from : ℕ) (named : NamedStop) (at : Option ℕ) (found : ℕ) → place_by_sequence stops from named at ≡ Ok found → nat_le from found ≡ true
+sequence-behind : (stops : List StopRow) (from : ℕ) (named : NamedStop) (at : Option ℕ) (found : ℕ)
+    → place_by_sequence stops from named at ≡ Ok found → nat_le from found ≡ true
 sequence-behind stops from named None found e = cc
 sequence-behind stops from named (Some place) found e = by (stands_at (agrees named) place stops) e
   where
@@ -170,25 +209,30 @@ sequence-behind stops from named (Some place) found e = by (stands_at (agrees na
     by true same = ordered from place found same
     by false same = cc
 
-first-behind : (from found : ℕ) (at : Option ℕ) → ok_or (option_map (λ place. place + from) at) match.OutOfOrder ≡ Ok found → nat_le from found ≡ true
+first-behind : (from found : ℕ) (at : Option ℕ)
+    → ok_or (option_map (λ place. place + from) at) match.OutOfOrder ≡ Ok found → nat_le from found ≡ true
 first-behind from found None e = cc
 first-behind from found (Some place) e =
     let is : place + from ≡ found = cc in
     grind (arith, nat_tests)
 
-stop-behind : (stops : List StopRow) (from : ℕ) (named : NamedStop) (found : ℕ) → place_by_stop stops from named ≡ Ok found → nat_le from found ≡ true
+stop-behind : (stops : List StopRow) (from : ℕ) (named : NamedStop) (found : ℕ)
+    → place_by_stop stops from named ≡ Ok found → nat_le from found ≡ true
 stop-behind stops from Missing found e = cc
 stop-behind stops from Unknown found e = cc
 stop-behind stops from (Known stop) found e = by (list_any (is_of_stop stop.0) stops) e
   where
-    by : (b : Bool) → (if b then ok_or (first_place stop.0 from stops) match.OutOfOrder else Err match.UnknownStop) ≡ Ok found → nat_le from found ≡ true
+    by : (b : Bool) → (if b then ok_or (first_place stop.0 from stops) match.OutOfOrder else Err match.UnknownStop)
+        ≡ Ok found → nat_le from found ≡ true
     by true same = first-behind from found (position (is_of_stop stop.0) (drop from stops)) same
     by false same = cc
 
-place-behind : (stops : List StopRow) (after sequence : Option ℕ) (named : NamedStop) (found : ℕ) → update_place stops after sequence named ≡ Ok found
+place-behind : (stops : List StopRow) (after sequence : Option ℕ) (named : NamedStop) (found : ℕ)
+    → update_place stops after sequence named ≡ Ok found
     → nat_le (place_behind after) found ≡ true
 place-behind stops after None named found e = stop-behind stops (place_behind after) named found e
-place-behind stops after (Some sequence) named found e = sequence-behind stops (place_behind after) named (position (has_sequence sequence) stops) found e
+place-behind stops after (Some sequence) named found e =
+    sequence-behind stops (place_behind after) named (position (has_sequence sequence) stops) found e
 
 -- an update at its place has no fault there, and lies behind the one before
 pub record Fits (run : Run) (number : ℕ) (after : Option ℕ) (update : StopUpdate) (place : ℕ) : Type 0 where
@@ -197,43 +241,62 @@ pub record Fits (run : Run) (number : ℕ) (after : Option ℕ) (update : StopUp
   pub whole : times_fault number (planned_at run place) update ≡ None
 
 timed-fits : (run : Run) (number : ℕ) (after : Option ℕ) (update : StopUpdate) (at : Result ℕ MatchFault) (place : ℕ)
-    → is_read update ≡ true → ((found : ℕ) → at ≡ Ok found → nat_le (place_behind after) found ≡ true) → place_timed run number update at ≡ Ok place
+    → is_read update ≡ true → ((found : ℕ) → at ≡ Ok found → nat_le (place_behind after) found ≡ true)
+    → place_timed run number update at ≡ Ok place
     → Fits run number after update place
 timed-fits run number after update (Err fault) place read behind e = cc
-timed-fits run number after update (Ok found) place read behind e = by (times_fault number (planned_at run found) update) refl e
+timed-fits run number after update (Ok found) place read behind e =
+    by (times_fault number (planned_at run found) update) refl e
   where
-    by : (fault : Option Fault) → times_fault number (planned_at run found) update ≡ fault → place_unless fault found ≡ Ok place → Fits run number after update place
-    by None whole same = let is : found ≡ place = cc in rw (← is) (record { read = read; behind = behind found refl; whole = whole })
+    by : (fault : Option Fault) → times_fault number (planned_at run found) update ≡ fault
+        → place_unless fault found ≡ Ok place → Fits run number after update place
+    by None whole same = let is : found ≡ place =
+        cc in rw (← is) (record { read = read; behind = behind found refl; whole = whole })
     by (Some fault) whole same = cc
 
-pub place-fits : (run : Run) (number : ℕ) (after : Option ℕ) (update : StopUpdate) (place : ℕ) → place_of run number after update ≡ Ok place → Fits run number after update place
+pub place-fits : (run : Run) (number : ℕ) (after : Option ℕ) (update : StopUpdate) (place : ℕ)
+    → place_of run number after update ≡ Ok place → Fits run number after update place
 place-fits run number after update place e = by (is_read update) refl e
   where
     by : (b : Bool) → is_read update ≡ b
-        → (if b then place_timed run number update (update_place run.stops after update.sequence (named_stop run.ids update)) else Err (OtherRelation update.relation)) ≡ Ok place
+        → (if b then place_timed run number update
+        (update_place run.stops after update.sequence (named_stop run.ids update))
+        else Err (OtherRelation update.relation)) ≡ Ok place
         → Fits run number after update place
-    by true read same = timed-fits run number after update (update_place run.stops after update.sequence (named_stop run.ids update)) place read
+    by true read same =
+        timed-fits run number after update (update_place run.stops after update.sequence (named_stop run.ids update))
+        place read
         (λ found is. place-behind run.stops after update.sequence (named_stop run.ids update) found is) same
     by false read same = cc
 
 -- the places of updates rise
-pub places-rise : (run : Run) (number : ℕ) (after : Option ℕ) (updates : List StopUpdate) (at : List ℕ) → places_from run number after updates ≡ Ok at
+pub places-rise : (run : Run) (number : ℕ) (after : Option ℕ) (updates : List StopUpdate) (at : List ℕ)
+    → places_from run number after updates ≡ Ok at
     → are_rising_from (place_behind after) (zip at updates) ≡ true
 places-rise run number after [] at e = let none : [] ≡ at = cc in rw (← none) refl
 places-rise run number after (update ∷ updates) at e =
-    first (λ place others is. places-rise run (number + 1) (Some place) updates others is) (place_of run number after update) refl e
+    first (λ place others is. places-rise run (number + 1) (Some place) updates others is)
+    (place_of run number after update) refl e
   where
-    rest : (place : ℕ) → ((others : List ℕ) → places_from run (number + 1) (Some place) updates ≡ Ok others → are_rising_from (place + 1) (zip others updates) ≡ true)
-        → nat_le (place_behind after) place ≡ true → (said : Result (List ℕ) Fault) → places_from run (number + 1) (Some place) updates ≡ said
-        → (said >>= λ others. Ok (place ∷ others)) ≡ Ok at → are_rising_from (place_behind after) (zip at (update ∷ updates)) ≡ true
+    rest : (place : ℕ)
+        → ((others : List ℕ) → places_from run (number + 1) (Some place) updates ≡ Ok others
+        → are_rising_from (place + 1) (zip others updates) ≡ true)
+        → nat_le (place_behind after) place ≡ true → (said : Result (List ℕ) Fault)
+        → places_from run (number + 1) (Some place) updates ≡ said
+        → (said >>= λ others. Ok (place ∷ others)) ≡ Ok at
+        → are_rising_from (place_behind after) (zip at (update ∷ updates)) ≡ true
     rest place rise low (Ok others) is same =
         let all : place ∷ others ≡ at = cc in
         rw (← all, low) (rise others is)
     rest place rise low (Err fault) is same = cc
 
-    first : ((place : ℕ) (others : List ℕ) → places_from run (number + 1) (Some place) updates ≡ Ok others → are_rising_from (place + 1) (zip others updates) ≡ true)
+    first : ((place : ℕ) (others : List ℕ) → places_from run (number + 1) (Some place) updates ≡ Ok others
+        → are_rising_from (place + 1) (zip others updates) ≡ true)
         → (said : Result ℕ Fault) → place_of run number after update ≡ said
-        → (said >>= λ place. places_from run (number + 1) (Some place) updates >>= λ others. Ok (place ∷ others)) ≡ Ok at
+        → (said >>= λ place. places_from run (number + 1) (Some place) updates >>= λ others. Ok (place ∷ others))
+        ≡ Ok at
         → are_rising_from (place_behind after) (zip at (update ∷ updates)) ≡ true
-    first rise (Ok place) is same = rest place (rise place) (place-fits run number after update place is).behind (places_from run (number + 1) (Some place) updates) refl same
+    first rise (Ok place) is same =
+        rest place (rise place) (place-fits run number after update place is).behind
+        (places_from run (number + 1) (Some place) updates) refl same
     first rise (Err fault) is same = cc

@@ -46,32 +46,42 @@ record IsWhole (run : Run) (one : ℕ × StopUpdate) : Type 0 where
   whole : times_fault number (planned_at run one.0) one.1 ≡ None
 
 -- updates at their places have no fault
-whole-all : (run : Run) (number : ℕ) (after : Option ℕ) (updates : List StopUpdate) (at : List ℕ) → places_from run number after updates ≡ Ok at
+whole-all : (run : Run) (number : ℕ) (after : Option ℕ) (updates : List StopUpdate) (at : List ℕ)
+    → places_from run number after updates ≡ Ok at
     → AllByRecursion (IsWhole run) (zip at updates)
 whole-all run number after [] at e = let none : [] ≡ at = cc in rw (← none) tt
 whole-all run number after (update ∷ updates) at e =
-    first (λ place others is. whole-all run (number + 1) (Some place) updates others is) (place_of run number after update) refl e
+    first (λ place others is. whole-all run (number + 1) (Some place) updates others is)
+    (place_of run number after update) refl e
   where
-    rest : (place : ℕ) → ((others : List ℕ) → places_from run (number + 1) (Some place) updates ≡ Ok others → AllByRecursion (IsWhole run) (zip others updates))
-        → IsWhole run (place, update) → (said : Result (List ℕ) Fault) → places_from run (number + 1) (Some place) updates ≡ said
+    rest : (place : ℕ)
+        → ((others : List ℕ) → places_from run (number + 1) (Some place) updates ≡ Ok others
+        → AllByRecursion (IsWhole run) (zip others updates))
+        → IsWhole run (place, update) → (said : Result (List ℕ) Fault)
+        → places_from run (number + 1) (Some place) updates ≡ said
         → (said >>= λ others. Ok (place ∷ others)) ≡ Ok at → AllByRecursion (IsWhole run) (zip at (update ∷ updates))
     rest place more here (Ok others) is same = let all : place ∷ others ≡ at = cc in rw (← all) (here, more others is)
     rest place more here (Err fault) is same = cc
 
-    first : ((place : ℕ) (others : List ℕ) → places_from run (number + 1) (Some place) updates ≡ Ok others → AllByRecursion (IsWhole run) (zip others updates))
+    first : ((place : ℕ) (others : List ℕ) → places_from run (number + 1) (Some place) updates ≡ Ok others
+        → AllByRecursion (IsWhole run) (zip others updates))
         → (said : Result ℕ Fault) → place_of run number after update ≡ said
-        → (said >>= λ place. places_from run (number + 1) (Some place) updates >>= λ others. Ok (place ∷ others)) ≡ Ok at
+        → (said >>= λ place. places_from run (number + 1) (Some place) updates >>= λ others. Ok (place ∷ others))
+        ≡ Ok at
         → AllByRecursion (IsWhole run) (zip at (update ∷ updates))
     first more (Ok place) is same =
         let fits = place-fits run number after update place is in
-        rest place (more place) (record { read = fits.read; number = number; whole = fits.whole }) (places_from run (number + 1) (Some place) updates) refl same
+        rest place (more place) (record { read = fits.read; number = number; whole = fits.whole })
+        (places_from run (number + 1) (Some place) updates) refl same
     first more (Err fault) is same = cc
 
 -- their own times are near the planned ones
-whole-near : (run : Run) (one : ℕ × StopUpdate) (both : ℤ × ℤ) → IsWhole run one → is_skipped one.1 ≡ false → is_no_data one.1 ≡ false
+whole-near : (run : Run) (one : ℕ × StopUpdate) (both : ℤ × ℤ) → IsWhole run one → is_skipped one.1 ≡ false
+    → is_no_data one.1 ≡ false
     → times (planned_at run one.0) one.1 ≡ Some both → AreNear (planned_at run one.0) both
 whole-near run one both h kept known is =
-    let counts : is_scheduled one.1 ≡ true = scheduled (is_scheduled one.1) (is_skipped one.1) (is_no_data one.1) h.read kept known in
+    let counts : is_scheduled one.1 ≡ true =
+    scheduled (is_scheduled one.1) (is_skipped one.1) (is_no_data one.1) h.read kept known in
     times_near h.number (planned_at run one.0) _ _ both (rw (counts, is) at h.whole) is
   where
     scheduled : (a b c : Bool) → (a || (b || c)) ≡ true → b ≡ false → c ≡ false → a ≡ true
@@ -83,9 +93,11 @@ record Supplies (run : Run) (one : ℕ × StopUpdate) : Type 0 where
   whole : IsWhole run one
   kept : is_skipped one.1 ≡ false
 
-supplier-whole : (run : Run) (place : ℕ) (updates : List (ℕ × StopUpdate)) (one : ℕ × StopUpdate) → AllByRecursion (IsWhole run) updates → supplier place updates ≡ Some one → Supplies run one
+supplier-whole : (run : Run) (place : ℕ) (updates : List (ℕ × StopUpdate)) (one : ℕ × StopUpdate)
+    → AllByRecursion (IsWhole run) updates → supplier place updates ≡ Some one → Supplies run one
 supplier-whole run place [] one h e = absurd (none-some one e)
-supplier-whole run place (first ∷ others) one h e = by (supplies place first) refl (supplier place others) (λ same. supplier-whole run place others one h.1 same) e
+supplier-whole run place (first ∷ others) one h e =
+    by (supplies place first) refl (supplier place others) (λ same. supplier-whole run place others one h.1 same) e
   where
     kept-first : (a b : Bool) → (a && not b) ≡ true → b ≡ false
     kept-first true true e = absurd (false≢true e)
@@ -93,14 +105,17 @@ supplier-whole run place (first ∷ others) one h e = by (supplies place first) 
     kept-first false b e = absurd (false≢true e)
 
     here : supplies place first ≡ true → ◌≡◌ {A = Option (ℕ × StopUpdate)} (Some first) (Some one) → Supplies run one
-    here taken same = let is : first ≡ one = cc in rw (← is) (record { whole = h.0; kept = kept-first _ (is_skipped first.1) taken })
+    here taken same = let is : first ≡ one =
+        cc in rw (← is) (record { whole = h.0; kept = kept-first _ (is_skipped first.1) taken })
 
-    greater-one : (b : Bool) (later : ℕ × StopUpdate) → supplies place first ≡ true → (Some later ≡ Some one → Supplies run one)
+    greater-one : (b : Bool) (later : ℕ × StopUpdate) → supplies place first ≡ true
+        → (Some later ≡ Some one → Supplies run one)
         → ◌≡◌ {A = Option (ℕ × StopUpdate)} (if b then Some later else Some first) (Some one) → Supplies run one
     greater-one true later taken rest same = rest same
     greater-one false later taken rest same = here taken same
 
-    by : (own : Bool) → supplies place first ≡ own → (found : Option (ℕ × StopUpdate)) → (found ≡ Some one → Supplies run one)
+    by : (own : Bool) → supplies place first ≡ own → (found : Option (ℕ × StopUpdate))
+        → (found ≡ Some one → Supplies run one)
         → greater (if own then Some first else None) found ≡ Some one → Supplies run one
     by true taken (Some later) rest same = greater-one (nat_le first.0 later.0) later taken rest same
     by true taken None rest same = here taken same
@@ -114,43 +129,58 @@ later-near : (plan : ℤ × ℤ) (delay : ℤ) → is_delay delay ≡ true → i
 later-near plan delay h =
     let arrival : (plan.0 +ℤ delay) -ℤ plan.0 ≡ delay = omega (arith, ints) in
     let departure : (plan.1 +ℤ delay) -ℤ plan.1 ≡ delay = omega (arith, ints) in
-    and_both (is_delay ((plan.0 +ℤ delay) -ℤ plan.0)) (is_delay ((plan.1 +ℤ delay) -ℤ plan.1)) (rw arrival h) (rw departure h)
+    and_both (is_delay ((plan.0 +ℤ delay) -ℤ plan.0)) (is_delay ((plan.1 +ℤ delay) -ℤ plan.1)) (rw arrival h)
+    (rw departure h)
 
-timed-near : (plan : ℤ × ℤ) (both : Option (ℤ × ℤ)) → ((found : ℤ × ℤ) → both ≡ Some found → AreNear plan found) → is_near plan (timed both) ≡ true
+timed-near : (plan : ℤ × ℤ) (both : Option (ℤ × ℤ)) → ((found : ℤ × ℤ) → both ≡ Some found → AreNear plan found)
+    → is_near plan (timed both) ≡ true
 timed-near plan None h = refl
 timed-near plan (Some both) h = let near = h both refl in and_both _ _ near.arrival near.departure
 
-carried-near : (plan before : ℤ × ℤ) (both : Option (ℤ × ℤ)) → ((found : ℤ × ℤ) → both ≡ Some found → AreNear before found) → is_near plan (carried plan before both) ≡ true
+carried-near : (plan before : ℤ × ℤ) (both : Option (ℤ × ℤ))
+    → ((found : ℤ × ℤ) → both ≡ Some found → AreNear before found) → is_near plan (carried plan before both) ≡ true
 carried-near plan before None h = refl
 carried-near plan before (Some both) h = later-near plan (both.1 -ℤ before.1) (h both refl).departure
 
-supplied-near : (run : Run) (place : ℕ) (found : Option (ℕ × StopUpdate)) → ((one : ℕ × StopUpdate) → found ≡ Some one → Supplies run one)
+supplied-near : (run : Run) (place : ℕ) (found : Option (ℕ × StopUpdate))
+    → ((one : ℕ × StopUpdate) → found ≡ Some one → Supplies run one)
     → is_near (planned_at run place) (supplied run place found) ≡ true
 supplied-near run place None h = refl
 supplied-near run place (Some (at, update)) h = no_data (is_no_data update) refl
   where
-    near : (both : ℤ × ℤ) → is_no_data update ≡ false → times (planned_at run at) update ≡ Some both → AreNear (planned_at run at) both
+    near : (both : ℤ × ℤ) → is_no_data update ≡ false → times (planned_at run at) update ≡ Some both
+        → AreNear (planned_at run at) both
     near both known is = let own = h (at, update) refl in whole-near run (at, update) both own.whole own.kept known is
 
     here : (b : Bool) → (at == place) ≡ b → is_no_data update ≡ false
-        → is_near (planned_at run place) (if b then timed (times (planned_at run place) update) else carried (planned_at run place) (planned_at run at) (times (planned_at run at) update)) ≡ true
+        → is_near (planned_at run place)
+        (if b then timed (times (planned_at run place) update)
+        else carried (planned_at run place) (planned_at run at) (times (planned_at run at) update)) ≡ true
     here true e known =
         let same : at ≡ place = eqb-true at place e in
-        let own : (both : ℤ × ℤ) → times (planned_at run place) update ≡ Some both → AreNear (planned_at run place) both =
-        subst (λ (p : ℕ). (both : ℤ × ℤ) → times (planned_at run p) update ≡ Some both → AreNear (planned_at run p) both) same (λ both is. near both known is) in
+        let own : (both : ℤ × ℤ) → times (planned_at run place) update ≡ Some both
+        → AreNear (planned_at run place) both =
+        subst (λ (p : ℕ). (both : ℤ × ℤ) → times (planned_at run p) update ≡ Some both
+        → AreNear (planned_at run p) both) same (λ both is. near both known is) in
         timed-near (planned_at run place) (times (planned_at run place) update) own
-    here false e known = carried-near (planned_at run place) (planned_at run at) (times (planned_at run at) update) (λ both is. near both known is)
+    here false e known =
+        carried-near (planned_at run place) (planned_at run at) (times (planned_at run at) update)
+        (λ both is. near both known is)
 
     no_data : (b : Bool) → is_no_data update ≡ b
         → is_near (planned_at run place) (if b then reading.Absent else
-        (if at == place then timed (times (planned_at run place) update) else carried (planned_at run place) (planned_at run at) (times (planned_at run at) update))) ≡ true
+        (if at == place then timed (times (planned_at run place) update)
+        else carried (planned_at run place) (planned_at run at) (times (planned_at run at) update))) ≡ true
     no_data true e = refl
     no_data false e = here (at == place) refl e
 
-prop-near : (run : Run) (updates : List (ℕ × StopUpdate)) (place : ℕ) → AllByRecursion (IsWhole run) updates → is_near (planned_at run place) (prop run updates place) ≡ true
+prop-near : (run : Run) (updates : List (ℕ × StopUpdate)) (place : ℕ) → AllByRecursion (IsWhole run) updates
+    → is_near (planned_at run place) (prop run updates place) ≡ true
 prop-near run updates place h = by (skips_at place updates)
   where
-    by : (b : Bool) → is_near (planned_at run place) (if b then reading.Skipped else supplied run place (supplier place updates)) ≡ true
+    by : (b : Bool)
+        → is_near (planned_at run place) (if b then reading.Skipped else supplied run place (supplier place updates))
+        ≡ true
     by true = refl
     by false = supplied-near run place (supplier place updates) (λ one is. supplier-whole run place updates one h is)
 
@@ -160,34 +190,46 @@ rows-near : (start : ℤ) (rows : List StopRow) (reads : ℕ → StopReading) (l
 rows-near start [] reads low h = refl
 rows-near start (row ∷ rows) reads low h =
     and_both _ _ (subst (λ (at : ℕ). is_near (planned start row) (reads at) ≡ true) (omega arith) (h 0))
-    (rows-near start rows reads (low + 1) (λ i. subst (λ (at : ℕ). is_near (option_map_or (planned start) (slice_get rows i) (pos 0, pos 0)) (reads at) ≡ true) (omega arith) (h (suc i))))
+    (rows-near start rows reads (low + 1)
+    (λ i. subst (λ (at : ℕ). is_near (option_map_or (planned start) (slice_get rows i) (pos 0, pos 0)) (reads at)
+    ≡ true) (omega arith) (h (suc i))))
 
 -- what an update says of its trip fits it
-pub reading-fits : (run : Run) (update : TripUpdate) (found : JourneyReading) → reading_said run update ≡ Ok found → fits_trip run.start run.stops found ≡ true
+pub reading-fits : (run : Run) (update : TripUpdate) (found : JourneyReading) → reading_said run update ≡ Ok found
+    → fits_trip run.start run.stops found ≡ true
 reading-fits run update found e = cancelled (feeds.is_cancelled update) e
   where
-    stops : (said : Result (List ℕ) Fault) → places run update.updates ≡ said → stops_said run update said ≡ Ok found → fits_trip run.start run.stops found ≡ true
+    stops : (said : Result (List ℕ) Fault) → places run update.updates ≡ said → stops_said run update said ≡ Ok found
+        → fits_trip run.start run.stops found ≡ true
     stops (Err fault) is same = cc
     stops (Ok at) is same =
         let all : Stops (propagated run at update.updates) ≡ found = cc in
         rw (← all) (rows-near run.start run.stops (prop run (zip at update.updates)) 0
-        (λ i. subst (λ (place : ℕ). is_near (planned_at run i) (prop run (zip at update.updates) place) ≡ true) (omega arith)
+        (λ i. subst (λ (place : ℕ). is_near (planned_at run i) (prop run (zip at update.updates) place) ≡ true)
+        (omega arith)
         (prop-near run (zip at update.updates) i (whole-all run 0 None update.updates at is))))
 
-    scheduled : (b : Bool) → (if b then stops_said run update (places run update.updates) else Err (OtherRelation update.trip.relation)) ≡ Ok found → fits_trip run.start run.stops found ≡ true
+    scheduled : (b : Bool)
+        → (if b then stops_said run update (places run update.updates) else Err (OtherRelation update.trip.relation))
+        ≡ Ok found → fits_trip run.start run.stops found ≡ true
     scheduled true same = stops (places run update.updates) refl same
     scheduled false same = cc
 
     cancelled : (b : Bool)
-        → (if b then Ok Cancelled else (if feeds.is_scheduled update then stops_said run update (places run update.updates) else Err (OtherRelation update.trip.relation))) ≡ Ok found
+        → (if b then Ok Cancelled
+        else (if feeds.is_scheduled update then stops_said run update (places run update.updates)
+        else Err (OtherRelation update.trip.relation))) ≡ Ok found
         → fits_trip run.start run.stops found ≡ true
     cancelled true same = let is : Cancelled ≡ found = cc in rw (← is) refl
     cancelled false same = scheduled (feeds.is_scheduled update) same
 
 -- what is said of a trip on a day of the window
-reading-servable : (schedule : Schedule) (trip : ℕ) (day start : ℤ) (recorded : Option ℤ) (update : TripUpdate) (one : DatedReading)
-    → trip < length schedule.table.trips → schedule.table.runs trip day ≡ true → start_in schedule.window day ≡ Some start
-    → (said : Result JourneyReading Fault) → reading_said (run_from schedule.table trip start) update ≡ said → with_reading trip day recorded said ≡ Ok one → IsServable schedule one
+reading-servable : (schedule : Schedule) (trip : ℕ) (day start : ℤ) (recorded : Option ℤ) (update : TripUpdate)
+    (one : DatedReading)
+    → trip < length schedule.table.trips → schedule.table.runs trip day ≡ true
+    → start_in schedule.window day ≡ Some start
+    → (said : Result JourneyReading Fault) → reading_said (run_from schedule.table trip start) update ≡ said
+    → with_reading trip day recorded said ≡ Ok one → IsServable schedule one
 reading-servable schedule trip day start recorded update one known runs in_window (Ok found) is same =
     let made : record { trip = record { 0 = trip }; day = day; recorded = recorded; reading = found } ≡ one = cc in
     rw (← made) (record {
@@ -199,53 +241,72 @@ reading-servable schedule trip day start recorded update one known runs in_windo
     })
 reading-servable schedule trip day start recorded update one known runs in_window (Err fault) is same = cc
 
-day-servable : (schedule : Schedule) (feed : Feed) (update : TripUpdate) (trip : ℕ) (day : ℤ) (one : DatedReading) → trip < length schedule.table.trips
-    → (start : Option ℤ) → start_in schedule.window day ≡ start → said_on schedule feed update trip day (option_map (run_from schedule.table trip) start) ≡ Ok one → IsServable schedule one
+day-servable : (schedule : Schedule) (feed : Feed) (update : TripUpdate) (trip : ℕ) (day : ℤ) (one : DatedReading)
+    → trip < length schedule.table.trips
+    → (start : Option ℤ) → start_in schedule.window day ≡ start
+    → said_on schedule feed update trip day (option_map (run_from schedule.table trip) start) ≡ Ok one
+    → IsServable schedule one
 day-servable schedule feed update trip day one known None is same = cc
 day-servable schedule feed update trip day one known (Some start) is same = by (schedule.table.runs trip day) refl same
   where
     by : (b : Bool) → schedule.table.runs trip day ≡ b
-        → (if b then with_reading trip day (recorded_in feed update) (reading_said (run_from schedule.table trip start) update) else Err NotRunning) ≡ Ok one → IsServable schedule one
+        → (if b then with_reading trip day (recorded_in feed update)
+        (reading_said (run_from schedule.table trip start) update) else Err NotRunning) ≡ Ok one
+        → IsServable schedule one
     by true runs said =
-        reading-servable schedule trip day start (recorded_in feed update) update one known runs is (reading_said (run_from schedule.table trip start) update) refl said
+        reading-servable schedule trip day start (recorded_in feed update) update one known runs is
+        (reading_said (run_from schedule.table trip start) update) refl said
     by false runs said = cc
 
-trip-servable : (schedule : Schedule) (feed : Feed) (update : TripUpdate) (one : DatedReading) (trip : Option ℕ) → trip_named schedule update ≡ trip
+trip-servable : (schedule : Schedule) (feed : Feed) (update : TripUpdate) (one : DatedReading) (trip : Option ℕ)
+    → trip_named schedule update ≡ trip
     → said_of_trip schedule feed update trip ≡ Ok one → IsServable schedule one
 trip-servable schedule feed update one None is same = cc
 trip-servable schedule feed update one (Some trip) is same = day (day_named schedule feed trip update) same
   where
-    named : (id : Option (List ℕ)) → option_and_then (λ text. position (bytes_eq text) schedule.table.trips) id ≡ Some trip → trip < length schedule.table.trips
+    named : (id : Option (List ℕ))
+        → option_and_then (λ text. position (bytes_eq text) schedule.table.trips) id ≡ Some trip
+        → trip < length schedule.table.trips
     named None e = absurd (none-some trip e)
     named (Some id) e = (position-Some (bytes_eq id) schedule.table.trips trip [] e).0
 
     day : (found : Option ℤ) → said_of_day schedule feed update trip found ≡ Ok one → IsServable schedule one
     day None said = cc
     day (Some date) said =
-        day-servable schedule feed update trip date one (named (filled_text update.trip.trip_id) is) (start_in schedule.window date) refl said
+        day-servable schedule feed update trip date one (named (filled_text update.trip.trip_id) is)
+        (start_in schedule.window date) refl said
 
-update-servable : (schedule : Schedule) (feed : Feed) (update : TripUpdate) (one : DatedReading) → update_said schedule feed update ≡ Ok one → IsServable schedule one
+update-servable : (schedule : Schedule) (feed : Feed) (update : TripUpdate) (one : DatedReading)
+    → update_said schedule feed update ≡ Ok one → IsServable schedule one
 update-servable schedule feed update one e = by (feeds.is_scheduled update || feeds.is_cancelled update) e
   where
-    by : (b : Bool) → (if b then said_of_trip schedule feed update (trip_named schedule update) else Err (OtherRelation update.trip.relation)) ≡ Ok one → IsServable schedule one
+    by : (b : Bool)
+        → (if b then said_of_trip schedule feed update (trip_named schedule update)
+        else Err (OtherRelation update.trip.relation)) ≡ Ok one → IsServable schedule one
     by true same = trip-servable schedule feed update one (trip_named schedule update) refl same
     by false same = cc
 
 -- what the entities of a feed give
-given-one : (schedule : Schedule) (feed : Feed) (entity : Entity) (one : DatedReading) → entity_said schedule feed entity ≡ Some (Ok one) → IsServable schedule one
+given-one : (schedule : Schedule) (feed : Feed) (entity : Entity) (one : DatedReading)
+    → entity_said schedule feed entity ≡ Some (Ok one) → IsServable schedule one
 given-one schedule feed entity one e = by entity.deleted e
   where
-    updated : (update : Option TripUpdate) → option_map (update_said schedule feed) update ≡ Some (Ok one) → IsServable schedule one
+    updated : (update : Option TripUpdate) → option_map (update_said schedule feed) update ≡ Some (Ok one)
+        → IsServable schedule one
     updated None same = absurd (none-some _ same)
-    updated (Some update) same = let said : update_said schedule feed update ≡ Ok one = cc in update-servable schedule feed update one said
+    updated (Some update) same = let said : update_said schedule feed update ≡ Ok one =
+        cc in update-servable schedule feed update one said
 
-    by : (b : Bool) → (if b then None else option_map (update_said schedule feed) entity.trip_update) ≡ Some (Ok one) → IsServable schedule one
+    by : (b : Bool) → (if b then None else option_map (update_said schedule feed) entity.trip_update) ≡ Some (Ok one)
+        → IsServable schedule one
     by true same = absurd (none-some _ same)
     by false same = updated entity.trip_update same
 
-given-servable : (schedule : Schedule) (feed : Feed) (entities : List Entity) → AllByRecursion (IsServable schedule) (given_all (map (entity_said schedule feed) entities))
+given-servable : (schedule : Schedule) (feed : Feed) (entities : List Entity)
+    → AllByRecursion (IsServable schedule) (given_all (map (entity_said schedule feed) entities))
 given-servable schedule feed [] = tt
-given-servable schedule feed (entity ∷ entities) = by (entity_said schedule feed entity) refl (given-servable schedule feed entities)
+given-servable schedule feed (entity ∷ entities) =
+    by (entity_said schedule feed entity) refl (given-servable schedule feed entities)
   where
     by : (said : Option (Result DatedReading Fault)) → entity_said schedule feed entity ≡ said
         → AllByRecursion (IsServable schedule) (given_all (map (entity_said schedule feed) entities))
@@ -254,16 +315,19 @@ given-servable schedule feed (entity ∷ entities) = by (entity_said schedule fe
     by (Some (Err fault)) is rest = rest
     by (Some (Ok one)) is rest = (given-one schedule feed entity one is, rest)
 
-last-all : (P : DatedReading → Type 0) (given : List DatedReading) → AllByRecursion P given → AllByRecursion P (last_of_each given)
+last-all : (P : DatedReading → Type 0) (given : List DatedReading) → AllByRecursion P given
+    → AllByRecursion P (last_of_each given)
 last-all P [] h = tt
 last-all P (one ∷ others) h = by (is_last one others) (last-all P others h.1)
   where
-    by : (b : Bool) → AllByRecursion P (last_of_each others) → AllByRecursion P (if b then one ∷ last_of_each others else last_of_each others)
+    by : (b : Bool) → AllByRecursion P (last_of_each others)
+        → AllByRecursion P (if b then one ∷ last_of_each others else last_of_each others)
     by true rest = (h.0, rest)
     by false rest = rest
 
 -- the readings of a feed can be served, in any order
-pub all-servable : (schedule : Schedule) (feed : Feed) (journeys : List DatedReading) → IsPermutation (last_of_each (given_all (readings schedule feed))) journeys
+pub all-servable : (schedule : Schedule) (feed : Feed) (journeys : List DatedReading)
+    → IsPermutation (last_of_each (given_all (readings schedule feed))) journeys
     → All (IsServable schedule) journeys
 all-servable schedule feed journeys same =
     All-permutation (IsServable schedule) (last_of_each (given_all (readings schedule feed))) journeys same

@@ -12,10 +12,12 @@ pub record AreNear (planned both : ℤ × ℤ) : Type 0 where
   pub arrival : is_delay (both.0 -ℤ planned.0) ≡ true
   pub departure : is_delay (both.1 -ℤ planned.1) ≡ true
 
-event_near : (number : ℕ) (planned time : ℤ) → event_fault number planned (Some time) ≡ None → is_delay (time -ℤ planned) ≡ true
+event_near : (number : ℕ) (planned time : ℤ) → event_fault number planned (Some time) ≡ None
+    → is_delay (time -ℤ planned) ≡ true
 event_near number planned time e = by (is_delay (time -ℤ planned)) e
   where
-    by : (b : Bool) → ◌≡◌ {A = Option Fault} (if b then None else Some (DelayRange number (time -ℤ planned))) None → b ≡ true
+    by : (b : Bool) → ◌≡◌ {A = Option Fault} (if b then None else Some (DelayRange number (time -ℤ planned))) None
+        → b ≡ true
     by true e = refl
     by false e = absurd (none-some _ (sym e))
 
@@ -27,7 +29,8 @@ same_delay : (a b : ℤ) → a ≡ b → is_delay b ≡ true → is_delay a ≡ 
 same_delay a b e h = rw e h
 
 pub times_near : (number : ℕ) (planned : ℤ × ℤ) (arrival departure : Option ℤ) (both : ℤ × ℤ)
-    → delay_fault number planned arrival departure ≡ None → both_times planned arrival departure ≡ Some both → AreNear planned both
+    → delay_fault number planned arrival departure ≡ None → both_times planned arrival departure ≡ Some both
+    → AreNear planned both
 times_near number planned (Some a) (Some d) both e same =
     let is : (a, d) ≡ both = cc in
     let no = or-none (event_fault number planned.0 (Some a)) (event_fault number planned.1 (Some d)) e in
@@ -36,10 +39,18 @@ times_near number planned (Some a) None both e same =
     let is : (a, planned.1 +ℤ (a -ℤ planned.0)) ≡ both = cc in
     let no = or-none (event_fault number planned.0 (Some a)) None e in
     let near = event_near number planned.0 a no.0 in
-    rw (← is) (record { arrival = near; departure = same_delay ((planned.1 +ℤ (a -ℤ planned.0)) -ℤ planned.1) (a -ℤ planned.0) (omega (arith, ints)) near })
+    rw (← is) (record {
+      arrival = near;
+      departure = same_delay ((planned.1 +ℤ (a -ℤ planned.0)) -ℤ planned.1) (a -ℤ planned.0) (omega (arith, ints))
+          near;
+    })
 times_near number planned None (Some d) both e same =
     let is : (planned.0 +ℤ (d -ℤ planned.1), d) ≡ both = cc in
     let no = or-none None (event_fault number planned.1 (Some d)) e in
     let near = event_near number planned.1 d no.1 in
-    rw (← is) (record { arrival = same_delay ((planned.0 +ℤ (d -ℤ planned.1)) -ℤ planned.0) (d -ℤ planned.1) (omega (arith, ints)) near; departure = near })
+    rw (← is) (record {
+      arrival =
+          same_delay ((planned.0 +ℤ (d -ℤ planned.1)) -ℤ planned.0) (d -ℤ planned.1) (omega (arith, ints)) near;
+      departure = near;
+    })
 times_near number planned None None both e same = absurd (none-some both same)

@@ -23,8 +23,10 @@ pub said_stops : (run : Run) (update : TripUpdate) (placed : List Placed) (all :
     → stops_said run update (places run update.updates) ≡ Ok (Stops all)
 said_stops run update placed all e reads = by (places run update.updates) refl e
   where
-    by : (said : Result (List ℕ) Fault) → places run update.updates ≡ said → placed_all run update.updates said ≡ Ok placed → stops_said run update said ≡ Ok (Stops all)
+    by : (said : Result (List ℕ) Fault) → places run update.updates ≡ said
+        → placed_all run update.updates said ≡ Ok placed → stops_said run update said ≡ Ok (Stops all)
     by (Ok at) is same =
         let are : map (placed_at run) (zip at update.updates) ≡ placed = cc in
-        ap (λ readings. Ok (Stops readings)) (sym (reads (zip at update.updates) (places-rise run 0 None update.updates at is) (sym are)))
+        ap (λ readings. Ok (Stops readings))
+        (sym (reads (zip at update.updates) (places-rise run 0 None update.updates at is) (sym are)))
     by (Err fault) is same = cc

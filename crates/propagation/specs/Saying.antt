@@ -35,7 +35,9 @@ said_times number planned (Some fault) (Some both) = Err fault
 -- what the update of that number says by its events at a place with these planned times, or its fault there
 abbrev pub said_by_events : ℕ → ℤ × ℤ → StopUpdate → Result Says Fault
 said_by_events number planned update =
-    said_times number planned (delay_fault number planned (arrival_time planned update) (departure_time planned update)) (times planned update)
+    said_times number planned
+    (delay_fault number planned (arrival_time planned update) (departure_time planned update))
+    (times planned update)
 
 -- what it says there, or its fault
 abbrev pub said_at : ℕ → ℤ × ℤ → StopUpdate → Result Says Fault
@@ -51,7 +53,8 @@ says_times planned (Some both) = timed_by planned both
 -- what an update says at a place with these planned times
 abbrev pub says_at : ℤ × ℤ → StopUpdate → Says
 says_at planned update =
-    if is_skipped update then Skipped else (if is_no_data update then NoData else says_times planned (times planned update))
+    if is_skipped update then Skipped
+    else (if is_no_data update then NoData else says_times planned (times planned update))
 
 -- an update at a place
 abbrev pub placed_at : Run → ℕ × StopUpdate → Placed

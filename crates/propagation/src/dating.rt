@@ -1,8 +1,9 @@
 //! The trip and the service day of an update, and when it was recorded. The functions meet `journey_model`'s
 //! `specs/FeedReadings.antt`.
-ghost use Rattle.std.specs.Prelude.{◌≡◌, ◌<◌, ◌<ℤ◌, negsuc, None, length, option_map, IfSome};
+ghost use Rattle.std.specs.Prelude.{◌≡◌, ◌<◌, ◌<ℤ◌, negsuc, pos, None, length, option_map, IfSome};
 ghost use Rattle.journey_model.specs.FeedReadings as spec;
 ghost use Rattle.journey_model.specs.Schedules.{schedule_of};
+ghost use Rattle.service_day.specs.Utc.{moment_if};
 
 use crate::placing::filled_text;
 use gw_base::{Feed, Moment, TripUpdate};
@@ -10,16 +11,23 @@ use journey_model::Context;
 use service_day::{Day, DayForm, local_day, read_day};
 use stop_schedule::TripNo;
 
-// The last moment, in seconds since 1970.
-const LAST_MOMENT: u64 = 253_370_764_799;
+// The moment of that many seconds since 1970, where there is one.
+fn moment_of(secs: u64) -> Option<Moment>
+    ensures { result ≡ moment_if (pos secs) }
+{
+    match i64::try_from(secs) {
+        Ok(secs) => Moment::new(secs),
+        Err(_) => None,
+    }
+}
 
 // A timestamp, where it is a moment.
 fn moment_in(timestamp: Option<u64>) -> Option<Moment>
     ensures { result ≡ spec.moment_in timestamp }
 {
     match timestamp {
-        Some(secs) if secs <= LAST_MOMENT => Moment::new(secs as i64),
-        _ => None,
+        Some(secs) => moment_of(secs),
+        None => None,
     }
 }
 

@@ -1,6 +1,6 @@
 -- What the readings of a feed keep, for the delivery that says them.
 use Rattle.std.proofs.Common.{◌≡◌, ℕ, ◌<◌, List, All, length, Result, Ok, Err, IfOk, sym, subst, ℤ}
-use Rattle.service_day.specs.Utc.{IsMoment}
+use Rattle.gw_base.specs.Moments.{IsMoment}
 use Rattle.stop_schedule.specs.Sound.{IsSound}
 use Rattle.journey_model.specs.Schedules.{FitsSchedule, Schedule}
 use Rattle.journey_model.specs.declared.readings.DatedReading.{DatedReading}

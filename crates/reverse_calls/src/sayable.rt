@@ -2,7 +2,7 @@
 ghost use Rattle.std.specs.Prelude.{All, IfSome};
 ghost use Rattle.journey_model.specs.Schedules.{schedule_of};
 ghost use Rattle.propagation.specs.Feeds.{IsServable};
-ghost use Rattle.service_day.specs.Utc.{IsMoment};
+ghost use Rattle.gw_base.specs.Moments.{IsMoment};
 ghost use Rattle.siri_calls.specs.Sayable.{IsSayable};
 
 use gw_base::Moment;

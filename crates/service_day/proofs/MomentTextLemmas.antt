@@ -13,7 +13,8 @@ use Rattle.service_day.specs.DateBounds.{year_in}
 use Rattle.service_day.specs.DayTexts.{dashed_form, dashed_day, compact_day, dashed_text, day_of}
 use Rattle.service_day.specs.Digits.{has_form, two_at, four_at, two_digits, four_digits}
 use Rattle.service_day.specs.Moments.{shown_form, shown_part, fraction_part, offset_part, instant_if, moment_of}
-use Rattle.service_day.specs.Utc.{IsMoment, moment_text}
+use Rattle.gw_base.specs.Moments.{IsMoment}
+use Rattle.service_day.specs.Utc.{moment_text}
 use Rattle.service_day.specs.declared.days.DayForm.TheVariants.{Either}
 use Rattle.service_day.specs.declared.moments.Offset.TheVariants.{Ahead}
 use Rattle.service_day.specs.declared.zones.Rules.{Rules}

@@ -6,7 +6,8 @@ use Rattle.jiff_core.proofs.CalendarLemmas.{days_in_month_bounds}
 use Rattle.service_day.specs.Days.{IsDay, year_of, month_of, day_of_month}
 use Rattle.service_day.specs.DayTexts.{dashed_text}
 use Rattle.service_day.specs.Digits.{has_form, two_at, four_at, two_digits, four_digits}
-use Rattle.service_day.specs.Utc.{IsMoment, moment_at, seconds_at, utc_form, utc_of, moment_text}
+use Rattle.gw_base.specs.Moments.{IsMoment}
+use Rattle.service_day.specs.Utc.{moment_at, seconds_at, utc_form, utc_of, moment_text}
 use Rattle.service_day.proofs.FormLemmas.{is_digit-written}
 use Rattle.service_day.proofs.DayLemmas.{date_number-parts, year_high, month_high, day_high}
 

@@ -6,7 +6,8 @@ use Rattle.jiff_core.specs.Calendar.{IsWithin}
 use Rattle.service_day.specs.Digits.{is_digit, has_form, two_at, four_at}
 use Rattle.service_day.specs.Days.{date_number}
 use Rattle.service_day.specs.Starts.{local_second}
-use Rattle.service_day.specs.Utc.{is_clock, is_moment}
+use Rattle.gw_base.specs.Moments.{is_moment}
+use Rattle.service_day.specs.Utc.{is_clock}
 use Rattle.service_day.specs.declared.moments.Offset.{Offset}
 use Rattle.service_day.specs.declared.moments.Offset.TheVariants.{Local, Ahead}
 use Rattle.service_day.specs.declared.zones.Rules.{Rules}

@@ -1,16 +1,9 @@
 -- UTC moments in the form `YYYY-MM-DDThh:mm:ssZ` (ISO 8601), of the years 1970 to 9998.
-use Rattle.std.specs.Prelude.{ℕ, ◌+◌, ◌*◌, ◌/◌, ◌%◌, Bool, ◌&&◌, nat_lt, if◌then◌else◌, ℤ, pos, ◌+ℤ◌, ◌*ℤ◌, ◌≤ℤ◌, int_le, unsigned_abs, Option, Some, None, List, [], ◌∷◌, ◌++◌, codes}
+use Rattle.std.specs.Prelude.{ℕ, ◌+◌, ◌*◌, ◌/◌, ◌%◌, Bool, ◌&&◌, nat_lt, if◌then◌else◌, ℤ, pos, ◌+ℤ◌, ◌*ℤ◌, unsigned_abs, Option, Some, None, List, [], ◌∷◌, ◌++◌, codes}
+use Rattle.gw_base.specs.Moments.{is_moment}
 use Rattle.service_day.specs.Digits.{has_form, two_at, four_at, two_digits}
 use Rattle.service_day.specs.Days.{date_number}
 use Rattle.service_day.specs.DayTexts.{dashed_text}
-
--- seconds since 1970 that are a moment: from 1970-01-01T00:00:00Z to 9998-12-31T23:59:59Z
-abbrev pub IsMoment : ℤ → Type 0
-IsMoment secs = (pos 0 ≤ℤ secs) × (secs ≤ℤ pos 253370764799)
-
--- the same as a test, for the definitions that compute
-abbrev pub is_moment : ℤ → Bool
-is_moment secs = int_le (pos 0) secs && int_le secs (pos 253370764799)
 
 -- a clock shows this hour, minute and second
 abbrev pub is_clock : ℕ → ℕ → ℕ → Bool

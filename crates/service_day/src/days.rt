@@ -5,7 +5,7 @@ ghost use Rattle.std.specs.Ordering.{int_cmp};
 ghost use Rattle.jiff_core.specs.Calendar.{weekday_number};
 ghost use Rattle.jiff_core.specs.Date.{epoch_day};
 ghost use Rattle.service_day.specs.Days.{IsDay, date_number, year_of, month_of, day_of_month};
-ghost use Rattle.service_day.specs.Utc.{IsMoment};
+ghost use Rattle.gw_base.specs.Moments.{IsMoment};
 
 use jiff_core::civil::Date;
 use std::cmp::Ordering;

@@ -2,7 +2,7 @@
 ghost use Rattle.std.specs.Prelude.{◌≡◌, ◌↔◌, ◌≤◌, ◌<◌, pos, length, Some, IsOk, IsSome, IfOk, IfErr, IfSome, option_map};
 ghost use Rattle.jiff_core.specs.Calendar.{IsBetween};
 ghost use Rattle.service_day.specs.Moments as spec;
-ghost use Rattle.service_day.specs.Utc.{IsMoment};
+ghost use Rattle.gw_base.specs.Moments.{IsMoment};
 
 use crate::days::Day;
 use crate::digits::{four_at, has_form, is_digit, two_at};

@@ -6,7 +6,7 @@ ghost use Rattle.jiff_core.specs.DateTime.{civil_nanos};
 ghost use Rattle.service_day.specs.Civil as civil;
 ghost use Rattle.service_day.specs.Starts as spec;
 ghost use Rattle.service_day.specs.Starts.{IsDayStart, IsServiceDay};
-ghost use Rattle.service_day.specs.Utc.{IsMoment};
+ghost use Rattle.gw_base.specs.Moments.{IsMoment};
 
 use crate::days::Day;
 use crate::zones::Zone;

@@ -1,7 +1,8 @@
 //! UTC moments of the years 1970 to 9998 as texts, `YYYY-MM-DDThh:mm:ssZ`, read and written.
 ghost use Rattle.std.specs.Prelude.{◌≡◌, ◌+◌, ◌*◌, ◌/◌, ◌%◌, ◌<◌, ◌+ℤ◌, ◌*ℤ◌, pos, unsigned_abs, Some, length, IsTrue, IfSome};
 ghost use Rattle.service_day.specs.Utc as spec;
-ghost use Rattle.service_day.specs.Utc.{IsMoment, utc_of, moment_text};
+ghost use Rattle.gw_base.specs.Moments.{IsMoment};
+ghost use Rattle.service_day.specs.Utc.{utc_of, moment_text};
 
 use crate::day_texts::day_text;
 use crate::days::Day;

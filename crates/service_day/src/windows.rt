@@ -1,6 +1,6 @@
 //! Windows: up to 32 service days in a row, whose starts are computed once.
 ghost use Rattle.std.specs.Prelude.{◌≡◌, ◌≤◌, ◌+ℤ◌, ◌-ℤ◌, IsOk, IfOk, IfSome, pos, length};
-ghost use Rattle.service_day.specs.Utc.{IsMoment};
+ghost use Rattle.gw_base.specs.Moments.{IsMoment};
 ghost use Rattle.service_day.specs.Starts.{IsDayStart, IsServiceDay};
 
 use crate::days::Day;

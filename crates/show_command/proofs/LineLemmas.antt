@@ -7,7 +7,7 @@ use Rattle.std.proofs.lemmas.Option.{none-some}
 use Rattle.std.proofs.lemmas.List.Elements.{All-get_or, All-from_recursion}
 use Rattle.std.specs.List.{AllByRecursion, list_all}
 use Rattle.service_day.specs.Starts.{IsDayStart}
-use Rattle.service_day.specs.Utc.{IsMoment}
+use Rattle.gw_base.specs.Moments.{IsMoment}
 use Rattle.service_day.specs.Windows.{start_in}
 use Rattle.stop_schedule.proofs.StopStep.{all-at}
 use Rattle.stop_schedule.specs.Held.{are_in_range, is_in_range, stops_held}

@@ -3,7 +3,8 @@
 use Rattle.std.specs.Prelude.{ℕ, ℤ, List, [], ◌++◌, codes, decimal, length, slice_get, unwrap_or}
 use Rattle.std.specs.List.{enumerate_from, flat_map, zip}
 use Rattle.service_day.specs.DayTexts.{dashed_text}
-use Rattle.service_day.specs.Utc.{IsMoment, moment_text}
+use Rattle.gw_base.specs.Moments.{IsMoment}
+use Rattle.service_day.specs.Utc.{moment_text}
 use Rattle.stop_schedule.specs.Table.{Table}
 use Rattle.stop_schedule.specs.declared.stop_times.StopRow.{StopRow}
 use Rattle.journey_model.specs.FaultTexts.{fault_text}

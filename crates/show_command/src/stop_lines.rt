@@ -1,7 +1,7 @@
 //! The lines of a journey: one where it is cancelled, and else one for each of its stops.
 ghost use Rattle.std.specs.Prelude.{◌≡◌, ◌++◌, ◌<◌, OnOk, IfOk, All, codes, decimal, length, true};
 ghost use Rattle.std.specs.List.{zip};
-ghost use Rattle.service_day.specs.Utc.{IsMoment};
+ghost use Rattle.gw_base.specs.Moments.{IsMoment};
 ghost use Rattle.stop_schedule.specs.Stops.{are_known};
 ghost use Rattle.show_command.specs.Lines as spec;
 

@@ -1,6 +1,6 @@
 -- A delivery that was written says the same when it is read again.
 use Rattle.std.proofs.Common.{List, All, ℤ, arith}
-use Rattle.service_day.specs.Utc.{IsMoment}
+use Rattle.gw_base.specs.Moments.{IsMoment}
 use Rattle.stop_schedule.specs.Sound.{IsSound}
 use Rattle.journey_model.specs.Schedules.{Schedule}
 use Rattle.journey_model.specs.declared.readings.DatedReading.{DatedReading}

@@ -6,7 +6,8 @@ use Rattle.gw_base.specs.declared.member.Member.{Member}
 use Rattle.serde_json.specs.Data.{Data}
 use Rattle.service_day.specs.Days.{IsDay}
 use Rattle.service_day.specs.DayTexts.{dashed_text}
-use Rattle.service_day.specs.Utc.{IsMoment, moment_text}
+use Rattle.gw_base.specs.Moments.{IsMoment}
+use Rattle.service_day.specs.Utc.{moment_text}
 use Rattle.service_day.specs.declared.zones.Rules.{Rules}
 use Rattle.stop_schedule.specs.Sound.{IsSound}
 use Rattle.stop_schedule.specs.declared.stop_times.StopRow.{StopRow}

@@ -4,7 +4,7 @@ use Rattle.std.specs.List.{list_all}
 use Rattle.std.proofs.lemmas.Bool.{and_parts, leb-true}
 use Rattle.std.proofs.lemmas.Int.{ints}
 use Rattle.service_day.specs.Starts.{IsDayStart}
-use Rattle.service_day.specs.Utc.{IsMoment}
+use Rattle.gw_base.specs.Moments.{IsMoment}
 use Rattle.service_day.specs.Windows.{start_in}
 use Rattle.stop_schedule.specs.Ids.{are_ids}
 use Rattle.stop_schedule.specs.Planned.{planned}

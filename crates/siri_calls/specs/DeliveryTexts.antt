@@ -4,7 +4,8 @@ use Rattle.std.specs.Prelude.{ℕ, ℤ, ◌+◌, Bool, true, false, List, [], �
 use Rattle.json.specs.Print.{quoted}
 use Rattle.serde_json.specs.Written.{comma_if}
 use Rattle.service_day.specs.DayTexts.{dashed_text}
-use Rattle.service_day.specs.Utc.{IsMoment, moment_text}
+use Rattle.gw_base.specs.Moments.{IsMoment}
+use Rattle.service_day.specs.Utc.{moment_text}
 use Rattle.stop_schedule.specs.Planned.{planned}
 use Rattle.stop_schedule.specs.Table.{Table}
 use Rattle.stop_schedule.specs.declared.stop_times.StopRow.{StopRow}

@@ -2,7 +2,7 @@
 use Rattle.std.specs.Prelude.{IfSome}
 use Rattle.service_day.specs.Days.{IsDay}
 use Rattle.service_day.specs.Starts.{IsDayStart}
-use Rattle.service_day.specs.Utc.{IsMoment}
+use Rattle.gw_base.specs.Moments.{IsMoment}
 use Rattle.service_day.specs.Windows.{start_in}
 use Rattle.journey_model.specs.Schedules as schedules
 use Rattle.journey_model.specs.Schedules.{Schedule}

@@ -3,7 +3,7 @@
 ghost use Rattle.std.specs.Prelude.{◌≡◌, ◌++◌, map, Ok, Some, IfOk, IfErr, option_map};
 ghost use Rattle.std.specs.Option.{ForSome};
 ghost use Rattle.json_tree.specs.Trees.{view};
-ghost use Rattle.service_day.specs.Utc.{IsMoment};
+ghost use Rattle.gw_base.specs.Moments.{IsMoment};
 ghost use Rattle.siri_calls.specs.Calls as spec;
 ghost use Rattle.siri_calls.specs.Seen.{call_of, calls_of};
 ghost use Rattle.siri_calls.specs.Shown.{ok_map, instant_of, trees_of, IsFaultOf};

@@ -1,6 +1,6 @@
 //! The calls of a journey (SIRI 2.0, RecordedCall and EstimatedCall), as they are read.
 ghost use Rattle.std.specs.Option.{ForSome};
-ghost use Rattle.service_day.specs.Utc.{IsMoment};
+ghost use Rattle.gw_base.specs.Moments.{IsMoment};
 
 /// A call that is read.
 #[derive(Clone, Copy)]

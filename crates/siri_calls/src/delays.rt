@@ -4,7 +4,7 @@ ghost use Rattle.std.specs.Prelude.{◌≡◌, ◌≤ℤ◌, ◌+ℤ◌, ◌-ℤ
 ghost use Rattle.std.specs.Option.{ForSome};
 ghost use Rattle.journey_model.specs.Runs.{planned_at as planned_of};
 ghost use Rattle.journey_model.specs.Times as times;
-ghost use Rattle.service_day.specs.Utc.{IsMoment};
+ghost use Rattle.gw_base.specs.Moments.{IsMoment};
 ghost use Rattle.siri_calls.specs.Judged as spec;
 ghost use Rattle.siri_calls.specs.MatchedCalls.{IsPlanned, placed_call};
 ghost use Rattle.siri_calls.specs.TripRuns.{run_over};

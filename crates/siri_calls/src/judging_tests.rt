@@ -1,6 +1,6 @@
 //! What journeys of a small timetable are.
 ghost use Rattle.std.specs.Option.{ForSome};
-ghost use Rattle.service_day.specs.Utc.{IsMoment};
+ghost use Rattle.gw_base.specs.Moments.{IsMoment};
 
 use crate::calls::Call;
 use crate::header::Header;

@@ -1,7 +1,7 @@
 //! Deliveries of estimated timetables, written (SIRI 2.0, EstimatedTimetableDelivery; in JSON after SIRI Lite).
 //! `write_delivery` meets `specs/DeliveryTree.antt`.
 ghost use Rattle.std.specs.Prelude.{◌≡◌, ◌++◌, All, IfOk, OnOk};
-ghost use Rattle.service_day.specs.Utc.{IsMoment};
+ghost use Rattle.gw_base.specs.Moments.{IsMoment};
 ghost use Rattle.journey_model.specs.Schedules.{FitsSchedule, schedule_of};
 ghost use Rattle.siri_calls.specs.DeliveryTree.{delivery_text};
 ghost use Rattle.siri_calls.specs.DeliveryTexts.{head_text, tail_text};

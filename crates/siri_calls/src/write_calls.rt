@@ -1,7 +1,7 @@
 //! The calls of a journey (SIRI 2.0, EstimatedCall), written. The functions meet `specs/DeliveryTexts.antt`.
 ghost use Rattle.std.specs.Prelude.{◌≡◌, ◌++◌, ◌+◌, ◌<◌, true, false, length, slice_get, Some, OnOk};
 ghost use Rattle.serde_json.specs.Written.{comma_if};
-ghost use Rattle.service_day.specs.Utc.{IsMoment};
+ghost use Rattle.gw_base.specs.Moments.{IsMoment};
 ghost use Rattle.stop_schedule.specs.Planned.{planned};
 ghost use Rattle.stop_schedule.specs.Stops.{are_known, is_timed};
 ghost use Rattle.journey_model.specs.Readings.{fits_trip, is_near};

@@ -1,6 +1,6 @@
 //! Journeys (SIRI 2.0, EstimatedVehicleJourney), written. The functions meet `specs/DeliveryTexts.antt`.
 ghost use Rattle.std.specs.Prelude.{◌≡◌, ◌++◌, ◌<◌, true, false, length, All, OnOk};
-ghost use Rattle.service_day.specs.Utc.{IsMoment};
+ghost use Rattle.gw_base.specs.Moments.{IsMoment};
 ghost use Rattle.stop_schedule.specs.Seen.{seen};
 ghost use Rattle.stop_schedule.specs.Stops.{are_known};
 ghost use Rattle.journey_model.specs.Readings.{fits_trip};

@@ -1,5 +1,5 @@
 //! The region, with its spans by slot.
-ghost use Rattle.std.specs.Prelude.{◌≡◌, ◌+◌, ◌-◌, ◌∷◌, [], ◌++◌, ◌<◌, ◌≤◌, length, None, Some, IsSome, IsOk, OnOk, OnErr, unwrap_or};
+ghost use Rattle.std.specs.Prelude.{◌≡◌, ◌+◌, ◌-◌, ◌^◌, ◌∷◌, [], ◌++◌, ◌<◌, ◌≤◌, length, None, Some, IsSome, IsOk, OnOk, OnErr, unwrap_or};
 ghost use Rattle.span_pool.specs.Spans.{live_bytes, bytes_of, without, AreApart};
 
 use crate::order::{make_rows, sweep, take_slot};
@@ -170,7 +170,9 @@ impl SpanPool {
     /// The bytes of the live spans together.
     pub fn live(&self) -> u64
         ensures value { result ≡ live_bytes self.now.spans }
+        ensures fits { result < 2 ^ 63 }
     {
+        let _region = self.bytes.as_slice();
         self.live as u64
     }
 
@@ -186,6 +188,20 @@ impl SpanPool {
         ensures value { result ≡ live_bytes self.now.spans + self.now.dead }
     {
         self.bytes.len() as u64
+    }
+
+    /// How many more bytes it takes without memory.
+    pub fn spare_bytes(&self) -> u64
+        ensures value { result ≡ self.now.spare_bytes }
+    {
+        self.spare_bytes as u64
+    }
+
+    /// How many more spans it takes without memory.
+    pub fn spare_spans(&self) -> u64
+        ensures value { result ≡ self.now.spare_spans }
+    {
+        self.spare_spans as u64
     }
 
     /// That no two live spans have one slot.

@@ -1,7 +1,7 @@
 //! One walk over the stops of a trip with their readings. The functions meet `specs/Shortest.antt`.
 ghost use Rattle.std.specs.Prelude.{◌≡◌, ◌||◌, ◌-ℤ◌, ◌≤ℤ◌, ◌<ℤ◌, ◌^◌, pos, not, ℕ, ℤ, List as Values, [], true, zip, IfSome, IfOk};
 ghost use Rattle.std.specs.Option.{option_map_or};
-ghost use Rattle.service_day.specs.Utc.{IsMoment};
+ghost use Rattle.gw_base.specs.Moments.{IsMoment};
 ghost use Rattle.stop_schedule.specs.Planned.{planned};
 ghost use Rattle.journey_model.specs.Dated.{run_of};
 ghost use Rattle.journey_model.specs.Propagation.{later_by};

@@ -18,7 +18,8 @@ digits-are-ascii [] digits i = omega arith
 digits-are-ascii (byte ∷ text) digits zero = digit-is-low byte (and-left (is_digit byte) _ digits)
 digits-are-ascii (byte ∷ text) digits (suc i) = digits-are-ascii text (and-right (is_digit byte) _ digits) i
 
-by-digits : (a b digits : Bool) (value : Option ℕ) → is_some (cond (a || b || not digits) None value) ≡ true → digits ≡ true
+by-digits : (a b digits : Bool) (value : Option ℕ) → is_some (cond (a || b || not digits) None value) ≡ true
+    → digits ≡ true
 by-digits a b true value some = refl
 by-digits true b false value some = absurd (false≢true some)
 by-digits false true false value some = absurd (false≢true some)
@@ -27,7 +28,8 @@ by-digits false false false value some = absurd (false≢true some)
 pub sequence-is-text : (text : List ℕ) → is_some (sequence text) ≡ true → is_utf8 text ≡ true
 unfolding sequence
 sequence-is-text text some =
-    ascii-text text (digits-are-ascii text (by-digits (length text == 0) (nat_lt 10 (length text)) (are_digits text) _ some))
+    ascii-text text
+    (digits-are-ascii text (by-digits (length text == 0) (nat_lt 10 (length text)) (are_digits text) _ some))
 
 -- ---- times
 
@@ -39,8 +41,10 @@ colon-is-low : (byte : ℕ) → (byte == 58) ≡ true → byte < 128
 colon-is-low byte colon = grind (arith, nat_tests, colon)
 
 sixty-is-low : (tens ones : ℕ) → is_sixty tens ones ≡ true → (tens < 128) × (ones < 128)
-sixty-is-low tens ones sixty =
-    (digit-is-low tens (and-left (is_digit tens) _ sixty), digit-is-low ones (and-left (is_digit ones) _ (and-right (is_digit tens) _ sixty)))
+sixty-is-low tens ones sixty = (
+  digit-is-low tens (and-left (is_digit tens) _ sixty),
+  digit-is-low ones (and-left (is_digit ones) _ (and-right (is_digit tens) _ sixty)),
+)
 
 clock-is-ascii : (tens : ℕ) (rest : List ℕ) → length rest ≡ 7 → is_clock tens rest ≡ true → IsAscii rest
 clock-is-ascii tens (h ∷ c ∷ m ∷ n ∷ d ∷ s ∷ t ∷ []) seven all =
@@ -83,7 +87,8 @@ long-clock (tens ∷ rest) eight all =
     first-is-ascii tens rest (digit-is-low tens (and-left (is_digit tens) _ all)) (clock-is-ascii tens rest seven all)
 
 by-length : (text : List ℕ) (seven eight : Bool) → (length text == 7) ≡ seven → (length text == 8) ≡ eight
-    → is_some (cond seven (clock 48 text) (cond eight (clock (slice_index text 0) (drop 1 text)) None)) ≡ true → IsAscii text
+    → is_some (cond seven (clock 48 text) (cond eight (clock (slice_index text 0) (drop 1 text)) None)) ≡ true
+    → IsAscii text
 by-length text true eight is one some =
     let seven : length text ≡ 7 = grind (arith, nat_tests, is) in
     clock-is-ascii 48 text seven (by-clock (is_clock 48 text) _ some)

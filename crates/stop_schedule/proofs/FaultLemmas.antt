@@ -6,7 +6,8 @@ use Rattle.std.specs.Bool.{MatchBool}
 use Rattle.std.specs.Prelude.{⊤}
 use Rattle.std.proofs.lemmas.Bool.Decides.{nat_tests}
 use Rattle.stop_schedule.specs.Faults.{Fits, all_text, any_long, bad_fault, common_fault, fault_if, first_bad, first_fault}
-use Rattle.stop_schedule.specs.Layout.{columns, row_limit}
+use Rattle.stop_schedule.specs.Layout.{columns}
+use Rattle.stop_schedule.specs.Limits.{row_limit}
 use Rattle.stop_schedule.specs.Columns.{column_name}
 use Rattle.stop_schedule.specs.Rows.{column}
 use Rattle.stop_schedule.specs.Sheet.{Row, nth, map_ok, place_then, places_of}
@@ -18,23 +19,27 @@ use Rattle.stop_schedule.specs.declared.table_fault.TableFault.TheVariants.{NotU
 use Rattle.stop_schedule.specs.declared.table_file.TableFile.TheVariants.{Agency, Stops, Routes, Trips, Calendar, CalendarDates, Frequencies, StopTimes}
 
 -- where the first of some columns has no text, not all have
-pub first-no-text : (at : ℕ) (columns : List (Column × Form)) (row : Row) → 0 < length columns → is_utf8 (nth at row) ≡ false → all_text at columns row ≡ false
+pub first-no-text : (at : ℕ) (columns : List (Column × Form)) (row : Row) → 0 < length columns
+    → is_utf8 (nth at row) ≡ false → all_text at columns row ≡ false
 first-no-text at [] row some none = absurd (omega arith)
 first-no-text at (read ∷ later) row some none = rw none refl
 
 -- a place more before others
 pub one-place : (before : List ℕ) (place : ℕ) (answer : Result (List ℕ) TableFault)
-    → map_ok (λ later. before ++ later) (map_ok (λ places. place ∷ places) answer) ≡ map_ok (λ later. (before ++ place ∷ []) ++ later) answer
+    → map_ok (λ later. before ++ later) (map_ok (λ places. place ∷ places) answer)
+    ≡ map_ok (λ later. (before ++ place ∷ []) ++ later) answer
 one-place before place (Ok later) = ap Ok (sym (append_assoc before (place ∷ []) later))
 one-place before place (Err fault) = refl
 
 -- the place of one more column
-pub step-place : (file : TableFile) (names : Row) (items : List (Column × Form)) (i : ℕ) (d : Column × Form) (before : List ℕ) (place : ℕ) (all : Result (List ℕ) TableFault)
+pub step-place : (file : TableFile) (names : Row) (items : List (Column × Form)) (i : ℕ) (d : Column × Form)
+    (before : List ℕ) (place : ℕ) (all : Result (List ℕ) TableFault)
     → i < length items → column (column_name (get_or items i d).0) names ≡ Some place
     → all ≡ map_ok (λ later. before ++ later) (places_of file names (drop i items))
     → all ≡ map_ok (λ later. (before ++ place ∷ []) ++ later) (places_of file names (drop (i + 1) items))
 step-place file names items i d before place all within at so_far =
-    let join : Result (List ℕ) TableFault → Result (List ℕ) TableFault = λ answer. map_ok (λ later. before ++ later) answer in
+    let join : Result (List ℕ) TableFault → Result (List ℕ) TableFault =
+    λ answer. map_ok (λ later. before ++ later) answer in
     let cell : drop i items ≡ get_or items i d ∷ drop (i + 1) items = rw (add-one i) (drop-cons items i d within) in
     let rest = places_of file names (drop (i + 1) items) in
     so_far ∙ ap (λ later. join (places_of file names later)) cell
@@ -53,16 +58,19 @@ few-rows CalendarDates = omega arith
 few-rows Frequencies = omega arith
 few-rows StopTimes = omega arith
 
-by-limit : (long over : Bool) (fault : TableFault) → fault_if (long || over) fault ≡ None → (long ≡ false) × (over ≡ false)
+by-limit : (long over : Bool) (fault : TableFault) → fault_if (long || over) fault ≡ None
+    → (long ≡ false) × (over ≡ false)
 by-limit true over fault none = cc
 by-limit false true fault none = cc
 by-limit false false fault none = (refl, refl)
 
-by-bad : (file : TableFile) (number : ℕ) (bad : Option Column) (later : Option TableFault) → option_or (bad_fault file number bad) later ≡ None → (bad ≡ None) × (later ≡ None)
+by-bad : (file : TableFile) (number : ℕ) (bad : Option Column) (later : Option TableFault)
+    → option_or (bad_fault file number bad) later ≡ None → (bad ≡ None) × (later ≡ None)
 by-bad file number None later none = (refl, none)
 by-bad file number (Some column) later none = cc
 
-by-text : (texts : Bool) (later : Option TableFault) (fault : TableFault) → cond texts later (Some fault) ≡ None → (texts ≡ true) × (later ≡ None)
+by-text : (texts : Bool) (later : Option TableFault) (fault : TableFault) → cond texts later (Some fault) ≡ None
+    → (texts ≡ true) × (later ≡ None)
 by-text true later fault none = (refl, none)
 by-text false later fault none = cc
 
@@ -78,17 +86,20 @@ fits-from file number row none =
 pub both-none : (first second : Option TableFault) → first ≡ None → second ≡ None → option_or first second ≡ None
 both-none first second one two = rw (one, two) refl
 
-pub second-some : (first second : Option TableFault) (fault : TableFault) → first ≡ None → second ≡ Some fault → option_or first second ≡ Some fault
+pub second-some : (first second : Option TableFault) (fault : TableFault) → first ≡ None → second ≡ Some fault
+    → option_or first second ≡ Some fault
 second-some first second fault one two = rw (one, two) refl
 
 module _ (fault : List Row → Row → Option TableFault) where
   -- rows behind one without fault
-  pub next-row : (before : List Row) (row : Row) (rows all : List Row) (told : Option TableFault) → all ≡ row ∷ rows → fault before row ≡ None
+  pub next-row : (before : List Row) (row : Row) (rows all : List Row) (told : Option TableFault) → all ≡ row ∷ rows
+      → fault before row ≡ None
       → told ≡ first_fault fault before all → told ≡ first_fault fault (before ++ row ∷ []) rows
   next-row before row rows all told is none so_far = so_far ∙ rw (is, none) refl
 
   -- rows of which the first has a fault
-  pub fault-here : (before : List Row) (row : Row) (rows all : List Row) (told : Option TableFault) (found : TableFault) → all ≡ row ∷ rows → fault before row ≡ Some found
+  pub fault-here : (before : List Row) (row : Row) (rows all : List Row) (told : Option TableFault)
+      (found : TableFault) → all ≡ row ∷ rows → fault before row ≡ Some found
       → told ≡ first_fault fault before all → told ≡ Some found
   fault-here before row rows all told found is here so_far = so_far ∙ rw (is, here) refl
 

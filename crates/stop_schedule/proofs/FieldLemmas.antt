@@ -23,14 +23,16 @@ read-or-empty None empty none = none
 read-or-empty (Some slice) empty none = refl
 
 -- the field that was read at a place, or an empty one
-pub field-read : (read : Option (Bor (List ℕ))) (empty : Bor (List ℕ)) (fields : List (List ℕ)) (place : ℕ) → empty.now ≡ []
+pub field-read : (read : Option (Bor (List ℕ))) (empty : Bor (List ℕ)) (fields : List (List ℕ)) (place : ℕ)
+    → empty.now ≡ []
     → option_map (λ slice. slice.now) read ≡ field_at fields place
     → (unwrap_or read empty).now ≡ unwrap_or (slice_get fields place) []
 field-read read empty fields place none is =
     read-or-empty read empty none ∙ ap (λ (o : Option (List ℕ)). unwrap_or o []) (is ∙ field_at-is fields place)
 
 -- a place where the first name stands is the column's, and where no name stands there is no column
-pub column-found : (name : List ℕ) (row : List (List ℕ)) (place : ℕ) → place < length row → bytes_eq (field_of place row) name ≡ true
+pub column-found : (name : List ℕ) (row : List (List ℕ)) (place : ℕ) → place < length row
+    → bytes_eq (field_of place row) name ≡ true
     → ((k : ℕ) → k < place → bytes_eq (field_of k row) name ≡ false) → column name row ≡ Some place
 column-found name row place within here before =
     let first = position_or_len_is (λ field. bytes_eq (trimmed field) name) row place [] (omega arith)
@@ -38,7 +40,8 @@ column-found name row place within here before =
     (λ _. rw (← unwrap_or-slice_get row place []) here) in
     rw (first, lt-ltb place (length row) within) refl
 
-pub column-missing : (name : List ℕ) (row : List (List ℕ)) → ((k : ℕ) → k < length row → bytes_eq (field_of k row) name ≡ false) → column name row ≡ None
+pub column-missing : (name : List ℕ) (row : List (List ℕ))
+    → ((k : ℕ) → k < length row → bytes_eq (field_of k row) name ≡ false) → column name row ≡ None
 column-missing name row none =
     let all = position_or_len_is (λ field. bytes_eq (trimmed field) name) row (length row) [] (omega arith)
     (λ k below. rw (← unwrap_or-slice_get row k []) (none k below))

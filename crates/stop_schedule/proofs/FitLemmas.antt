@@ -1,6 +1,6 @@
 -- What was read of a folder is in the ranges that a timetable keeps.
 use mathlib.Core.List.{reverse-cons}
-use Rattle.std.proofs.Common.{◌≡◌, ◌∙◌, ◌≤◌, ◌<◌, ◌+◌, ◌-◌, ◌*◌, ◌/◌, ◌&&◌, ◌||◌, ◌++◌, ℕ, zero, suc, Bool, true, false, cond, nat_eq, nat_le, nat_lt, List, [], ◌∷◌, length, length-append, map, take, drop, reverse, get_or, slice_get, Option, Some, None, refl, sym, ap, arith, add-one}
+use Rattle.std.proofs.Common.{◌≡◌, ◌∙◌, ◌≤◌, ◌<◌, ◌+◌, ◌-◌, ◌*◌, ◌/◌, ◌&&◌, ◌||◌, ℕ, zero, suc, Bool, true, false, cond, nat_eq, nat_le, nat_lt, List, [], ◌∷◌, length, length-append, take, drop, reverse, get_or, slice_get, Option, Some, None, refl, sym, ap, arith}
 use Rattle.std.specs.Prelude.{⊤}
 use Rattle.std.specs.List.{AllZip, list_all, list_any}
 use Rattle.std.specs.Cmp.Derive.{both_true}
@@ -16,7 +16,7 @@ use Rattle.stop_schedule.specs.Held.{are_in_range, is_in_range}
 use Rattle.stop_schedule.specs.Ids.{are_ids, has_id}
 use Rattle.stop_schedule.specs.Keeping.{HasTrips, all_loaded, are_below, are_loaded, are_times, is_loaded}
 use Rattle.stop_schedule.specs.Rising.{all_greater, is_rising}
-use Rattle.stop_schedule.specs.StopTimes.{filled, filled_from, nearest, one_further, or_further, stop_row, time_between, times_at, times_or}
+use Rattle.stop_schedule.specs.StopTimes.{filled, filled_from, nearest, or_further, stop_row, time_between, times_or}
 use Rattle.stop_schedule.specs.Stops.{are_known, are_rising, are_stops_of, are_timed, is_timed}
 use Rattle.stop_schedule.specs.declared.assembling.Assembled.{Assembled}
 use Rattle.stop_schedule.specs.declared.carried.CarriedTrip.{CarriedTrip}
@@ -28,12 +28,14 @@ use Rattle.stop_schedule.proofs.KeepingLemmas.{below-at, loaded-at}
 
 -- ---- parts of a list
 
-all-take : {A : Type 0} (test : A → Bool) (n : ℕ) (xs : List A) → list_all test xs ≡ true → list_all test (take n xs) ≡ true
+all-take : {A : Type 0} (test : A → Bool) (n : ℕ) (xs : List A) → list_all test xs ≡ true
+    → list_all test (take n xs) ≡ true
 all-take test zero xs all = refl
 all-take test (suc n) [] all = refl
 all-take test (suc n) (x ∷ xs) all = both_true (and-left (test x) _ all) (all-take test n xs (and-right (test x) _ all))
 
-all-drop : {A : Type 0} (test : A → Bool) (n : ℕ) (xs : List A) → list_all test xs ≡ true → list_all test (drop n xs) ≡ true
+all-drop : {A : Type 0} (test : A → Bool) (n : ℕ) (xs : List A) → list_all test xs ≡ true
+    → list_all test (drop n xs) ≡ true
 all-drop test zero xs all = all
 all-drop test (suc n) [] all = refl
 all-drop test (suc n) (x ∷ xs) all = all-drop test n xs (and-right (test x) _ all)
@@ -41,7 +43,8 @@ all-drop test (suc n) (x ∷ xs) all = all-drop test n xs (and-right (test x) _ 
 all-reverse : {A : Type 0} (test : A → Bool) (xs : List A) → list_all test xs ≡ true → list_all test (reverse xs) ≡ true
 all-reverse test [] all = refl
 all-reverse test (x ∷ xs) all =
-    rw (reverse-cons x xs, list_all-append test (reverse xs) (x ∷ [])) (both_true (all-reverse test xs (and-right (test x) _ all)) (both_true (and-left (test x) _ all) refl))
+    rw (reverse-cons x xs, list_all-append test (reverse xs) (x ∷ []))
+    (both_true (all-reverse test xs (and-right (test x) _ all)) (both_true (and-left (test x) _ all) refl))
 
 -- ---- the times of stops
 
@@ -49,10 +52,13 @@ FoundFew : Option (ℕ × (ℕ × ℕ)) → Type 0
 FoundFew None = ⊤
 FoundFew (Some found) = (found.1.0 ≤ 359999) × (found.1.1 ≤ 359999)
 
-few-further : (times : Option (ℕ × ℕ)) (later : Option (ℕ × (ℕ × ℕ))) → are_times times ≡ true → FoundFew later → FoundFew (or_further times later)
+few-further : (times : Option (ℕ × ℕ)) (later : Option (ℕ × (ℕ × ℕ))) → are_times times ≡ true → FoundFew later
+    → FoundFew (or_further times later)
 unfolding FoundFew
-few-further (Some times) later few more =
-    (leb-true times.0 359999 (and-left (nat_le times.0 359999) _ few), leb-true times.1 359999 (and-right (nat_le times.0 359999) _ few))
+few-further (Some times) later few more = (
+  leb-true times.0 359999 (and-left (nat_le times.0 359999) _ few),
+  leb-true times.1 359999 (and-right (nat_le times.0 359999) _ few),
+)
 few-further None None few more = tt
 few-further None (Some found) few more = more
 
@@ -60,7 +66,8 @@ nearest-few : (stops : ℕ) (held : List LoadedStop) → list_all (is_loaded sto
 unfolding FoundFew
 nearest-few stops [] all = tt
 nearest-few stops (stop ∷ held) all =
-    few-further stop.times (nearest held) (and-right (nat_lt stop.stop.0 stops) _ (and-left (is_loaded stops stop) _ all))
+    few-further stop.times (nearest held)
+    (and-right (nat_lt stop.stop.0 stops) _ (and-left (is_loaded stops stop) _ all))
     (nearest-few stops held (and-right (is_loaded stops stop) _ all))
 
 part-of : (span back ahead : ℕ) → span * (back + 1) / (back + ahead + 2) ≤ span
@@ -69,7 +76,8 @@ part-of span back ahead =
     let less : back + 1 ≤ back + ahead + 2 = omega arith in
     let more : span * (back + 1) ≤ span * (back + ahead + 2) = mul-le-mul_left span less in omega (arith, more))
 
-between-few : (before after : Option (ℕ × (ℕ × ℕ))) → FoundFew before → FoundFew after → time_between before after ≤ 359999
+between-few : (before after : Option (ℕ × (ℕ × ℕ))) → FoundFew before → FoundFew after
+    → time_between before after ≤ 359999
 unfolding FoundFew
 between-few None after first last = omega arith
 between-few (Some before) None first last = omega arith
@@ -89,51 +97,64 @@ timed-or (Some times) between few less = few
 module _ (stops : ℕ) (all : List LoadedStop) (sound : list_all (is_loaded stops) all ≡ true) where
   row-timed : (place : ℕ) (stop : LoadedStop) → is_loaded stops stop ≡ true → is_timed (stop_row all place stop) ≡ true
   row-timed place stop good =
-      timed-or stop.times (time_between (nearest (reverse (take place all))) (nearest (drop (place + 1) all))) (and-right (nat_lt stop.stop.0 stops) _ good)
+      timed-or stop.times (time_between (nearest (reverse (take place all))) (nearest (drop (place + 1) all)))
+      (and-right (nat_lt stop.stop.0 stops) _ good)
       (between-few (nearest (reverse (take place all))) (nearest (drop (place + 1) all))
-      (nearest-few stops (reverse (take place all)) (all-reverse (is_loaded stops) (take place all) (all-take (is_loaded stops) place all sound)))
+      (nearest-few stops (reverse (take place all))
+      (all-reverse (is_loaded stops) (take place all) (all-take (is_loaded stops) place all sound)))
       (nearest-few stops (drop (place + 1) all) (all-drop (is_loaded stops) (place + 1) all sound)))
 
-  each-timed : (place : ℕ) (rest : List LoadedStop) → list_all (is_loaded stops) rest ≡ true → are_timed (filled_from all place rest) ≡ true
+  each-timed : (place : ℕ) (rest : List LoadedStop) → list_all (is_loaded stops) rest ≡ true
+      → are_timed (filled_from all place rest) ≡ true
   each-timed place [] good = refl
   each-timed place (stop ∷ rest) good =
-      both_true (row-timed place stop (and-left (is_loaded stops stop) _ good)) (each-timed (place + 1) rest (and-right (is_loaded stops stop) _ good))
+      both_true (row-timed place stop (and-left (is_loaded stops stop) _ good))
+      (each-timed (place + 1) rest (and-right (is_loaded stops stop) _ good))
 
-each-known : (stops : ℕ) (all : List LoadedStop) (place : ℕ) (rest : List LoadedStop) → list_all (is_loaded stops) rest ≡ true
+each-known : (stops : ℕ) (all : List LoadedStop) (place : ℕ) (rest : List LoadedStop)
+    → list_all (is_loaded stops) rest ≡ true
     → are_known stops (filled_from all place rest) ≡ true
 each-known stops all place [] good = refl
 each-known stops all place (stop ∷ rest) good =
-    both_true (and-left (nat_lt stop.stop.0 stops) _ (and-left (is_loaded stops stop) _ good)) (each-known stops all (place + 1) rest (and-right (is_loaded stops stop) _ good))
+    both_true (and-left (nat_lt stop.stop.0 stops) _ (and-left (is_loaded stops stop) _ good))
+    (each-known stops all (place + 1) rest (and-right (is_loaded stops stop) _ good))
 
 above : (sequence : ℕ) (all : List LoadedStop) (place : ℕ) (rest : List LoadedStop) → all_greater sequence rest ≡ true
     → list_all (λ (other : StopRow). nat_lt sequence other.sequence) (filled_from all place rest) ≡ true
 above sequence all place [] greater = refl
 above sequence all place (stop ∷ rest) greater =
-    both_true (and-left (nat_lt sequence stop.sequence) _ greater) (above sequence all (place + 1) rest (and-right (nat_lt sequence stop.sequence) _ greater))
+    both_true (and-left (nat_lt sequence stop.sequence) _ greater)
+    (above sequence all (place + 1) rest (and-right (nat_lt sequence stop.sequence) _ greater))
 
-rising : (all : List LoadedStop) (place : ℕ) (rest : List LoadedStop) → is_rising rest ≡ true → are_rising (filled_from all place rest) ≡ true
+rising : (all : List LoadedStop) (place : ℕ) (rest : List LoadedStop) → is_rising rest ≡ true
+    → are_rising (filled_from all place rest) ≡ true
 rising all place [] up = refl
 rising all place (stop ∷ rest) up =
-    both_true (above stop.sequence all (place + 1) rest (and-left (all_greater stop.sequence rest) _ up)) (rising all (place + 1) rest (and-right (all_greater stop.sequence rest) _ up))
+    both_true (above stop.sequence all (place + 1) rest (and-left (all_greater stop.sequence rest) _ up))
+    (rising all (place + 1) rest (and-right (all_greater stop.sequence rest) _ up))
 
-as-long : (all : List LoadedStop) (place : ℕ) (rest : List LoadedStop) → length (filled_from all place rest) ≡ length rest
+as-long : (all : List LoadedStop) (place : ℕ) (rest : List LoadedStop)
+    → length (filled_from all place rest) ≡ length rest
 as-long all place [] = refl
 as-long all place (stop ∷ rest) = ap (λ n. suc n) (as-long all (place + 1) rest)
 
-stops-fit : (stops : ℕ) (held : List LoadedStop) → are_loaded stops held ≡ true → are_stops_of stops (filled held) ≡ true
+stops-fit : (stops : ℕ) (held : List LoadedStop) → are_loaded stops held ≡ true
+    → are_stops_of stops (filled held) ≡ true
 stops-fit stops held good =
     let few = and-left (nat_le (length held) 250) _ good in
     let rest = and-right (nat_le (length held) 250) _ good in
     let each = and-right (is_rising held) _ rest in
     let long : nat_le (length (filled held)) 250 ≡ true = rw (as-long held 0 held) few in
-    both_true long (both_true (rising held 0 held (and-left (is_rising held) _ rest)) (both_true (each-known stops held 0 held each) (each-timed stops held each 0 held each)))
+    both_true long (both_true (rising held 0 held (and-left (is_rising held) _ rest))
+    (both_true (each-known stops held 0 held each) (each-timed stops held each 0 held each)))
 
 -- ---- the trips that are carried
 
 fits : ℕ → ℕ → Candidate → Bool
 fits routes stops one = nat_lt one.route routes && are_loaded stops one.stops
 
-each-fits : (routes stops : ℕ) (rows : List StopRow) (trips : List CarriedTrip) (ones : List Candidate) → AllZip (IsOf rows) trips ones
+each-fits : (routes stops : ℕ) (rows : List StopRow) (trips : List CarriedTrip) (ones : List Candidate)
+    → AllZip (IsOf rows) trips ones
     → list_all (fits routes stops) ones ≡ true → list_all (is_in_range routes stops rows) trips ≡ true
 unfolding fits
 each-fits routes stops rows [] [] all good = refl
@@ -142,25 +163,34 @@ each-fits routes stops rows (trip ∷ trips) [] all good = absurd all
 each-fits routes stops rows (trip ∷ trips) (one ∷ ones) all good =
     let here = and-left (fits routes stops one) _ good in
     let route : nat_lt trip.route routes ≡ true = rw all.0.route_is (and-left (nat_lt one.route routes) _ here) in
-    let stops_are : are_stops_of stops (drop trip.first (take trip.end rows)) ≡ true = rw all.0.stops_are (stops-fit stops one.stops (and-right (nat_lt one.route routes) _ here)) in
-    both_true (both_true route (both_true (le-leb trip.first trip.end all.0.ordered) (both_true (le-leb trip.end (length rows) all.0.within) stops_are)))
+    let stops_are : are_stops_of stops (drop trip.first (take trip.end rows)) ≡ true =
+    rw all.0.stops_are (stops-fit stops one.stops (and-right (nat_lt one.route routes) _ here)) in
+    both_true (both_true route
+    (both_true (le-leb trip.first trip.end all.0.ordered)
+    (both_true (le-leb trip.end (length rows) all.0.within) stops_are)))
     (each-fits routes stops rows trips ones all.1 (and-right (fits routes stops one) _ good))
 
-candidates-fit : (lists : Lists) (routes stops n : ℕ) → n ≤ length lists.ids → length lists.routes ≡ length lists.ids → are_below routes lists.routes ≡ true
+candidates-fit : (lists : Lists) (routes stops n : ℕ) → n ≤ length lists.ids → length lists.routes ≡ length lists.ids
+    → are_below routes lists.routes ≡ true
     → all_loaded stops lists.by_trip ≡ true → list_all (fits routes stops) (carried_to lists n) ≡ true
 unfolding fits
 candidates-fit lists routes stops zero within as_many below loaded = refl
 candidates-fit lists routes stops (suc n) within as_many below loaded =
     let route = below-at routes lists.routes n below (omega arith) in
-    let one : fits routes stops (candidate lists n) ≡ true = both_true (lt-ltb (get_or lists.routes n 0) routes route) (loaded-at stops lists.by_trip n loaded) in
-    rw (list_all-append (fits routes stops) (carried_to lists n) (cond (get_or lists.carried n false) (candidate lists n ∷ []) []))
-    (both_true (candidates-fit lists routes stops n (omega arith) as_many below loaded) (by one (get_or lists.carried n false)))
+    let one : fits routes stops (candidate lists n) ≡ true =
+    both_true (lt-ltb (get_or lists.routes n 0) routes route) (loaded-at stops lists.by_trip n loaded) in
+    rw (list_all-append (fits routes stops) (carried_to lists n)
+    (cond (get_or lists.carried n false) (candidate lists n ∷ []) []))
+    (both_true (candidates-fit lists routes stops n (omega arith) as_many below loaded)
+    (by one (get_or lists.carried n false)))
   where
-    by : fits routes stops (candidate lists n) ≡ true → (b : Bool) → list_all (fits routes stops) (cond b (candidate lists n ∷ []) []) ≡ true
+    by : fits routes stops (candidate lists n) ≡ true → (b : Bool)
+        → list_all (fits routes stops) (cond b (candidate lists n ∷ []) []) ≡ true
     by one true = both_true one refl
     by one false = refl
 
-as-many : (rows : List StopRow) (trips : List CarriedTrip) (ones : List Candidate) → AllZip (IsOf rows) trips ones → length trips ≡ length ones
+as-many : (rows : List StopRow) (trips : List CarriedTrip) (ones : List Candidate) → AllZip (IsOf rows) trips ones
+    → length trips ≡ length ones
 as-many rows [] [] all = refl
 as-many rows [] (one ∷ ones) all = absurd all
 as-many rows (trip ∷ trips) [] all = absurd all
@@ -179,16 +209,21 @@ few-ids ids carried (suc n) =
     by false = omega arith
 
 -- all that was read is in the ranges of a timetable
-pub in-range : (lists : Lists) (routes stops kept : List (List ℕ)) (all : Assembled) → HasTrips (length routes) lists.ids lists.routes
-    → all_loaded (length stops) lists.by_trip ≡ true → kept ≡ ids_to lists.ids lists.carried (length lists.ids) → Carries all (carried_to lists (length lists.ids))
+pub in-range : (lists : Lists) (routes stops kept : List (List ℕ)) (all : Assembled)
+    → HasTrips (length routes) lists.ids lists.routes
+    → all_loaded (length stops) lists.by_trip ≡ true → kept ≡ ids_to lists.ids lists.carried (length lists.ids)
+    → Carries all (carried_to lists (length lists.ids))
     → are_in_range kept routes stops all.carried.items all.stop_rows.items ≡ true
 in-range lists routes stops kept all trips loaded is carries =
     let n = length lists.ids in
     let same : length all.carried.items ≡ length kept =
     as-many all.stop_rows.items all.carried.items (carried_to lists n) carries.trips
-    ∙ sym (length-map (carried_to lists n) (λ (one : Candidate). one.id)) ∙ ap length (carried-ids lists n) ∙ ap length (sym is) in
-    let few : length kept ≤ 200000 = let bound = few-ids lists.ids lists.carried n in let most = trips.few in let long = ap length is in omega (arith, bound, most, long) in
-    let equal : nat_eq (length all.carried.items) (length kept) ≡ true = eq-eqb (length all.carried.items) (length kept) same in
+    ∙ sym (length-map (carried_to lists n) (λ (one : Candidate). one.id)) ∙ ap length (carried-ids lists n)
+    ∙ ap length (sym is) in
+    let few : length kept ≤ 200000 = let bound = few-ids lists.ids lists.carried n in let most =
+    trips.few in let long = ap length is in omega (arith, bound, most, long) in
+    let equal : nat_eq (length all.carried.items) (length kept) ≡ true =
+    eq-eqb (length all.carried.items) (length kept) same in
     both_true equal (both_true (le-leb (length kept) 200000 few)
     (each-fits (length routes) (length stops) all.stop_rows.items all.carried.items (carried_to lists n) carries.trips
     (candidates-fit lists (length routes) (length stops) n (omega arith) trips.as_many trips.known loaded)))
@@ -199,20 +234,25 @@ or-last : (b : Bool) → (b || false) ≡ true → b ≡ true
 or-last true e = refl
 or-last false e = e
 
-stands : (ids : List (List ℕ)) (carried : List Bool) (n : ℕ) (id : List ℕ) → n ≤ length ids → has_id id (ids_to ids carried n) ≡ true
+stands : (ids : List (List ℕ)) (carried : List Bool) (n : ℕ) (id : List ℕ) → n ≤ length ids
+    → has_id id (ids_to ids carried n) ≡ true
     → (k : ℕ) × (k < n) × (slice_get ids k ≡ Some id)
 stands ids carried zero id within has = absurd (false≢true has)
 stands ids carried (suc n) id within has =
     by (get_or carried n false) (has_id id (ids_to ids carried n)) refl
-    (sym (list_any-append (bytes_eq id) (ids_to ids carried n) (cond (get_or carried n false) (get_or ids n [] ∷ []) [])) ∙ has)
+    (sym (list_any-append (bytes_eq id) (ids_to ids carried n)
+    (cond (get_or carried n false) (get_or ids n [] ∷ []) [])) ∙ has)
     (stands ids carried n id (omega arith))
   where
-    by : (flag before : Bool) → has_id id (ids_to ids carried n) ≡ before → (before || list_any (bytes_eq id) (cond flag (get_or ids n [] ∷ []) [])) ≡ true
-        → (has_id id (ids_to ids carried n) ≡ true → (k : ℕ) × (k < n) × (slice_get ids k ≡ Some id)) → (k : ℕ) × (k < suc n) × (slice_get ids k ≡ Some id)
+    by : (flag before : Bool) → has_id id (ids_to ids carried n) ≡ before
+        → (before || list_any (bytes_eq id) (cond flag (get_or ids n [] ∷ []) [])) ≡ true
+        → (has_id id (ids_to ids carried n) ≡ true → (k : ℕ) × (k < n) × (slice_get ids k ≡ Some id))
+        → (k : ℕ) × (k < suc n) × (slice_get ids k ≡ Some id)
     by flag true e any earlier = let found = earlier e in (found.0, let less = found.1 in omega (arith, less), found.2)
     by false false e any earlier = absurd (false≢true any)
     by true false e any earlier =
-        let same : id ≡ get_or ids n [] = (bytes_eq-Decides id (get_or ids n [])).0 (or-last (bytes_eq id (get_or ids n [])) any) in
+        let same : id ≡ get_or ids n [] =
+        (bytes_eq-Decides id (get_or ids n [])).0 (or-last (bytes_eq id (get_or ids n [])) any) in
         (n, omega arith, slice_get-get_or ids n [] (omega arith) ∙ ap (λ (one : List ℕ). Some one) (sym same))
 
 pub new-id : (ids : List (List ℕ)) (carried : List Bool) (n : ℕ) → are_ids ids ≡ true → n < length ids

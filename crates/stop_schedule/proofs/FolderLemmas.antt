@@ -34,14 +34,16 @@ use Rattle.stop_schedule.specs.declared.table_fault.TableFault.TheVariants.{Unti
 use Rattle.stop_schedule.specs.declared.table_file.TableFile.TheVariants.{Stops, Routes, Trips, Calendar, CalendarDates, Frequencies, StopTimes}
 
 -- what was read of a row's trip
-pub record IsRow (routes services : List (List ℕ)) (stops_of : List ℕ → List LoadedStop) (one : Candidate) (row : Row) : Type 0 where
+pub record IsRow (routes services : List (List ℕ)) (stops_of : List ℕ → List LoadedStop) (one : Candidate)
+    (row : Row) : Type 0 where
   pub id_is : one.id ≡ nth 0 row
   pub route_is : slice_get routes one.route ≡ Some (nth 1 row)
   pub service_is : slice_get services one.service ≡ Some (nth 2 row)
   pub stops_are : one.stops ≡ stops_of (nth 0 row)
 
 -- what belongs to the items of a list stands at their places
-get_or-map : {A B : Type 0} (f : A → B) (xs : List A) (k : ℕ) (d : B) (e : A) → k < length xs → get_or (map f xs) k d ≡ f (get_or xs k e)
+get_or-map : {A B : Type 0} (f : A → B) (xs : List A) (k : ℕ) (d : B) (e : A) → k < length xs
+    → get_or (map f xs) k d ≡ f (get_or xs k e)
 get_or-map f [] k d e within = absurd (omega arith)
 get_or-map f (x ∷ xs) zero d e within = refl
 get_or-map f (x ∷ xs) (suc k) d e within = get_or-map f xs k d e (omega arith)
@@ -52,7 +54,8 @@ slice_get-in (x ∷ xs) zero d within = refl
 slice_get-in (x ∷ xs) (suc k) d within = slice_get-in xs k d (omega arith)
 
 -- numbers of names
-numbered : (ids : List (List ℕ)) (numbers : List ℕ) (names : List (List ℕ)) (k : ℕ) (d : List ℕ) → AreNumbers ids numbers names → k < length names → slice_get ids (get_or numbers k 0) ≡ Some (get_or names k d)
+numbered : (ids : List (List ℕ)) (numbers : List ℕ) (names : List (List ℕ)) (k : ℕ) (d : List ℕ)
+    → AreNumbers ids numbers names → k < length names → slice_get ids (get_or numbers k 0) ≡ Some (get_or names k d)
 numbered ids [] [] k d are within = absurd (omega arith)
 numbered ids [] (name ∷ names) k d are within = absurd cc
 numbered ids (number ∷ numbers) [] k d are within = absurd (omega arith)
@@ -63,13 +66,21 @@ numbered ids (number ∷ numbers) (name ∷ names) (suc k) d are within =
     numbered ids numbers names k d rest below
 
 -- the candidates of the first places are the rows there that are carried
-pub of_rows : (frequencies trips : List Row) (routes services : List (List ℕ)) (stops_of : List ℕ → List LoadedStop) (lists : Lists)
-    → lists.ids ≡ map (nth 0) trips → AreNumbers routes lists.routes (map (nth 1) trips) → AreNumbers services lists.services (map (nth 2) trips)
+pub of_rows : (frequencies trips : List Row) (routes services : List (List ℕ)) (stops_of : List ℕ → List LoadedStop)
+    (lists : Lists)
+    → lists.ids ≡ map (nth 0) trips → AreNumbers routes lists.routes (map (nth 1) trips)
+    → AreNumbers services lists.services (map (nth 2) trips)
     → lists.carried ≡ map (is_carried frequencies) lists.ids → lists.by_trip ≡ map stops_of lists.ids
-    → (n : ℕ) → n ≤ length trips → AllZip (IsRow routes services stops_of) (carried_to lists n) (carried_rows frequencies (take n trips))
-of_rows frequencies trips routes services stops_of lists ids_are routes_are services_are carried_are stops_are zero within = tt
-of_rows frequencies trips routes services stops_of lists ids_are routes_are services_are carried_are stops_are (suc n) within =
-    rw kept (rw flag (by (is_carried frequencies (nth 0 row)) refl (of_rows frequencies trips routes services stops_of lists ids_are routes_are services_are carried_are stops_are n (omega arith))))
+    → (n : ℕ) → n ≤ length trips
+    → AllZip (IsRow routes services stops_of) (carried_to lists n) (carried_rows frequencies (take n trips))
+of_rows frequencies trips routes services stops_of lists ids_are routes_are services_are carried_are stops_are zero
+    within = tt
+of_rows frequencies trips routes services stops_of lists ids_are routes_are services_are carried_are stops_are (suc n)
+    within =
+    rw kept (rw flag
+    (by (is_carried frequencies (nth 0 row)) refl
+    (of_rows frequencies trips routes services stops_of lists ids_are routes_are services_are carried_are
+    stops_are n (omega arith))))
   where
     row : Row
     row = get_or trips n []
@@ -80,9 +91,11 @@ of_rows frequencies trips routes services stops_of lists ids_are routes_are serv
     id_is : get_or lists.ids n [] ≡ nth 0 row
     id_is = ap (λ (ids : List (List ℕ)). get_or ids n []) ids_are ∙ get_or-map (nth 0) trips n [] [] here
 
-    kept : carried_rows frequencies (take (suc n) trips) ≡ carried_rows frequencies (take n trips) ++ carried_rows frequencies (row ∷ [])
+    kept : carried_rows frequencies (take (suc n) trips) ≡ carried_rows frequencies (take n trips)
+        ++ carried_rows frequencies (row ∷ [])
     kept =
-        ap (λ k. carried_rows frequencies (take k trips)) (sym (add-one n)) ∙ ap (carried_rows frequencies) (take_more trips n [] here)
+        ap (λ k. carried_rows frequencies (take k trips)) (sym (add-one n))
+        ∙ ap (carried_rows frequencies) (take_more trips n [] here)
         ∙ filter-append (λ (r : Row). is_carried frequencies (nth 0 r)) (take n trips) (row ∷ [])
 
     inside : n < length lists.ids
@@ -90,7 +103,8 @@ of_rows frequencies trips routes services stops_of lists ids_are routes_are serv
 
     flag : get_or lists.carried n false ≡ is_carried frequencies (nth 0 row)
     flag =
-        ap (λ (flags : List Bool). get_or flags n false) carried_are ∙ get_or-map (is_carried frequencies) lists.ids n false [] inside
+        ap (λ (flags : List Bool). get_or flags n false) carried_are
+        ∙ get_or-map (is_carried frequencies) lists.ids n false [] inside
         ∙ ap (is_carried frequencies) id_is
 
     one : IsRow routes services stops_of (candidate lists n) row
@@ -98,18 +112,26 @@ of_rows frequencies trips routes services stops_of lists ids_are routes_are serv
       id_is = id_is;
       route_is = numbered routes lists.routes (map (nth 1) trips) n [] routes_are (rw (length-map trips (nth 1)) here)
           ∙ ap (λ (name : List ℕ). Some name) (get_or-map (nth 1) trips n [] [] here);
-      service_is = numbered services lists.services (map (nth 2) trips) n [] services_are (rw (length-map trips (nth 2)) here)
+      service_is = numbered services lists.services (map (nth 2) trips) n [] services_are
+          (rw (length-map trips (nth 2)) here)
           ∙ ap (λ (name : List ℕ). Some name) (get_or-map (nth 2) trips n [] [] here);
-      stops_are = ap (λ (all : List (List LoadedStop)). get_or all n []) stops_are ∙ get_or-map stops_of lists.ids n [] [] inside ∙ ap stops_of id_is;
+      stops_are = ap (λ (all : List (List LoadedStop)). get_or all n []) stops_are
+          ∙ get_or-map stops_of lists.ids n [] [] inside ∙ ap stops_of id_is;
     }
 
-    by : (b : Bool) → is_carried frequencies (nth 0 row) ≡ b → AllZip (IsRow routes services stops_of) (carried_to lists n) (carried_rows frequencies (take n trips))
-        → AllZip (IsRow routes services stops_of) (carried_to lists n ++ cond (is_carried frequencies (nth 0 row)) (candidate lists n ∷ []) []) (carried_rows frequencies (take n trips) ++ carried_rows frequencies (row ∷ []))
-    by true e all = rw e (AllZip-push (IsRow routes services stops_of) (carried_to lists n) (carried_rows frequencies (take n trips)) (candidate lists n) row all one)
+    by : (b : Bool) → is_carried frequencies (nth 0 row) ≡ b
+        → AllZip (IsRow routes services stops_of) (carried_to lists n) (carried_rows frequencies (take n trips))
+        → AllZip (IsRow routes services stops_of)
+        (carried_to lists n ++ cond (is_carried frequencies (nth 0 row)) (candidate lists n ∷ []) [])
+        (carried_rows frequencies (take n trips) ++ carried_rows frequencies (row ∷ []))
+    by true e all =
+        rw e (AllZip-push (IsRow routes services stops_of) (carried_to lists n)
+        (carried_rows frequencies (take n trips)) (candidate lists n) row all one)
     by false e all = rw (e, append-nil (carried_to lists n), append-nil (carried_rows frequencies (take n trips))) all
 
 -- what a trip of the timetable and a row have to do with each other
-MatchesAt : (routes services : List (List ℕ)) (stops_of : List ℕ → List LoadedStop) (rows : List StopRow) → Option CarriedTrip → Option Row → Type 0
+MatchesAt : (routes services : List (List ℕ)) (stops_of : List ℕ → List LoadedStop) (rows : List StopRow)
+    → Option CarriedTrip → Option Row → Type 0
 MatchesAt routes services stops_of rows None None = ⊤
 MatchesAt routes services stops_of rows None (Some row) = ⊥
 MatchesAt routes services stops_of rows (Some trip) None = ⊥
@@ -117,19 +139,26 @@ MatchesAt routes services stops_of rows (Some trip) (Some row) =
     (slice_get routes trip.route ≡ Some (nth 1 row)) × (slice_get services trip.service ≡ Some (nth 2 row))
     × (drop trip.first (take trip.end rows) ≡ filled (stops_of (nth 0 row)))
 
-matches_at : (routes services : List (List ℕ)) (stops_of : List ℕ → List LoadedStop) (rows : List StopRow) (trips : List CarriedTrip) (ones : List Candidate) (of : List Row)
-    → AllZip (IsOf rows) trips ones → AllZip (IsRow routes services stops_of) ones of → (k : ℕ) → MatchesAt routes services stops_of rows (slice_get trips k) (slice_get of k)
+matches_at : (routes services : List (List ℕ)) (stops_of : List ℕ → List LoadedStop) (rows : List StopRow)
+    (trips : List CarriedTrip) (ones : List Candidate) (of : List Row)
+    → AllZip (IsOf rows) trips ones → AllZip (IsRow routes services stops_of) ones of → (k : ℕ)
+    → MatchesAt routes services stops_of rows (slice_get trips k) (slice_get of k)
 unfolding MatchesAt
 matches_at routes services stops_of rows [] [] [] a b k = tt
 matches_at routes services stops_of rows [] [] (row ∷ of) a b k = absurd b
 matches_at routes services stops_of rows [] (one ∷ ones) of a b k = absurd a
 matches_at routes services stops_of rows (trip ∷ trips) [] of a b k = absurd a
 matches_at routes services stops_of rows (trip ∷ trips) (one ∷ ones) [] a b k = absurd b
-matches_at routes services stops_of rows (trip ∷ trips) (one ∷ ones) (row ∷ of) a b zero =
-    (ap (slice_get routes) a.0.route_is ∙ b.0.route_is, ap (slice_get services) a.0.service_is ∙ b.0.service_is, a.0.stops_are ∙ ap filled b.0.stops_are)
-matches_at routes services stops_of rows (trip ∷ trips) (one ∷ ones) (row ∷ of) a b (suc k) = matches_at routes services stops_of rows trips ones of a.1 b.1 k
+matches_at routes services stops_of rows (trip ∷ trips) (one ∷ ones) (row ∷ of) a b zero = (
+  ap (slice_get routes) a.0.route_is ∙ b.0.route_is,
+  ap (slice_get services) a.0.service_is ∙ b.0.service_is,
+  a.0.stops_are ∙ ap filled b.0.stops_are,
+)
+matches_at routes services stops_of rows (trip ∷ trips) (one ∷ ones) (row ∷ of) a b (suc k) =
+    matches_at routes services stops_of rows trips ones of a.1 b.1 k
 
-route_same : (routes services : List (List ℕ)) (stops_of : List ℕ → List LoadedStop) (rows : List StopRow) (trip : Option CarriedTrip) (row : Option Row)
+route_same : (routes services : List (List ℕ)) (stops_of : List ℕ → List LoadedStop) (rows : List StopRow)
+    (trip : Option CarriedTrip) (row : Option Row)
     → MatchesAt routes services stops_of rows trip row → route_held routes trip ≡ route_in row
 unfolding MatchesAt
 route_same routes services stops_of rows None None m = refl
@@ -137,37 +166,48 @@ route_same routes services stops_of rows None (Some row) m = absurd m
 route_same routes services stops_of rows (Some trip) None m = absurd m
 route_same routes services stops_of rows (Some trip) (Some row) m = ap (λ (o : Option (List ℕ)). unwrap_or o []) m.0
 
-stops_same : (routes services stops : List (List ℕ)) (stop_rows : List Row) (rows : List StopRow) (trip : Option CarriedTrip) (row : Option Row)
-    → MatchesAt routes services (stops_in stops stop_rows) rows trip row → stops_held rows trip ≡ stop_rows_in stops stop_rows row
+stops_same : (routes services stops : List (List ℕ)) (stop_rows : List Row) (rows : List StopRow)
+    (trip : Option CarriedTrip) (row : Option Row)
+    → MatchesAt routes services (stops_in stops stop_rows) rows trip row
+    → stops_held rows trip ≡ stop_rows_in stops stop_rows row
 unfolding MatchesAt
 stops_same routes services stops stop_rows rows None None m = refl
 stops_same routes services stops stop_rows rows None (Some row) m = absurd m
 stops_same routes services stops stop_rows rows (Some trip) None m = absurd m
 stops_same routes services stops stop_rows rows (Some trip) (Some row) m = m.2
 
-runs_same : (routes services : List (List ℕ)) (stops_of : List ℕ → List LoadedStop) (rows : List StopRow) (calendars : Calendars) (exceptions : Exceptions) (calendar_rows date_rows : List Row)
-    → HoldsServices services calendars exceptions calendar_rows date_rows → (trip : Option CarriedTrip) (row : Option Row) (day : ℤ)
-    → MatchesAt routes services stops_of rows trip row → runs_held calendars exceptions trip day ≡ runs_in calendar_rows date_rows row day
+runs_same : (routes services : List (List ℕ)) (stops_of : List ℕ → List LoadedStop) (rows : List StopRow)
+    (calendars : Calendars) (exceptions : Exceptions) (calendar_rows date_rows : List Row)
+    → HoldsServices services calendars exceptions calendar_rows date_rows
+    → (trip : Option CarriedTrip) (row : Option Row) (day : ℤ)
+    → MatchesAt routes services stops_of rows trip row
+    → runs_held calendars exceptions trip day ≡ runs_in calendar_rows date_rows row day
 unfolding MatchesAt
 runs_same routes services stops_of rows calendars exceptions calendar_rows date_rows held None None day m = refl
-runs_same routes services stops_of rows calendars exceptions calendar_rows date_rows held None (Some row) day m = absurd m
-runs_same routes services stops_of rows calendars exceptions calendar_rows date_rows held (Some trip) None day m = absurd m
+runs_same routes services stops_of rows calendars exceptions calendar_rows date_rows held None (Some row) day m =
+    absurd m
+runs_same routes services stops_of rows calendars exceptions calendar_rows date_rows held (Some trip) None day m =
+    absurd m
 runs_same routes services stops_of rows calendars exceptions calendar_rows date_rows held (Some trip) (Some row) day m =
     rw (held.exceptions_are trip.service (nth 2 row) day m.1, held.calendars_are trip.service (nth 2 row) m.1) refl
 
-ids_same : (routes services : List (List ℕ)) (stops_of : List ℕ → List LoadedStop) (ones : List Candidate) (of : List Row) → AllZip (IsRow routes services stops_of) ones of
+ids_same : (routes services : List (List ℕ)) (stops_of : List ℕ → List LoadedStop) (ones : List Candidate)
+    (of : List Row) → AllZip (IsRow routes services stops_of) ones of
     → map (λ (one : Candidate). one.id) ones ≡ map (nth 0) of
 ids_same routes services stops_of [] [] all = refl
 ids_same routes services stops_of [] (row ∷ of) all = absurd all
 ids_same routes services stops_of (one ∷ ones) [] all = absurd all
-ids_same routes services stops_of (one ∷ ones) (row ∷ of) all = λ i. all.0.id_is i ∷ ids_same routes services stops_of ones of all.1 i
+ids_same routes services stops_of (one ∷ ones) (row ∷ of) all =
+    λ i. all.0.id_is i ∷ ids_same routes services stops_of ones of all.1 i
 
-untimed_same : (routes services : List (List ℕ)) (stops_of : List ℕ → List LoadedStop) (ones : List Candidate) (of : List Row) → AllZip (IsRow routes services stops_of) ones of
+untimed_same : (routes services : List (List ℕ)) (stops_of : List ℕ → List LoadedStop) (ones : List Candidate)
+    (of : List Row) → AllZip (IsRow routes services stops_of) ones of
     → map (λ (one : Candidate). untimed_end one.stops) ones ≡ map (λ (row : Row). untimed_end (stops_of (nth 0 row))) of
 untimed_same routes services stops_of [] [] all = refl
 untimed_same routes services stops_of [] (row ∷ of) all = absurd all
 untimed_same routes services stops_of (one ∷ ones) [] all = absurd all
-untimed_same routes services stops_of (one ∷ ones) (row ∷ of) all = λ i. untimed_end (all.0.stops_are i) ∷ untimed_same routes services stops_of ones of all.1 i
+untimed_same routes services stops_of (one ∷ ones) (row ∷ of) all =
+    λ i. untimed_end (all.0.stops_are i) ∷ untimed_same routes services stops_of ones of all.1 i
 
 -- ---- the timetable of what was read
 
@@ -187,18 +227,23 @@ abbrev stops_by : Sheets → List ℕ → List LoadedStop
 stops_by sheets = stops_in (ids_in sheets Stops) (rows_in (sheets StopTimes))
 
 rows_are : (sheets : Sheets) (folder : FolderRows) (held : Held folder sheets)
-    → AllZip (IsRow (ids_in sheets Routes) held.runs.0 (stops_by sheets)) (carried_to (listed folder) (length folder.trips.ids)) (trips_in sheets)
+    → AllZip (IsRow (ids_in sheets Routes) held.runs.0 (stops_by sheets))
+    (carried_to (listed folder) (length folder.trips.ids)) (trips_in sheets)
 rows_are sheets folder held =
     let rows : List Row = rows_in (sheets Trips) in
     let many : length folder.trips.ids ≡ length rows = ap length held.runs.1.ids ∙ length-map rows (nth 0) in
-    let all = of_rows (rows_in (sheets Frequencies)) rows (ids_in sheets Routes) held.runs.0 (stops_by sheets) (listed folder) held.runs.1.ids held.runs.1.routes_are held.runs.1.services_are held.carried held.by_trip.stops_are (length rows) (omega arith) in
+    let all = of_rows (rows_in (sheets Frequencies)) rows (ids_in sheets Routes) held.runs.0 (stops_by sheets)
+    (listed folder) held.runs.1.ids held.runs.1.routes_are held.runs.1.services_are held.carried
+    held.by_trip.stops_are (length rows) (omega arith) in
     rw many (rw (take-length rows) at all)
 
-pub untimed_of : (sheets : Sheets) (folder : FolderRows) (all : Assembled) → Held folder sheets → Carries all (carried_to (listed folder) (length folder.trips.ids))
+pub untimed_of : (sheets : Sheets) (folder : FolderRows) (all : Assembled) → Held folder sheets
+    → Carries all (carried_to (listed folder) (length folder.trips.ids))
     → all.untimed ≡ untimed_in sheets
 untimed_of sheets folder all held carries =
     carries.untimed_is
-    ∙ ap least (untimed_same (ids_in sheets Routes) held.runs.0 (stops_by sheets) (carried_to (listed folder) (length folder.trips.ids)) (trips_in sheets) (rows_are sheets folder held))
+    ∙ ap least (untimed_same (ids_in sheets Routes) held.runs.0 (stops_by sheets)
+    (carried_to (listed folder) (length folder.trips.ids)) (trips_in sheets) (rows_are sheets folder held))
 
 abbrev shown : FolderRows → List (List ℕ) → Assembled → Table
 shown folder trips all = record {
@@ -207,20 +252,26 @@ shown folder trips all = record {
   routes = folder.routes;
   route_of = λ trip. route_held folder.routes (slice_get all.carried.items trip);
   stops_of = λ trip. stops_held all.stop_rows.items (slice_get all.carried.items trip);
-  runs = λ trip day. runs_held folder.services.calendars folder.services.exceptions (slice_get all.carried.items trip) day;
+  runs = λ trip day. runs_held folder.services.calendars folder.services.exceptions (slice_get all.carried.items trip)
+      day;
 }
 
 pub shown_of : (sheets : Sheets) (folder : FolderRows) (trips : List (List ℕ)) (all : Assembled) → Held folder sheets
-    → trips ≡ ids_to folder.trips.ids folder.carried.items (length folder.trips.ids) → Carries all (carried_to (listed folder) (length folder.trips.ids))
+    → trips ≡ ids_to folder.trips.ids folder.carried.items (length folder.trips.ids)
+    → Carries all (carried_to (listed folder) (length folder.trips.ids))
     → shown folder trips all ≡ table_of sheets
 shown_of sheets folder trips all held trips_are carries = λ i. record {
-  trips = (trips_are ∙ sym (carried-ids (listed folder) (length folder.trips.ids)) ∙ ids_same routes services (stops_by sheets) ones (trips_in sheets) zip) i;
+  trips = (trips_are ∙ sym (carried-ids (listed folder) (length folder.trips.ids))
+      ∙ ids_same routes services (stops_by sheets) ones (trips_in sheets) zip) i;
   stops = held.stops_are i;
   routes = held.routes_are i;
   route_of = λ k. (ap (λ (named : List (List ℕ)). route_held named (slice_get all.carried.items k)) held.routes_are
-      ∙ route_same routes services (stops_by sheets) all.stop_rows.items (slice_get all.carried.items k) (slice_get (trips_in sheets) k) (at k)) i;
-  stops_of = λ k. stops_same routes services (ids_in sheets Stops) (rows_in (sheets StopTimes)) all.stop_rows.items (slice_get all.carried.items k) (slice_get (trips_in sheets) k) (at k) i;
-  runs = λ k day. runs_same routes services (stops_by sheets) all.stop_rows.items folder.services.calendars folder.services.exceptions (rows_in (sheets Calendar)) (rows_in (sheets CalendarDates))
+      ∙ route_same routes services (stops_by sheets) all.stop_rows.items (slice_get all.carried.items k)
+      (slice_get (trips_in sheets) k) (at k)) i;
+  stops_of = λ k. stops_same routes services (ids_in sheets Stops) (rows_in (sheets StopTimes)) all.stop_rows.items
+      (slice_get all.carried.items k) (slice_get (trips_in sheets) k) (at k) i;
+  runs = λ k day. runs_same routes services (stops_by sheets) all.stop_rows.items folder.services.calendars
+      folder.services.exceptions (rows_in (sheets Calendar)) (rows_in (sheets CalendarDates))
       held.runs.2 (slice_get all.carried.items k) (slice_get (trips_in sheets) k) day (at k) i;
 }
   where
@@ -233,25 +284,33 @@ shown_of sheets folder trips all held trips_are carries = λ i. record {
     ones : List Candidate
     ones = carried_to (listed folder) (length folder.trips.ids)
 
-    zip : AllZip (IsRow (ids_in sheets Routes) held.runs.0 (stops_by sheets)) (carried_to (listed folder) (length folder.trips.ids)) (trips_in sheets)
+    zip : AllZip (IsRow (ids_in sheets Routes) held.runs.0 (stops_by sheets))
+        (carried_to (listed folder) (length folder.trips.ids)) (trips_in sheets)
     zip = rows_are sheets folder held
 
-    at : (k : ℕ) → MatchesAt (ids_in sheets Routes) held.runs.0 (stops_by sheets) all.stop_rows.items (slice_get all.carried.items k) (slice_get (trips_in sheets) k)
-    at k = matches_at routes services (stops_by sheets) all.stop_rows.items all.carried.items ones (trips_in sheets) carries.trips zip k
+    at : (k : ℕ) → MatchesAt (ids_in sheets Routes) held.runs.0 (stops_by sheets) all.stop_rows.items
+        (slice_get all.carried.items k) (slice_get (trips_in sheets) k)
+    at k = matches_at routes services (stops_by sheets) all.stop_rows.items all.carried.items ones (trips_in sheets)
+        carries.trips zip k
 
 -- ---- what reading answers
 
 abbrev answered : Sheets → Option TableFault → Result Table TableFault
 answered sheets fault = unless_fault (option_or fault (option_map UntimedEnd (untimed_in sheets))) (table_of sheets)
 
-pub reads_of : (sheets : Sheets) (result : Result Timetable TableFault) → files_fault sheets ≡ None → Assembles sheets result → Reads (unless_fault (folder_fault sheets) (table_of sheets)) result
+pub reads_of : (sheets : Sheets) (result : Result Timetable TableFault) → files_fault sheets ≡ None
+    → Assembles sheets result → Reads (unless_fault (folder_fault sheets) (table_of sheets)) result
 reads_of sheets (Ok table) none told =
-    ap (answered sheets) none ∙ ap (λ (row : Option ℕ). unless_fault (option_map UntimedEnd row) (table_of sheets)) told.0 ∙ ap (λ (table : Table). Ok table) (sym told.1)
+    ap (answered sheets) none ∙ ap (λ (row : Option ℕ). unless_fault (option_map UntimedEnd row) (table_of sheets))
+    told.0 ∙ ap (λ (table : Table). Ok table) (sym told.1)
 reads_of sheets (Err fault) none told =
-    said-of (is_free fault) (option_map UntimedEnd (untimed_in sheets) ≡ Some fault) (unless_fault (folder_fault sheets) (table_of sheets) ≡ Err fault)
-    (λ here. ap (answered sheets) none ∙ ap (λ (fault : Option TableFault). unless_fault fault (table_of sheets)) here) told
+    said-of (is_free fault) (option_map UntimedEnd (untimed_in sheets) ≡ Some fault)
+    (unless_fault (folder_fault sheets) (table_of sheets) ≡ Err fault)
+    (λ here. ap (answered sheets) none
+    ∙ ap (λ (fault : Option TableFault). unless_fault fault (table_of sheets)) here) told
 
 pub reads_fault : (sheets : Sheets) (fault : TableFault) → MatchBool (is_free fault) ⊤ (files_fault sheets ≡ Some fault)
     → MatchBool (is_free fault) ⊤ (unless_fault (folder_fault sheets) (table_of sheets) ≡ Err fault)
 reads_fault sheets fault told =
-    said-of (is_free fault) (files_fault sheets ≡ Some fault) (unless_fault (folder_fault sheets) (table_of sheets) ≡ Err fault) (λ here. ap (answered sheets) here) told
+    said-of (is_free fault) (files_fault sheets ≡ Some fault)
+    (unless_fault (folder_fault sheets) (table_of sheets) ≡ Err fault) (λ here. ap (answered sheets) here) told

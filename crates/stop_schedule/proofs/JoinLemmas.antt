@@ -10,12 +10,15 @@ use Rattle.stop_schedule.specs.declared.table_file.TableFile.TheVariants as File
 use Rattle.stop_schedule.specs.declared.table_fault.TableFault.{TableFault}
 use Rattle.std.proofs.lemmas.Bool.{false≢true}
 
-pub if_both : {A : Type 0} (told : Option A) {P Q R : A → Type 0} → IfSome told P → IfSome told Q → ((x : A) → P x → Q x → R x) → IfSome told R
+pub if_both : {A : Type 0} (told : Option A) {P Q R : A → Type 0} → IfSome told P → IfSome told Q
+    → ((x : A) → P x → Q x → R x) → IfSome told R
 if_both None p q f = tt
 if_both (Some x) p q f = f x p q
 
-pub dates-none : (calendar dates : Option (Result (List Row) TableFault)) (has_calendar has_dates : Bool) → has_calendar ≡ is_some calendar → has_dates ≡ is_some dates
-    → (has_calendar ≡ true) ⊎ (has_dates ≡ true) → optional_fault File.CalendarDates date_fault dates ≡ None → dates_fault calendar dates ≡ None
+pub dates-none : (calendar dates : Option (Result (List Row) TableFault)) (has_calendar has_dates : Bool)
+    → has_calendar ≡ is_some calendar → has_dates ≡ is_some dates
+    → (has_calendar ≡ true) ⊎ (has_dates ≡ true) → optional_fault File.CalendarDates date_fault dates ≡ None
+    → dates_fault calendar dates ≡ None
 dates-none None None a b one two (inl some) none = absurd (false≢true (sym one ∙ some))
 dates-none None None a b one two (inr some) none = absurd (false≢true (sym two ∙ some))
 dates-none (Some calendar) None a b one two some none = refl

@@ -1,16 +1,13 @@
 -- What is known of what was made of rows, whatever they say.
-use Rattle.std.proofs.Common.{◌≡◌, ◌∙◌, ◌≤◌, ◌<◌, ◌+◌, ◌-◌, ◌*◌, ◌/◌, ◌&&◌, ◌++◌, ℕ, zero, suc, Bool, true, false, cond, nat_le, nat_lt, List, [], ◌∷◌, length, map, replicate, take, drop, reverse, get_or, Option, Some, None, refl, sym, ap, arith}
+use Rattle.std.proofs.Common.{◌≡◌, ◌<◌, ◌++◌, ℕ, zero, suc, Bool, true, false, cond, nat_le, nat_lt, List, [], ◌∷◌, length, replicate, get_or, refl, arith}
 use Rattle.std.specs.List.{list_all}
 use Rattle.std.specs.Cmp.Derive.{both_true}
-use Rattle.std.proofs.lemmas.Bool.{leb-true, le-leb, lt-ltb, ltb-true}
-use Rattle.std.proofs.lemmas.Bool.Decides.{nat_tests}
-use Rattle.stop_schedule.specs.Forms.{clock, is_clock, is_sixty, seconds, two}
-use Rattle.stop_schedule.specs.Keeping.{all_loaded, are_below, are_loaded, are_times, is_loaded}
+use Rattle.std.proofs.lemmas.Bool.{le-leb, lt-ltb, ltb-true}
+use Rattle.stop_schedule.specs.Keeping.{all_loaded, are_below, are_loaded, is_loaded}
 use Rattle.stop_schedule.specs.Rising.{has_sequence, is_rising}
 use Rattle.stop_schedule.specs.StopTimes.{placed}
 use Rattle.stop_schedule.specs.declared.stop_times.LoadedStop.{LoadedStop}
 use Rattle.stop_schedule.proofs.IdLemmas.{and-left, and-right}
-use Rattle.stop_schedule.proofs.ListLemmas.{list_all-set}
 use Rattle.stop_schedule.proofs.SequenceLemmas.{length-placed, rising-placed}
 
 -- no trip has stops yet
@@ -18,38 +15,49 @@ none : (stops n : ℕ) → all_loaded stops (replicate n []) ≡ true
 none stops zero = refl
 none stops (suc n) = none stops n
 
-pub none-loaded : (stops n : ℕ) (by_trip : List (List LoadedStop)) → by_trip ≡ replicate n [] → all_loaded stops by_trip ≡ true
+pub none-loaded : (stops n : ℕ) (by_trip : List (List LoadedStop)) → by_trip ≡ replicate n []
+    → all_loaded stops by_trip ≡ true
 none-loaded stops n by_trip is = rw is (none stops n)
 
 -- one more stop at its place
-all-placed : (test : LoadedStop → Bool) (stop : LoadedStop) (held : List LoadedStop) → test stop ≡ true → list_all test held ≡ true → list_all test (placed stop held) ≡ true
+all-placed : (test : LoadedStop → Bool) (stop : LoadedStop) (held : List LoadedStop) → test stop ≡ true
+    → list_all test held ≡ true → list_all test (placed stop held) ≡ true
 all-placed test stop [] one all = both_true one refl
 all-placed test stop (first ∷ held) one all =
     by (all-placed test stop held one (and-right (test first) _ all)) (nat_lt stop.sequence first.sequence)
   where
-    by : list_all test (placed stop held) ≡ true → (b : Bool) → list_all test (cond b (stop ∷ first ∷ held) (first ∷ placed stop held)) ≡ true
+    by : list_all test (placed stop held) ≡ true → (b : Bool)
+        → list_all test (cond b (stop ∷ first ∷ held) (first ∷ placed stop held)) ≡ true
     by later true = both_true one all
     by later false = both_true (and-left (test first) _ all) later
 
-pub loaded-placed : (stops : ℕ) (stop : LoadedStop) (held : List LoadedStop) → is_loaded stops stop ≡ true → are_loaded stops held ≡ true
+pub loaded-placed : (stops : ℕ) (stop : LoadedStop) (held : List LoadedStop) → is_loaded stops stop ≡ true
+    → are_loaded stops held ≡ true
     → length held < 250 → has_sequence stop.sequence held ≡ false → are_loaded stops (placed stop held) ≡ true
 loaded-placed stops stop held one all few none_has =
     let rest = and-right (nat_le (length held) 250) _ all in
     let long : length (placed stop held) ≡ suc (length held) = length-placed stop held in
     both_true (le-leb (length (placed stop held)) 250 (omega arith))
-    (both_true (rising-placed stop held (and-left (is_rising held) _ rest) none_has) (all-placed (is_loaded stops) stop held one (and-right (is_rising held) _ rest)))
+    (both_true (rising-placed stop held (and-left (is_rising held) _ rest) none_has)
+    (all-placed (is_loaded stops) stop held one (and-right (is_rising held) _ rest)))
 
-pub loaded-at : (stops : ℕ) (by_trip : List (List LoadedStop)) (place : ℕ) → all_loaded stops by_trip ≡ true → are_loaded stops (get_or by_trip place []) ≡ true
+pub loaded-at : (stops : ℕ) (by_trip : List (List LoadedStop)) (place : ℕ) → all_loaded stops by_trip ≡ true
+    → are_loaded stops (get_or by_trip place []) ≡ true
 loaded-at stops [] place all = refl
 loaded-at stops (held ∷ by_trip) zero all = and-left (are_loaded stops held) _ all
-loaded-at stops (held ∷ by_trip) (suc place) all = loaded-at stops by_trip place (and-right (are_loaded stops held) _ all)
+loaded-at stops (held ∷ by_trip) (suc place) all =
+    loaded-at stops by_trip place (and-right (are_loaded stops held) _ all)
 
-pub below-at : (limit : ℕ) (numbers : List ℕ) (place : ℕ) → are_below limit numbers ≡ true → place < length numbers → get_or numbers place 0 < limit
+pub below-at : (limit : ℕ) (numbers : List ℕ) (place : ℕ) → are_below limit numbers ≡ true → place < length numbers
+    → get_or numbers place 0 < limit
 below-at limit [] place all within = absurd (omega arith)
 below-at limit (number ∷ numbers) zero all within = ltb-true number limit (and-left (nat_lt number limit) _ all)
-below-at limit (number ∷ numbers) (suc place) all within = below-at limit numbers place (and-right (nat_lt number limit) _ all) (omega arith)
+below-at limit (number ∷ numbers) (suc place) all within =
+    below-at limit numbers place (and-right (nat_lt number limit) _ all) (omega arith)
 
-pub below-behind : (limit : ℕ) (numbers : List ℕ) (number : ℕ) → are_below limit numbers ≡ true → number < limit → are_below limit (numbers ++ number ∷ []) ≡ true
+pub below-behind : (limit : ℕ) (numbers : List ℕ) (number : ℕ) → are_below limit numbers ≡ true → number < limit
+    → are_below limit (numbers ++ number ∷ []) ≡ true
 below-behind limit [] number all less = both_true (lt-ltb number limit less) refl
 below-behind limit (first ∷ numbers) number all less =
-    both_true (and-left (nat_lt first limit) _ all) (below-behind limit numbers number (and-right (nat_lt first limit) _ all) less)
+    both_true (and-left (nat_lt first limit) _ all)
+    (below-behind limit numbers number (and-right (nat_lt first limit) _ all) less)

@@ -12,33 +12,43 @@ use Rattle.stop_schedule.specs.declared.table_file.TableFile.TheVariants.{StopTi
 use Rattle.stop_schedule.proofs.DigitLemmas.{seconds-is-text, sequence-is-text}
 use Rattle.stop_schedule.proofs.IdLemmas.{and-left, and-right, id-at, id-at-has-bytes, id-at-is-short}
 
-known-text : (ids : List (List ℕ)) (place : ℕ) (id : List ℕ) → are_ids ids ≡ true → slice_get ids place ≡ Some id → is_utf8 id ≡ true
+known-text : (ids : List (List ℕ)) (place : ℕ) (id : List ℕ) → are_ids ids ≡ true → slice_get ids place ≡ Some id
+    → is_utf8 id ≡ true
 known-text ids place id good at = and-right (has_id_len id) (is_utf8 id) (id-at ids place id (and-left _ _ good) at)
 
-known-some : (ids : List (List ℕ)) (place : ℕ) (id : List ℕ) → are_ids ids ≡ true → slice_get ids place ≡ Some id → not (length id == 0) ≡ true
+known-some : (ids : List (List ℕ)) (place : ℕ) (id : List ℕ) → are_ids ids ≡ true → slice_get ids place ≡ Some id
+    → not (length id == 0) ≡ true
 known-some ids place id good at = let some = id-at-has-bytes ids place id good at in grind (arith, nat_tests, some)
 
-known-short : (ids : List (List ℕ)) (place : ℕ) (id : List ℕ) → are_ids ids ≡ true → slice_get ids place ≡ Some id → nat_lt 200 (length id) ≡ false
+known-short : (ids : List (List ℕ)) (place : ℕ) (id : List ℕ) → are_ids ids ≡ true → slice_get ids place ≡ Some id
+    → nat_lt 200 (length id) ≡ false
 known-short ids place id good at = let short = id-at-is-short ids place id good at in grind (arith, nat_tests, short)
 
 -- it has no fault by its fields
-pub known-fits : (trips stops : List (List ℕ)) (row : Row) (number trip stop : ℕ) → are_ids trips ≡ true → are_ids stops ≡ true
-    → slice_get trips trip ≡ Some (nth 0 row) → slice_get stops stop ≡ Some (nth 2 row) → is_some (sequence (nth 1 row)) ≡ true
-    → is_some (seconds (nth 3 row)) ≡ true → is_some (seconds (nth 4 row)) ≡ true → number ≤ 4000000 → Fits StopTimes number row
-known-fits trips stops row number trip stop good_trips good_stops trip_at stop_at sequence_is arrival departure counted = record {
-  texts = both_true (known-text trips trip (nth 0 row) good_trips trip_at)
-      (both_true (sequence-is-text (nth 1 row) sequence_is)
-      (both_true (known-text stops stop (nth 2 row) good_stops stop_at)
-      (both_true (seconds-is-text (nth 3 row) arrival) (both_true (seconds-is-text (nth 4 row) departure) refl))));
-  forms = rw (
-    known-some trips trip (nth 0 row) good_trips trip_at,
-    sequence_is,
-    known-some stops stop (nth 2 row) good_stops stop_at,
-    arrival,
-    departure,
-    or-true (length (nth 3 row) == 0),
-    or-true (length (nth 4 row) == 0),
-  ) refl;
-  short = rw (known-short trips trip (nth 0 row) good_trips trip_at, known-short stops stop (nth 2 row) good_stops stop_at) refl;
-  counted = counted;
-}
+pub known-fits : (trips stops : List (List ℕ)) (row : Row) (number trip stop : ℕ) → are_ids trips ≡ true
+    → are_ids stops ≡ true
+    → slice_get trips trip ≡ Some (nth 0 row) → slice_get stops stop ≡ Some (nth 2 row)
+    → is_some (sequence (nth 1 row)) ≡ true
+    → is_some (seconds (nth 3 row)) ≡ true → is_some (seconds (nth 4 row)) ≡ true → number ≤ 4000000
+    → Fits StopTimes number row
+known-fits trips stops row number trip stop good_trips good_stops trip_at stop_at sequence_is arrival departure
+    counted = record {
+      texts = both_true (known-text trips trip (nth 0 row) good_trips trip_at)
+          (both_true (sequence-is-text (nth 1 row) sequence_is)
+          (both_true (known-text stops stop (nth 2 row) good_stops stop_at)
+          (both_true (seconds-is-text (nth 3 row) arrival) (both_true (seconds-is-text (nth 4 row) departure) refl))));
+      forms = rw (
+        known-some trips trip (nth 0 row) good_trips trip_at,
+        sequence_is,
+        known-some stops stop (nth 2 row) good_stops stop_at,
+        arrival,
+        departure,
+        or-true (length (nth 3 row) == 0),
+        or-true (length (nth 4 row) == 0),
+      ) refl;
+      short = rw (
+        known-short trips trip (nth 0 row) good_trips trip_at,
+        known-short stops stop (nth 2 row) good_stops stop_at,
+      ) refl;
+      counted = counted;
+    }

@@ -13,6 +13,7 @@ pub mod KeepingLemmas
 pub mod KnownLemmas
 pub mod ListLemmas
 pub mod NearestLemmas
+pub mod PlaceLemmas
 pub mod RowLemmas
 pub mod SequenceLemmas
 pub mod ServiceLemmas

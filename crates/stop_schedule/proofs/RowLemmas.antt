@@ -47,11 +47,14 @@ unfolding records_from next_record
 records_from-nothing cfg zero = refl
 records_from-nothing cfg (suc n) = refl
 
-same-next : (cfg : Config) (n m : ℕ) (text : List ℕ) (o : Option Read) → Shortens text o → length text < n + 1 → length text < m + 1
-    → ((state : State) (rest : List ℕ) → length rest < n → length rest < m → records_from cfg n state rest ≡ records_from cfg m state rest)
+same-next : (cfg : Config) (n m : ℕ) (text : List ℕ) (o : Option Read) → Shortens text o → length text < n + 1
+    → length text < m + 1
+    → ((state : State) (rest : List ℕ) → length rest < n → length rest < m
+    → records_from cfg n state rest ≡ records_from cfg m state rest)
     → records_next (records_from cfg n) o ≡ records_next (records_from cfg m) o
 same-next cfg n m text None h a b same = refl
-same-next cfg n m text (Some read) (inl shorter) a b same = ap (λ rows. read.0 ∷ rows) (same read.1 read.2 (omega arith) (omega arith))
+same-next cfg n m text (Some read) (inl shorter) a b same =
+    ap (λ rows. read.0 ∷ rows) (same read.1 read.2 (omega arith) (omega arith))
 same-next cfg n m text (Some read) (inr ended) a b same =
     ap (λ rows. read.0 ∷ rows) (rw (ended.0, ended.1) (records_from-nothing cfg n ∙ sym (records_from-nothing cfg m)))
 
@@ -62,30 +65,39 @@ unfolding records_from
 records_from-enough cfg zero m state text a b = absurd (omega arith)
 records_from-enough cfg (suc n) zero state text a b = absurd (omega arith)
 records_from-enough cfg (suc n) (suc m) state text a b =
-    same-next cfg n m text _ (next_record-shortens cfg text state [] []) (omega arith) (omega arith) (records_from-enough cfg n m)
+    same-next cfg n m text _ (next_record-shortens cfg text state [] []) (omega arith) (omega arith)
+    (records_from-enough cfg n m)
 
 -- the first of some records, and what is left behind it
 records-next : (text : List ℕ) (o : Option Read) (found : Bool) (fields : List (List ℕ)) (after : State) (left : List ℕ)
     → Shortens text o → NextIs o found fields after left
-    → MatchBool found (records_next (records_from default_config (length text)) o ≡ fields ∷ records_from default_config (length left + 1) after left)
+    → MatchBool found
+    (records_next (records_from default_config (length text)) o ≡ fields
+    ∷ records_from default_config (length left + 1) after left)
     (records_next (records_from default_config (length text)) o ≡ [])
 records-next text None true fields after left h is = absurd (false≢true (sym is))
 records-next text None false fields after left h is = refl
 records-next text (Some read) false fields after left h is = absurd (false≢true is.0)
 records-next text (Some read) true fields after left (inl shorter) is =
     let enough : length left < length text = rw is.3 shorter in
-    rw (is.1, is.2, is.3) (ap (λ rows. read.0 ∷ rows) (records_from-enough default_config (length text) (length read.2 + 1) read.1 read.2 shorter (omega arith)))
+    rw (is.1, is.2, is.3)
+    (ap (λ rows. read.0 ∷ rows)
+    (records_from-enough default_config (length text) (length read.2 + 1) read.1 read.2 shorter (omega arith)))
 records-next text (Some read) true fields after left (inr ended) is =
-    rw (is.1, is.2, is.3, ended.0, ended.1) (ap (λ rows. read.0 ∷ rows) (records_from-nothing default_config (length text) ∙ sym (records_from-nothing default_config 1)))
+    rw (is.1, is.2, is.3, ended.0, ended.1)
+    (ap (λ rows. read.0 ∷ rows)
+    (records_from-nothing default_config (length text) ∙ sym (records_from-nothing default_config 1)))
 
 -- the rows of known bytes, by one read
-rows-next : (text : List ℕ) (state : State) (known : Option (List ℕ)) (found : Bool) (fields : List (List ℕ)) (after : State)
+rows-next : (text : List ℕ) (state : State) (known : Option (List ℕ)) (found : Bool) (fields : List (List ℕ))
+    (after : State)
     → ReadsNext default_config state (Some text) known found fields after
     → MatchBool found (rows_from state (Some text) ≡ fields ∷ rows_from after known) (rows_from state (Some text) ≡ [])
 unfolding records_from
 rows-next text state None found fields after reads = absurd reads
 rows-next text state (Some left) found fields after reads =
-    rw (add-one (length text)) (records-next text _ found fields after left (next_record-shortens default_config text state [] []) reads)
+    rw (add-one (length text))
+    (records-next text _ found fields after left (next_record-shortens default_config text state [] []) reads)
 
 -- ---- a reader over a slice
 
@@ -94,7 +106,8 @@ some-either true first second = (first, refl)
 some-either false first second = (second, refl)
 
 -- a reader that has not failed knows what it has left
-source-known : (reader : Reader (Bor (List ℕ))) → has_failed reader ≡ false → (text : List ℕ) × (source_of (λ slice. Some slice.now) reader ≡ Some text)
+source-known : (reader : Reader (Bor (List ℕ))) → has_failed reader ≡ false
+    → (text : List ℕ) × (source_of (λ slice. Some slice.now) reader ≡ Some text)
 source-known reader going = rw going (some-either _ _ _)
 
 -- what a read of a record takes from the rows that are left
@@ -111,4 +124,5 @@ rows_of-next old new found fields plain stopped reads = by (has_failed old) refl
         let read = reads p.trim p.ready in
         let source = source-known old going in
         let next = rw (p.config, source.1) at read.0 in
-        rw (source.1, read.1) (rows-next source.0 old.state (pending_of (Some new.rdr.now) new) found fields new.state next)
+        rw (source.1, read.1)
+        (rows-next source.0 old.state (pending_of (Some new.rdr.now) new) found fields new.state next)

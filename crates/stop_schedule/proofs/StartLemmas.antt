@@ -19,7 +19,8 @@ all-rising : (trips : List (List ℕ)) → list_all is_rising (replicate (length
 all-rising [] = refl
 all-rising (trip ∷ trips) = all-rising trips
 
-pub holds-none : (trips stops : List (List ℕ)) (by_trip : List (List LoadedStop)) → by_trip ≡ replicate (length trips) [] → HoldsStops trips stops by_trip []
+pub holds-none : (trips stops : List (List ℕ)) (by_trip : List (List LoadedStop))
+    → by_trip ≡ replicate (length trips) [] → HoldsStops trips stops by_trip []
 holds-none trips stops by_trip is = record {
   stops_are = is ∙ no-stops trips stops;
   rising = ap (list_all is_rising) is ∙ all-rising trips;

@@ -13,12 +13,15 @@ length-expanded row minute [] = refl
 length-expanded row minute (stop ∷ stops) = ap (λ n. suc n) (length-expanded (row + 1) minute stops)
 
 pub expanded-behind : (row minute : ℕ) (stops : List BriefStop) (stop : BriefStop)
-    → all_expanded row minute (stops ++ stop ∷ []) ≡ all_expanded row minute stops ++ expanded (row + length stops) minute stop ∷ []
-expanded-behind row minute [] stop = let same : row ≡ row + 0 = omega arith in ap (λ n. expanded n minute stop ∷ []) same
+    → all_expanded row minute (stops ++ stop ∷ []) ≡ all_expanded row minute stops
+    ++ expanded (row + length stops) minute stop ∷ []
+expanded-behind row minute [] stop = let same : row ≡ row + 0 =
+    omega arith in ap (λ n. expanded n minute stop ∷ []) same
 expanded-behind row minute (first ∷ stops) stop =
     let same : row + 1 + length stops ≡ row + suc (length stops) = omega arith in
     ap (λ later. expanded row minute first ∷ later)
-    (expanded-behind (row + 1) minute stops stop ∙ ap (λ n. all_expanded (row + 1) minute stops ++ expanded n minute stop ∷ []) same)
+    (expanded-behind (row + 1) minute stops stop
+    ∙ ap (λ n. all_expanded (row + 1) minute stops ++ expanded n minute stop ∷ []) same)
 
 sequence-at : (row minute : ℕ) (stops : List BriefStop) (k : ℕ) (d : BriefStop) (e : LoadedStop) → k < length stops
     → (get_or (all_expanded row minute stops) k e).sequence ≡ (get_or stops k d).sequence
@@ -27,28 +30,34 @@ sequence-at row minute (stop ∷ stops) zero d e within = refl
 sequence-at row minute (stop ∷ stops) (suc k) d e within = sequence-at (row + 1) minute stops k d e (omega arith)
 
 -- all are less than what the last is less than
-pub less-all : (row minute : ℕ) (stops : List BriefStop) (k : ℕ) (d : BriefStop) (sequence : ℕ) → length stops ≡ suc k → (get_or stops k d).sequence < sequence
+pub less-all : (row minute : ℕ) (stops : List BriefStop) (k : ℕ) (d : BriefStop) (sequence : ℕ) → length stops ≡ suc k
+    → (get_or stops k d).sequence < sequence
     → is_rising (all_expanded row minute stops) ≡ true → all_less sequence (all_expanded row minute stops) ≡ true
 less-all row minute stops k d sequence long less rising =
     let all = all_expanded row minute stops in
     let e = expanded 0 0 d in
     let same = sequence-at row minute stops k d e (omega (arith, long)) in
-    less-front all [] sequence k e (length-expanded row minute stops ∙ long) (ap is_rising (append-nil all) ∙ rising) (rw same less)
+    less-front all [] sequence k e (length-expanded row minute stops ∙ long) (ap is_rising (append-nil all) ∙ rising)
+    (rw same less)
 
 -- one stop more is spread
-pub spread-next : (row minute place : ℕ) (stops : List BriefStop) (d : BriefStop) (into all : List LoadedStop) → place < length stops
+pub spread-next : (row minute place : ℕ) (stops : List BriefStop) (d : BriefStop) (into all : List LoadedStop)
+    → place < length stops
     → into ++ all_expanded (row + place) minute (drop place stops) ≡ all
-    → (into ++ expanded (row + place) minute (get_or stops place d) ∷ []) ++ all_expanded (row + (place + 1)) minute (drop (place + 1) stops) ≡ all
+    → (into ++ expanded (row + place) minute (get_or stops place d) ∷ [])
+    ++ all_expanded (row + (place + 1)) minute (drop (place + 1) stops) ≡ all
 spread-next row minute place stops d into all within so_far =
     let stop = get_or stops place d in
     let cell : drop place stops ≡ stop ∷ drop (place + 1) stops = rw (add-one place) (drop-cons stops place d within) in
     let same : row + (place + 1) ≡ row + place + 1 = omega arith in
-    append_assoc into (expanded (row + place) minute stop ∷ []) (all_expanded (row + (place + 1)) minute (drop (place + 1) stops))
+    append_assoc into (expanded (row + place) minute stop ∷ [])
+    (all_expanded (row + (place + 1)) minute (drop (place + 1) stops))
     ∙ ap (λ n. into ++ (expanded (row + place) minute stop ∷ all_expanded n minute (drop (place + 1) stops))) same
     ∙ ap (λ left. into ++ all_expanded (row + place) minute left) (sym cell) ∙ so_far
 
 -- a stop behind those of less sequences is at its place
-pub places-behind : (stop : LoadedStop) (stops : List LoadedStop) → all_less stop.sequence stops ≡ true → Places stop stops (stops ++ stop ∷ []) true
+pub places-behind : (stop : LoadedStop) (stops : List LoadedStop) → all_less stop.sequence stops ≡ true
+    → Places stop stops (stops ++ stop ∷ []) true
 places-behind stop stops less = (
   less-apart stop.sequence stops less,
   sym (placed-behind stop stops [] less) ∙ ap (λ (all : List LoadedStop). placed stop all) (append-nil stops),

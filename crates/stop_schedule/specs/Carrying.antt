@@ -60,5 +60,11 @@ pub record Adds (old new : Assembled) (one : Candidate) : Type 0 where
   pub rows : new.stop_rows.items ≡ old.stop_rows.items ++ filled one.stops
   pub carried :
       new.carried.items
-      ≡ old.carried.items ++ record { route = one.route; service = one.service; first = length old.stop_rows.items; end = length new.stop_rows.items } ∷ []
+      ≡ old.carried.items
+      ++ record {
+        route = one.route;
+        service = one.service;
+        first = length old.stop_rows.items;
+        end = length new.stop_rows.items;
+      } ∷ []
   pub untimed_is : new.untimed ≡ lesser old.untimed (untimed_end one.stops)

@@ -5,6 +5,8 @@ use Rattle.std.specs.Option.{option_or}
 use Rattle.std.specs.Str.{bytes_eq}
 use Rattle.stop_schedule.specs.Faults.{fault_if}
 use Rattle.stop_schedule.specs.Ids.{has_id}
+use Rattle.stop_schedule.specs.Limits.{stop_limit}
+use Rattle.stop_schedule.specs.Places.{own_id, agency_timezone, trips_route_id, dates_service_id, frequencies_trip_id, stop_times_trip_id, stop_times_stop_id}
 use Rattle.stop_schedule.specs.Services.{is_exception, day_of_row}
 use Rattle.stop_schedule.specs.Sheet.{Row, nth}
 use Rattle.stop_schedule.specs.StopTimes.{sequence_of}
@@ -20,7 +22,8 @@ number_behind before = length before + 1
 
 -- an id stands in no earlier row
 abbrev pub duplicate_fault : TableFile → List Row → Row → Option TableFault
-duplicate_fault file before row = fault_if (has_id (nth 0 row) (map (nth 0) before)) (Duplicate file (number_behind before))
+duplicate_fault file before row =
+    fault_if (has_id (nth own_id row) (map (nth own_id) before)) (Duplicate file (number_behind before))
 
 abbrev pub first_row : List Row → Option Row
 first_row [] = None
@@ -29,7 +32,7 @@ first_row (row ∷ rows) = Some row
 -- agency.txt: the zone is the first row's
 abbrev pub differs : Option Row → Row → Bool
 differs None row = false
-differs (Some first) row = not (bytes_eq (nth 0 first) (nth 0 row))
+differs (Some first) row = not (bytes_eq (nth agency_timezone first) (nth agency_timezone row))
 
 abbrev pub zone_fault : List Row → Row → Option TableFault
 zone_fault before row = fault_if (differs (first_row before) row) (Zones (number_behind before))
@@ -37,7 +40,8 @@ zone_fault before row = fault_if (differs (first_row before) row) (Zones (number
 -- trips.txt, of which these are the ids of the routes
 abbrev pub trip_fault : List (List ℕ) → List Row → Row → Option TableFault
 trip_fault routes before row =
-    option_or (fault_if (not (has_id (nth 1 row) routes)) (Unknown Trips (number_behind before) Column.RouteId))
+    option_or
+    (fault_if (not (has_id (nth trips_route_id row) routes)) (Unknown Trips (number_behind before) Column.RouteId))
     (duplicate_fault Trips before row)
 
 -- calendar.txt and calendar_dates.txt
@@ -46,20 +50,30 @@ calendar_fault before row = duplicate_fault Calendar before row
 
 abbrev pub date_fault : List Row → Row → Option TableFault
 date_fault before row =
-    fault_if (list_any (λ other. is_exception (nth 0 row) (day_of_row row) other) before) (Duplicate CalendarDates (number_behind before))
+    fault_if (list_any (λ other. is_exception (nth dates_service_id row) (day_of_row row) other) before)
+    (Duplicate CalendarDates (number_behind before))
 
 -- frequencies.txt, of which these are the ids of the trips
 abbrev pub frequency_fault : List (List ℕ) → List Row → Row → Option TableFault
-frequency_fault trips before row = fault_if (not (has_id (nth 0 row) trips)) (Unknown Frequencies (number_behind before) Column.TripId)
+frequency_fault trips before row =
+    fault_if (not (has_id (nth frequencies_trip_id row) trips))
+    (Unknown Frequencies (number_behind before) Column.TripId)
 
 -- the rows have the same trip
 abbrev pub same_trip : Row → Row → Bool
-same_trip row other = bytes_eq (nth 0 row) (nth 0 other)
+same_trip row other = bytes_eq (nth stop_times_trip_id row) (nth stop_times_trip_id other)
 
--- stop_times.txt, of which these are the ids of the trips and the stops; a trip has at most 250 rows
+-- stop_times.txt, of which these are the ids of the trips and the stops; a trip has no more rows than it has
+-- stops at most
 abbrev pub stop_time_fault : List (List ℕ) → List (List ℕ) → List Row → Row → Option TableFault
 stop_time_fault trips stops before row =
-    option_or (fault_if (nat_le 250 (length (filter (same_trip row) before))) (Limit StopTimes (number_behind before)))
-    (option_or (fault_if (not (has_id (nth 0 row) trips)) (Unknown StopTimes (number_behind before) Column.TripId))
-    (option_or (fault_if (not (has_id (nth 2 row) stops)) (Unknown StopTimes (number_behind before) Column.StopId))
-    (fault_if (list_any (λ other. same_trip row other && (sequence_of row == sequence_of other)) before) (Duplicate StopTimes (number_behind before)))))
+    option_or
+    (fault_if (nat_le stop_limit (length (filter (same_trip row) before))) (Limit StopTimes (number_behind before)))
+    (option_or
+    (fault_if (not (has_id (nth stop_times_trip_id row) trips))
+    (Unknown StopTimes (number_behind before) Column.TripId))
+    (option_or
+    (fault_if (not (has_id (nth stop_times_stop_id row) stops))
+    (Unknown StopTimes (number_behind before) Column.StopId))
+    (fault_if (list_any (λ other. same_trip row other && (sequence_of row == sequence_of other)) before)
+    (Duplicate StopTimes (number_behind before)))))

@@ -43,13 +43,16 @@ abbrev pub DaysFailed : Sheets → TableFile → Type 0
 DaysFailed sheets = OrLater (Is Calendar) (optional_fault Calendar calendar_fault (sheets Calendar)) (Is CalendarDates)
 
 abbrev pub RunsFailed : List (List ℕ) → Sheets → TableFile → Type 0
-RunsFailed routes sheets = OrLater (Is Trips) (needed_fault Trips (trip_fault routes) (sheets Trips)) (DaysFailed sheets)
+RunsFailed routes sheets =
+    OrLater (Is Trips) (needed_fault Trips (trip_fault routes) (sheets Trips)) (DaysFailed sheets)
 
 abbrev pub StopsFailed : List (List ℕ) → Sheets → TableFile → Type 0
-StopsFailed trips sheets = OrLater (Is Frequencies) (optional_fault Frequencies (frequency_fault trips) (sheets Frequencies)) (Is StopTimes)
+StopsFailed trips sheets =
+    OrLater (Is Frequencies) (optional_fault Frequencies (frequency_fault trips) (sheets Frequencies)) (Is StopTimes)
 
 abbrev pub RestFailed : List (List ℕ) → Sheets → TableFile → Type 0
-RestFailed routes sheets = OrLater (RunsFailed routes sheets) (runs_fault routes sheets) (StopsFailed (ids_in sheets Trips) sheets)
+RestFailed routes sheets =
+    OrLater (RunsFailed routes sheets) (runs_fault routes sheets) (StopsFailed (ids_in sheets Trips) sheets)
 
 -- the file that could not be read: in the order of reading, those before it have no fault
 abbrev pub FileFailed : Sheets → TableFile → Type 0

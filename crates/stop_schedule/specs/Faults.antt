@@ -3,7 +3,8 @@ use Rattle.std.specs.Prelude.{◌≡◌, ◌≤◌, ◌&&◌, ◌||◌, ◌+◌,
 use Rattle.std.specs.Option.{option_or}
 use Rattle.std.specs.Str.{is_utf8}
 use Rattle.stop_schedule.specs.Forms.{fits}
-use Rattle.stop_schedule.specs.Layout.{columns, row_limit}
+use Rattle.stop_schedule.specs.Layout.{columns}
+use Rattle.stop_schedule.specs.Limits.{id_limit, row_limit}
 use Rattle.stop_schedule.specs.Sheet.{Row, nth}
 use Rattle.stop_schedule.specs.declared.column.Column.{Column}
 use Rattle.stop_schedule.specs.declared.forms.Form.{Form}
@@ -26,9 +27,9 @@ abbrev pub first_bad : ℕ → List (Column × Form) → Row → Option Column
 first_bad at [] row = None
 first_bad at (read ∷ later) row = if fits read.1 (nth at row) then first_bad (at + 1) later row else Some read.0
 
--- a field is an id of over 200 bytes
+-- a field is an id of more bytes than one has at most
 abbrev pub is_long : Form → List ℕ → Bool
-is_long Id text = nat_lt 200 (length text)
+is_long Id text = nat_lt id_limit (length text)
 is_long form text = false
 
 abbrev pub any_long : ℕ → List (Column × Form) → Row → Bool
@@ -64,16 +65,19 @@ first_fault fault before [] = None
 first_fault fault before (row ∷ rows) = option_or (fault before row) (first_fault fault (before ++ row ∷ []) rows)
 
 -- the first fault of what is there of a file
-abbrev pub fault_in : TableFile → (List Row → Row → Option TableFault) → Result (List Row) TableFault → Option TableFault
+abbrev pub fault_in : TableFile → (List Row → Row → Option TableFault) → Result (List Row) TableFault
+    → Option TableFault
 fault_in file further (Err fault) = Some fault
 fault_in file further (Ok rows) = first_fault (row_fault file further) [] rows
 
 -- the first fault of a file that may be absent
-abbrev pub optional_fault : TableFile → (List Row → Row → Option TableFault) → Option (Result (List Row) TableFault) → Option TableFault
+abbrev pub optional_fault : TableFile → (List Row → Row → Option TableFault) → Option (Result (List Row) TableFault)
+    → Option TableFault
 optional_fault file further None = None
 optional_fault file further (Some sheet) = fault_in file further sheet
 
 -- and of one that may not
-abbrev pub needed_fault : TableFile → (List Row → Row → Option TableFault) → Option (Result (List Row) TableFault) → Option TableFault
+abbrev pub needed_fault : TableFile → (List Row → Row → Option TableFault) → Option (Result (List Row) TableFault)
+    → Option TableFault
 needed_fault file further None = Some (Missing file)
 needed_fault file further (Some sheet) = fault_in file further sheet

@@ -19,7 +19,8 @@ HoldsRuns routes trips trip_routes trip_services calendars exceptions sheets =
 pub record HoldsRest (stops routes : List (List ℕ)) (folder : FolderRows) (sheets : Sheets) : Type 0 where
   pub stops_are : folder.stops ≡ stops
   pub routes_are : folder.routes ≡ routes
-  pub runs : HoldsRuns routes folder.trips.ids folder.trips.routes.items folder.trips.services.items folder.services.calendars folder.services.exceptions sheets
+  pub runs : HoldsRuns routes folder.trips.ids folder.trips.routes.items folder.trips.services.items
+      folder.services.calendars folder.services.exceptions sheets
   pub carried : folder.carried.items ≡ map (is_carried (rows_in (sheets Frequencies))) folder.trips.ids
   pub by_trip : HoldsStops folder.trips.ids stops (map stops_kept folder.by_trip.items) (rows_in (sheets StopTimes))
 

@@ -4,6 +4,7 @@ use Rattle.std.specs.List.{list_all}
 use Rattle.std.specs.Str.{bytes_eq}
 use Rattle.service_day.specs.DayTexts.{day_of}
 use Rattle.service_day.specs.declared.days.DayForm.TheVariants.{Compact}
+use Rattle.stop_schedule.specs.Limits.{number_limit}
 use Rattle.stop_schedule.specs.declared.forms.Form.{Form}
 use Rattle.stop_schedule.specs.declared.forms.Form.TheVariants.{Any, Id, Flag, Exception, Date, Sequence, Time}
 
@@ -21,7 +22,7 @@ digits_value value (digit ∷ digits) = digits_value (value * 10 + (digit - 48))
 
 -- the number, where it has at most 32 bits
 abbrev pub small : ℕ → Option ℕ
-small value = if nat_le value 4294967295 then Some value else None
+small value = if nat_le value number_limit then Some value else None
 
 -- the number of a stop in its trip: 1 to 10 digits of at most 32 bits
 unfoldable pub sequence : List ℕ → Option ℕ

@@ -2,12 +2,13 @@
 use Rattle.std.specs.Prelude.{◌&&◌, ◌++◌, ℕ, Bool, true, not, nat_le, List, [], ◌∷◌, length, if◌then◌else◌}
 use Rattle.std.specs.List.{list_all, list_any}
 use Rattle.std.specs.Str.{bytes_eq, is_utf8}
+use Rattle.stop_schedule.specs.Limits.{id_limit}
 
--- 1 to 200 bytes
+-- at least one byte, and no more than an id has
 abbrev pub has_id_len : List ℕ → Bool
-has_id_len id = nat_le 1 (length id) && nat_le (length id) 200
+has_id_len id = nat_le 1 (length id) && nat_le (length id) id_limit
 
--- UTF-8 text of 1 to 200 bytes
+-- UTF-8 text of so many bytes
 abbrev pub is_id : List ℕ → Bool
 is_id id = has_id_len id && is_utf8 id
 

@@ -1,6 +1,5 @@
--- What is read of each file (GTFS Schedule reference): its columns in order with their forms, and the rows that it
--- has at most.
-use Rattle.std.specs.Prelude.{ℕ, Bool, true, false, List, [], ◌∷◌}
+-- What is read of each file (GTFS Schedule reference): its columns in order with their forms.
+use Rattle.std.specs.Prelude.{Bool, true, false, List, [], ◌∷◌}
 use Rattle.stop_schedule.specs.declared.column.Column.{Column}
 use Rattle.stop_schedule.specs.declared.forms.Form.{Form}
 use Rattle.stop_schedule.specs.declared.table_file.TableFile.{TableFile}
@@ -12,24 +11,16 @@ columns Stops = (Column.StopId, Form.Id) ∷ []
 columns Routes = (Column.RouteId, Form.Id) ∷ []
 columns Trips = (Column.TripId, Form.Id) ∷ (Column.RouteId, Form.Id) ∷ (Column.ServiceId, Form.Id) ∷ []
 columns Calendar =
-    (Column.ServiceId, Form.Id) ∷ (Column.Monday, Form.Flag) ∷ (Column.Tuesday, Form.Flag) ∷ (Column.Wednesday, Form.Flag)
-    ∷ (Column.Thursday, Form.Flag) ∷ (Column.Friday, Form.Flag) ∷ (Column.Saturday, Form.Flag) ∷ (Column.Sunday, Form.Flag)
-    ∷ (Column.StartDate, Form.Date) ∷ (Column.EndDate, Form.Date) ∷ []
-columns CalendarDates = (Column.ServiceId, Form.Id) ∷ (Column.Date, Form.Date) ∷ (Column.ExceptionType, Form.Exception) ∷ []
+    (Column.ServiceId, Form.Id) ∷ (Column.Monday, Form.Flag) ∷ (Column.Tuesday, Form.Flag)
+    ∷ (Column.Wednesday, Form.Flag) ∷ (Column.Thursday, Form.Flag) ∷ (Column.Friday, Form.Flag)
+    ∷ (Column.Saturday, Form.Flag) ∷ (Column.Sunday, Form.Flag) ∷ (Column.StartDate, Form.Date)
+    ∷ (Column.EndDate, Form.Date) ∷ []
+columns CalendarDates =
+    (Column.ServiceId, Form.Id) ∷ (Column.Date, Form.Date) ∷ (Column.ExceptionType, Form.Exception) ∷ []
 columns Frequencies = (Column.TripId, Form.Id) ∷ []
 columns StopTimes =
     (Column.TripId, Form.Id) ∷ (Column.StopSequence, Form.Sequence) ∷ (Column.StopId, Form.Id)
     ∷ (Column.ArrivalTime, Form.Time) ∷ (Column.DepartureTime, Form.Time) ∷ []
-
-abbrev pub row_limit : TableFile → ℕ
-row_limit Agency = 10000
-row_limit Stops = 100000
-row_limit Routes = 100000
-row_limit Trips = 200000
-row_limit Calendar = 200000
-row_limit CalendarDates = 4000000
-row_limit Frequencies = 200000
-row_limit StopTimes = 4000000
 
 -- the file is read as a list of ids
 abbrev pub lists_ids : TableFile → Bool

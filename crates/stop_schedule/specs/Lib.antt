@@ -12,6 +12,8 @@ pub mod Holding
 pub mod Ids
 pub mod Keeping
 pub mod Layout
+pub mod Limits
+pub mod Places
 pub mod Planned
 pub mod Reading
 pub mod Rising

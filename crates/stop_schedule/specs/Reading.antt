@@ -13,17 +13,23 @@ use Rattle.stop_schedule.specs.declared.table_file.TableFile.{TableFile}
 use Rattle.stop_schedule.specs.declared.table_fault.TableFault.{TableFault}
 
 -- of a file that may be absent: its rows are held, or its first fault is told
-abbrev pub ReadsRows : {T : Type 0} → TableFile → (List Row → Row → Option TableFault) → (T → List Row → Type 0) → Sheets → Result T TableFault → Type 0
-ReadsRows file further Holds sheets result = Finds (optional_fault file further (sheets file)) (λ found. Holds found (rows_in (sheets file))) result
+abbrev pub ReadsRows : {T : Type 0} → TableFile → (List Row → Row → Option TableFault) → (T → List Row → Type 0)
+    → Sheets → Result T TableFault → Type 0
+ReadsRows file further Holds sheets result =
+    Finds (optional_fault file further (sheets file)) (λ found. Holds found (rows_in (sheets file))) result
 
 -- of a file that has to be there
-abbrev pub ReadsNeeded : {T : Type 0} → TableFile → (List Row → Row → Option TableFault) → (T → List Row → Type 0) → Sheets → Result T TableFault → Type 0
-ReadsNeeded file further Holds sheets result = Finds (needed_fault file further (sheets file)) (λ found. Holds found (rows_in (sheets file))) result
+abbrev pub ReadsNeeded : {T : Type 0} → TableFile → (List Row → Row → Option TableFault) → (T → List Row → Type 0)
+    → Sheets → Result T TableFault → Type 0
+ReadsNeeded file further Holds sheets result =
+    Finds (needed_fault file further (sheets file)) (λ found. Holds found (rows_in (sheets file))) result
 
 -- whether it is there, and its rows are held
-abbrev pub FindsFile : TableFile → (List Row → Row → Option TableFault) → (List Row → Type 0) → Sheets → Result Bool TableFault → Type 0
+abbrev pub FindsFile : TableFile → (List Row → Row → Option TableFault) → (List Row → Type 0) → Sheets
+    → Result Bool TableFault → Type 0
 FindsFile file further Holds sheets result =
-    Finds (optional_fault file further (sheets file)) (λ there. (there ≡ is_some (sheets file)) × Holds (rows_in (sheets file))) result
+    Finds (optional_fault file further (sheets file))
+    (λ there. (there ≡ is_some (sheets file)) × Holds (rows_in (sheets file))) result
 
 -- the fault comes after all files: an end without times, or want of memory
 abbrev pub IsAssembled : TableFault → Type 0

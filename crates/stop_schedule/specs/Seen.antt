@@ -11,5 +11,6 @@ seen table = record {
   routes = table.routes;
   route_of = λ trip. route_held table.routes (slice_get table.carried.items trip);
   stops_of = λ trip. stops_held table.stop_rows.items (slice_get table.carried.items trip);
-  runs = λ trip day. runs_held table.services.calendars table.services.exceptions (slice_get table.carried.items trip) day;
+  runs = λ trip day. runs_held table.services.calendars table.services.exceptions (slice_get table.carried.items trip)
+      day;
 }

@@ -4,6 +4,7 @@ use Rattle.std.specs.Ordering.{int_eq}
 use Rattle.std.specs.Str.{bytes_eq}
 use Rattle.jiff_core.specs.Calendar.{weekday_number}
 use Rattle.stop_schedule.specs.Forms.{date}
+use Rattle.stop_schedule.specs.Places as places
 use Rattle.stop_schedule.specs.Sheet.{Row, nth}
 use Rattle.stop_schedule.specs.declared.service_rows.Calendar.{Calendar}
 
@@ -22,23 +23,29 @@ day_at column row = unwrap_or (day_in column row) (pos 0)
 -- the weekdays of a row of calendar.txt, from Monday on
 abbrev pub weekdays : Row → List Bool
 weekdays row =
-    is_one 1 row ∷ is_one 2 row ∷ is_one 3 row ∷ is_one 4 row ∷ is_one 5 row ∷ is_one 6 row ∷ is_one 7 row ∷ []
+    is_one places.calendar_monday row ∷ is_one places.calendar_tuesday row ∷ is_one places.calendar_wednesday row
+    ∷ is_one places.calendar_thursday row ∷ is_one places.calendar_friday row ∷ is_one places.calendar_saturday row
+    ∷ is_one places.calendar_sunday row ∷ []
 
 -- what a row of calendar.txt says of its service
 abbrev pub calendar_of : Row → Calendar
-calendar_of row = record { weekdays = weekdays row; start = day_at 8 row; end = day_at 9 row }
+calendar_of row = record {
+  weekdays = weekdays row;
+  start = day_at places.calendar_start_date row;
+  end = day_at places.calendar_end_date row;
+}
 
 -- the day of a row of calendar_dates.txt
 abbrev pub day_of_row : Row → ℤ
-day_of_row row = day_at 1 row
+day_of_row row = day_at places.dates_date row
 
--- a row is of that service
+-- a row of calendar.txt is of that service
 abbrev pub is_of : List ℕ → Row → Bool
-is_of service row = bytes_eq service (nth 0 row)
+is_of service row = bytes_eq service (nth places.calendar_service_id row)
 
 -- a row of calendar_dates.txt is of that service and that day
 abbrev pub is_exception : List ℕ → ℤ → Row → Bool
-is_exception service day row = is_of service row && int_eq (day_of_row row) day
+is_exception service day row = bytes_eq service (nth places.dates_service_id row) && int_eq (day_of_row row) day
 
 -- what the rows of calendar.txt say of a service, if they say anything
 abbrev pub calendar_in : List Row → List ℕ → Option Calendar
@@ -46,12 +53,13 @@ calendar_in calendars service = option_map calendar_of (find (is_of service) cal
 
 -- whether the rows of calendar_dates.txt add or remove the day of a service, if they say anything of it
 abbrev pub exception_in : List Row → List ℕ → ℤ → Option Bool
-exception_in dates service day = option_map (is_one 2) (find (is_exception service day) dates)
+exception_in dates service day = option_map (is_one places.dates_exception_type) (find (is_exception service day) dates)
 
 -- the calendar has the day
 abbrev pub has_day : Calendar → ℤ → Bool
 has_day calendar day =
-    int_le calendar.start day && (int_le day calendar.end && unwrap_or (slice_get calendar.weekdays (weekday_number day)) false)
+    int_le calendar.start day
+    && (int_le day calendar.end && unwrap_or (slice_get calendar.weekdays (weekday_number day)) false)
 
 -- an exception decides, then a calendar; a service of which nothing is said never runs
 abbrev pub runs_by : Option Bool → Option Calendar → ℤ → Bool

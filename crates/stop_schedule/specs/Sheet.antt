@@ -6,6 +6,7 @@ use Rattle.stop_schedule.specs.Answers.{is_free}
 use Rattle.stop_schedule.specs.Columns.{column_name}
 use Rattle.stop_schedule.specs.Fields.{field_of}
 use Rattle.stop_schedule.specs.Layout.{columns}
+use Rattle.stop_schedule.specs.Limits.{file_limit}
 use Rattle.stop_schedule.specs.RowReader.{RowsLeft}
 use Rattle.stop_schedule.specs.Rows.{rows, column}
 use Rattle.stop_schedule.specs.declared.column.Column.{Column}
@@ -18,7 +19,7 @@ use Rattle.stop_schedule.specs.declared.table_fault.TableFault.TheVariants.{TooL
 abbrev pub Row : Type 0
 Row = List (List ℕ)
 
--- the field of a column
+-- the field of a column at its place, as Places.antt has them
 abbrev pub nth : ℕ → Row → List ℕ
 nth column row = unwrap_or (slice_get row column) []
 
@@ -39,16 +40,13 @@ place_then file column (Some place) later = map_ok (λ places. place ∷ places)
 -- the places of the columns by the names of the first record, or the first column that it doesn't name
 abbrev pub places_of : TableFile → List (List ℕ) → List (Column × Form) → Result (List ℕ) TableFault
 places_of file names [] = Ok []
-places_of file names (read ∷ later) = place_then file read.0 (column (column_name read.0) names) (places_of file names later)
+places_of file names (read ∷ later) =
+    place_then file read.0 (column (column_name read.0) names) (places_of file names later)
 
 -- the data rows by the records of a file, of which the first names the columns
 abbrev pub sheet_of : TableFile → List (List (List ℕ)) → Result (List Row) TableFault
 sheet_of file [] = map_ok (λ places. []) (places_of file [] (columns file))
 sheet_of file (names ∷ below) = map_ok (λ places. map (fields_at places) below) (places_of file names (columns file))
-
--- the bytes that a file has at most
-abbrev pub file_limit : ℕ
-file_limit = 268435456
 
 -- the data rows by the bytes of a file
 abbrev pub sheet_in : TableFile → List ℕ → Result (List Row) TableFault

@@ -4,8 +4,9 @@ use Rattle.stop_schedule.specs.Ids.{are_ids, is_id}
 use Rattle.stop_schedule.specs.Stops.{are_stops_of}
 use Rattle.stop_schedule.specs.Table.{Table}
 
--- the ids of trips, stops and routes are texts of 1 to 200 bytes of which no two are equal; the stops of each trip are at most
--- 250, rise in sequence, are known and have times of at most 99:59:59; and the route of each trip has an id
+-- the ids of trips, stops and routes are texts of one byte to `id_limit` of which no two are equal; the stops of each
+-- trip are at most `stop_limit`, rise in sequence, are known and have times of at most 99:59:59; and the route of
+-- each trip has an id
 pub record IsSound (table : Table) : Type 0 where
   pub trips : are_ids table.trips ≡ true
   pub stops : are_ids table.stops ≡ true

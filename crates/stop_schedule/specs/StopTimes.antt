@@ -3,13 +3,14 @@ use Rattle.std.specs.Prelude.{◌+◌, ◌-◌, ◌*◌, ◌/◌, ℕ, Bool, nat
 use Rattle.std.specs.List.{enumerate_from}
 use Rattle.std.specs.Str.{bytes_eq}
 use Rattle.stop_schedule.specs.Forms.{seconds, sequence}
+use Rattle.stop_schedule.specs.Places.{stop_times_trip_id as trip_id, stop_times_stop_sequence as stop_sequence, stop_times_stop_id as stop_id, stop_times_arrival_time as arrival_time, stop_times_departure_time as departure_time}
 use Rattle.stop_schedule.specs.Sheet.{Row, nth}
 use Rattle.stop_schedule.specs.declared.stop_times.LoadedStop.{LoadedStop}
 use Rattle.stop_schedule.specs.declared.stop_times.StopRow.{StopRow}
 
 -- the place of a row in its trip
 abbrev pub sequence_of : Row → ℕ
-sequence_of row = unwrap_or (sequence (nth 1 row)) 0
+sequence_of row = unwrap_or (sequence (nth stop_sequence row)) 0
 
 -- one time stands for both
 abbrev pub both_times : Option ℕ → Option ℕ → Option (ℕ × ℕ)
@@ -20,11 +21,11 @@ both_times None None = None
 
 -- the times of a row, if it has any
 abbrev pub times : Row → Option (ℕ × ℕ)
-times row = both_times (seconds (nth 3 row)) (seconds (nth 4 row))
+times row = both_times (seconds (nth arrival_time row)) (seconds (nth departure_time row))
 
 -- the number of the stop of a row
 abbrev pub stop_of : List (List ℕ) → Row → ℕ
-stop_of stops row = unwrap_or (position (bytes_eq (nth 2 row)) stops) 0
+stop_of stops row = unwrap_or (position (bytes_eq (nth stop_id row)) stops) 0
 
 -- a stop by its row and the row's number
 abbrev pub loaded : List (List ℕ) → ℕ × Row → LoadedStop
@@ -38,7 +39,8 @@ loaded stops numbered = record {
 -- a stop among others, before the first of a greater sequence
 abbrev pub placed : LoadedStop → List LoadedStop → List LoadedStop
 placed stop [] = stop ∷ []
-placed stop (first ∷ others) = if nat_lt stop.sequence first.sequence then stop ∷ first ∷ others else first ∷ placed stop others
+placed stop (first ∷ others) =
+    if nat_lt stop.sequence first.sequence then stop ∷ first ∷ others else first ∷ placed stop others
 
 -- stops in rising sequence
 abbrev pub in_sequence : List LoadedStop → List LoadedStop
@@ -47,7 +49,7 @@ in_sequence (stop ∷ stops) = placed stop (in_sequence stops)
 
 -- the rows of a trip among numbered rows
 abbrev pub is_of_trip : List ℕ → ℕ × Row → Bool
-is_of_trip trip numbered = bytes_eq trip (nth 0 numbered.1)
+is_of_trip trip numbered = bytes_eq trip (nth trip_id numbered.1)
 
 -- the stops of a trip by all rows of stop_times.txt, numbered from 1: its rows in rising sequence
 abbrev pub stops_in : List (List ℕ) → List Row → List ℕ → List LoadedStop
@@ -79,7 +81,8 @@ times_or (Some times) between = times
 times_or None between = (between, between)
 
 abbrev pub times_at : List LoadedStop → ℕ → LoadedStop → ℕ × ℕ
-times_at stops place stop = times_or stop.times (time_between (nearest (reverse (take place stops))) (nearest (drop (place + 1) stops)))
+times_at stops place stop =
+    times_or stop.times (time_between (nearest (reverse (take place stops))) (nearest (drop (place + 1) stops)))
 
 abbrev pub stop_row : List LoadedStop → ℕ → LoadedStop → StopRow
 stop_row stops place stop = record {

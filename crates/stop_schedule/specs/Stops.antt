@@ -1,6 +1,7 @@
 -- The stops of a trip among themselves (GTFS Schedule reference, stop_times.txt).
 use Rattle.std.specs.Prelude.{◌&&◌, ℕ, Bool, true, nat_le, nat_lt, List, [], ◌∷◌, length}
 use Rattle.std.specs.List.{list_all}
+use Rattle.stop_schedule.specs.Limits.{stop_limit, time_limit}
 use Rattle.stop_schedule.specs.declared.stop_times.StopRow.{StopRow}
 
 -- each stop has a greater sequence than those before it
@@ -12,13 +13,14 @@ are_rising (row ∷ rows) = list_all (λ other. nat_lt row.sequence other.sequen
 abbrev pub are_known : ℕ → List StopRow → Bool
 are_known stops rows = list_all (λ row. nat_lt row.stop.0 stops) rows
 
--- the times of a stop count at most 99:59:59 from the start of the service day
+-- the times of a stop are at most 99:59:59 from the start of the service day
 abbrev pub is_timed : StopRow → Bool
-is_timed row = nat_le row.arrival 359999 && nat_le row.departure 359999
+is_timed row = nat_le row.arrival time_limit && nat_le row.departure time_limit
 
 abbrev pub are_timed : List StopRow → Bool
 are_timed rows = list_all is_timed rows
 
--- they are at most 250, rise in sequence, are of this many stops, and have such times
+-- they are no more than a trip has, rise in sequence, are of this many stops, and have such times
 abbrev pub are_stops_of : ℕ → List StopRow → Bool
-are_stops_of stops rows = nat_le (length rows) 250 && (are_rising rows && (are_known stops rows && are_timed rows))
+are_stops_of stops rows =
+    nat_le (length rows) stop_limit && (are_rising rows && (are_known stops rows && are_timed rows))

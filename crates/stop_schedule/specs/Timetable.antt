@@ -4,11 +4,13 @@ use Rattle.std.specs.Option.{option_or}
 use Rattle.gw_base.specs.Directory.{bytes_of}
 use Rattle.stop_schedule.specs.Causes.{zone_fault, duplicate_fault, trip_fault, calendar_fault, date_fault, frequency_fault, stop_time_fault}
 use Rattle.stop_schedule.specs.Faults.{needed_fault, optional_fault}
+use Rattle.stop_schedule.specs.Places.{own_id, trips_trip_id, trips_route_id, trips_service_id}
 use Rattle.stop_schedule.specs.Services.{runs_by, exception_in, calendar_in}
 use Rattle.stop_schedule.specs.Sheet.{Row, nth, sheet_in, rows_in}
 use Rattle.stop_schedule.specs.StopTimes.{stops_in, filled, untimed_end, least}
 use Rattle.stop_schedule.specs.Table.{Table}
 use Rattle.stop_schedule.specs.Trips.{carried_rows}
+use Rattle.stop_schedule.specs.declared.stop_times.LoadedStop.{LoadedStop}
 use Rattle.stop_schedule.specs.declared.stop_times.StopRow.{StopRow}
 use Rattle.stop_schedule.specs.declared.table_file.TableFile.{TableFile}
 use Rattle.stop_schedule.specs.declared.table_file.TableFile.TheVariants.{Agency, Stops, Routes, Trips, Calendar, CalendarDates, Frequencies, StopTimes}
@@ -39,10 +41,11 @@ sheets_in files dir file = option_map (sheet_in file) (bytes_of files (path_of d
 
 -- the ids of a file's rows
 abbrev pub ids_in : Sheets → TableFile → List (List ℕ)
-ids_in sheets file = map (nth 0) (rows_in (sheets file))
+ids_in sheets file = map (nth own_id) (rows_in (sheets file))
 
 -- of the two calendar files one has to be there, which is found at the second
-abbrev pub dates_fault : Option (Result (List Row) TableFault) → Option (Result (List Row) TableFault) → Option TableFault
+abbrev pub dates_fault : Option (Result (List Row) TableFault) → Option (Result (List Row) TableFault)
+    → Option TableFault
 dates_fault None None = Some (Missing Calendar)
 dates_fault (Some calendar) None = None
 dates_fault calendar (Some dates) = optional_fault CalendarDates date_fault (Some dates)
@@ -50,16 +53,21 @@ dates_fault calendar (Some dates) = optional_fault CalendarDates date_fault (Som
 -- the first fault of the two
 abbrev pub calendars_fault : Sheets → Option TableFault
 calendars_fault sheets =
-    option_or (optional_fault Calendar calendar_fault (sheets Calendar)) (dates_fault (sheets Calendar) (sheets CalendarDates))
+    option_or (optional_fault Calendar calendar_fault (sheets Calendar))
+    (dates_fault (sheets Calendar) (sheets CalendarDates))
 
 -- the trips that are carried
 abbrev pub trips_in : Sheets → List Row
 trips_in sheets = carried_rows (rows_in (sheets Frequencies)) (rows_in (sheets Trips))
 
+-- the stops of a trip by its row
+abbrev pub stops_of_trip : Sheets → Row → List LoadedStop
+stops_of_trip sheets trip = stops_in (ids_in sheets Stops) (rows_in (sheets StopTimes)) (nth trips_trip_id trip)
+
 -- the least row of a carried trip's first or last stop that has no times
 abbrev pub untimed_in : Sheets → Option ℕ
 untimed_in sheets =
-    least (map (λ trip. untimed_end (stops_in (ids_in sheets Stops) (rows_in (sheets StopTimes)) (nth 0 trip))) (trips_in sheets))
+    least (map (λ trip. untimed_end (stops_of_trip sheets trip)) (trips_in sheets))
 
 -- the first fault of the files that name zones, stops and routes
 abbrev pub names_fault : Sheets → Option TableFault
@@ -94,27 +102,29 @@ folder_fault sheets = option_or (files_fault sheets) (option_map UntimedEnd (unt
 -- the route of a trip
 abbrev pub route_in : Option Row → List ℕ
 route_in None = []
-route_in (Some trip) = nth 1 trip
+route_in (Some trip) = nth trips_route_id trip
 
 -- its stops, by the ids of stops and the rows of stop_times.txt
 abbrev pub stop_rows_in : List (List ℕ) → List Row → Option Row → List StopRow
 stop_rows_in stops rows None = []
-stop_rows_in stops rows (Some trip) = filled (stops_in stops rows (nth 0 trip))
+stop_rows_in stops rows (Some trip) = filled (stops_in stops rows (nth trips_trip_id trip))
 
 -- whether it runs on a day, by the rows of the calendar files
 abbrev pub runs_in : List Row → List Row → Option Row → ℤ → Bool
 runs_in calendars dates None day = false
-runs_in calendars dates (Some trip) day = runs_by (exception_in dates (nth 2 trip) day) (calendar_in calendars (nth 2 trip)) day
+runs_in calendars dates (Some trip) day =
+    runs_by (exception_in dates (nth trips_service_id trip) day) (calendar_in calendars (nth trips_service_id trip)) day
 
 -- the timetable of a folder without fault
 abbrev pub table_of : Sheets → Table
 table_of sheets = record {
-  trips = map (nth 0) (trips_in sheets);
+  trips = map (nth trips_trip_id) (trips_in sheets);
   stops = ids_in sheets Stops;
   routes = ids_in sheets Routes;
   route_of = λ trip. route_in (slice_get (trips_in sheets) trip);
   stops_of = λ trip. stop_rows_in (ids_in sheets Stops) (rows_in (sheets StopTimes)) (slice_get (trips_in sheets) trip);
-  runs = λ trip day. runs_in (rows_in (sheets Calendar)) (rows_in (sheets CalendarDates)) (slice_get (trips_in sheets) trip) day;
+  runs = λ trip day.
+      runs_in (rows_in (sheets Calendar)) (rows_in (sheets CalendarDates)) (slice_get (trips_in sheets) trip) day;
 }
 
 -- the table unless there is a fault

@@ -1,6 +1,7 @@
 -- What is kept of the stops of a trip while rows are read.
 use Rattle.std.specs.Prelude.{◌≡◌, ◌+◌, ◌*◌, ◌++◌, ℕ, Bool, true, false, min, List, [], ◌∷◌, Some, if◌then◌else◌}
 use Rattle.std.specs.Bool.{MatchBool}
+use Rattle.stop_schedule.specs.Limits.{number_limit}
 use Rattle.stop_schedule.specs.Rising.{all_less, has_sequence, is_rising}
 use Rattle.stop_schedule.specs.StopTimes.{placed}
 use Rattle.stop_schedule.specs.declared.stop_times.LoadedStop.{LoadedStop}
@@ -16,7 +17,7 @@ times_from start brief = (start + brief.0, start + brief.0 + brief.1)
 -- the stop of a row that is kept in few bytes, of a trip with that first minute
 abbrev pub expanded : ℕ → ℕ → BriefStop → LoadedStop
 expanded row minute brief = record {
-  row = min row 4294967295;
+  row = min row number_limit;
   sequence = brief.sequence;
   stop = record { 0 = brief.stop };
   times = Some (times_from (60 * minute) (brief.since, brief.stay));
@@ -42,7 +43,8 @@ with_stop added stop stops = if added then stops ++ stop ∷ [] else stops
 -- a stop was added at its place, where no other had its sequence, or else one had
 abbrev pub Places : LoadedStop → List LoadedStop → List LoadedStop → Bool → Type 0
 Places stop old new added =
-    MatchBool added ((has_sequence stop.sequence old ≡ false) × (new ≡ placed stop old)) (has_sequence stop.sequence old ≡ true)
+    MatchBool added ((has_sequence stop.sequence old ≡ false) × (new ≡ placed stop old))
+    (has_sequence stop.sequence old ≡ true)
 
 -- where the stops rise in sequence, this one is greater than theirs
 abbrev pub IsBehind : List LoadedStop → ℕ → Type 0

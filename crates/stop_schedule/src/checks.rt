@@ -5,13 +5,11 @@ ghost use Rattle.stop_schedule.specs.Forms as forms_of;
 ghost use Rattle.stop_schedule.specs.Faults as spec;
 
 use crate::forms::{Form, fits, seconds, sequence};
-use crate::layout::{columns, row_limit};
+use crate::layout::columns;
+use crate::limits::{MAX_ID_LEN, row_limit};
 use crate::sheet::{Sheet, text_of};
 use crate::table_fault::TableFault;
 use crate::table_file::TableFile;
-
-// The bytes that an id has at most.
-const MAX_ID_LEN: usize = 200;
 
 // Whether a field is an id that is too long.
 fn is_long(form: Form, text: &str) -> bool

@@ -8,13 +8,11 @@ ghost use Rattle.stop_schedule.specs.Answers.{HasFailed};
 ghost use Rattle.stop_schedule.specs.Sheet.{GivesFile};
 ghost use Rattle.stop_schedule.specs.Timetable.{path_of};
 
+use crate::limits::MAX_FILE_LEN;
 use crate::table_fault::TableFault;
 use crate::table_file::TableFile;
 use gw_base::{Bytes, FileFault, Files, Got};
 use std::alloc::{AllocError, Global};
-
-// The bytes that a file has at most.
-const MAX_FILE_LEN: u64 = 268_435_456;
 
 // The name of a file in a folder.
 fn path(alloc: Global, dir: &str, file: TableFile) -> Result<String, AllocError>
@@ -35,7 +33,8 @@ pub(crate) fn read_file<F: Files>(
     file: TableFile,
     buffer: &mut Bytes,
 ) -> Result<bool, TableFault>
-    ensures exact { IfSome (F.told files.old) (λ told. GivesFile result file (bytes_of told (path_of dir.now file)) buffer.new) }
+    ensures exact { IfSome (F.told files.old)
+        (λ told. GivesFile result file (bytes_of told (path_of dir.now file)) buffer.new) }
     ensures counts { Counts (HasFailed result) (F.faults files.old) (F.faults files.new) }
     ensures failed { IfFailed result (λ named. named ≡ file) }
     ensures same { F.told files.new ≡ F.told files.old }

@@ -42,7 +42,8 @@ fn read_names<F: Files>(
     buffer: &mut Bytes,
 ) -> Result<(Ids, Ids), TableFault>
     ensures exact { IfSome (F.told files.old) (λ told. Finds (names_fault (sheets_in told dir.now))
-        (λ names. (names.0 ≡ ids_in (sheets_in told dir.now) File.Stops) × (names.1 ≡ ids_in (sheets_in told dir.now) File.Routes)) result) }
+        (λ names. (names.0 ≡ ids_in (sheets_in told dir.now) File.Stops)
+        × (names.1 ≡ ids_in (sheets_in told dir.now) File.Routes)) result) }
     ensures counts { Counts (HasFailed result) (F.faults files.old) (F.faults files.new) }
     ensures failed { IfFailed result
         (λ named. IfSome (F.told files.old) (λ told. NamesFailed (sheets_in told dir.now) named)) }
@@ -63,7 +64,8 @@ fn read_runs<F: Files>(
     routes: &Ids,
 ) -> Result<(Trips, Services), TableFault>
     ensures exact { IfSome (F.told files.old) (λ told. Finds (runs_fault routes.now (sheets_in told dir.now))
-        (λ found. HoldsRuns routes.now found.0.ids found.0.routes.items found.0.services.items found.1.calendars found.1.exceptions (sheets_in told dir.now)) result) }
+        (λ found. HoldsRuns routes.now found.0.ids found.0.routes.items found.0.services.items found.1.calendars
+        found.1.exceptions (sheets_in told dir.now)) result) }
     ensures trips { IfOk result (λ found. HasTrips (length routes.now) found.0.ids found.0.routes.items) }
     ensures counts { Counts (HasFailed result) (F.faults files.old) (F.faults files.new) }
     ensures failed { IfFailed result
@@ -86,7 +88,8 @@ fn read_stops<F: Files>(
 ) -> Result<(Vec<bool>, Vec<TripStops>), TableFault>
     ensures exact { IfSome (F.told files.old) (λ told. Finds (stops_fault trips.now stops.now (sheets_in told dir.now))
         (λ found. (found.0.items ≡ map (is_carried (rows_in (sheets_in told dir.now File.Frequencies))) trips.now)
-        × HoldsStops trips.now stops.now (map stops_kept found.1.items) (rows_in (sheets_in told dir.now File.StopTimes))) result) }
+        × HoldsStops trips.now stops.now (map stops_kept found.1.items)
+        (rows_in (sheets_in told dir.now File.StopTimes))) result) }
     ensures loaded { IfOk result (λ found. all_loaded (length stops.now) (map stops_kept found.1.items) ≡ true) }
     ensures counts { Counts (HasFailed result) (F.faults files.old) (F.faults files.new) }
     ensures failed { IfFailed result
@@ -139,7 +142,8 @@ pub(crate) fn read_folder<F: Files>(
     dir: &str,
 ) -> Result<FolderRows, TableFault>
     ensures exact { IfSome (F.told files.old) (λ told. Finds (files_fault (sheets_in told dir.now))
-        (λ folder. HoldsRest (ids_in (sheets_in told dir.now) File.Stops) (ids_in (sheets_in told dir.now) File.Routes) folder (sheets_in told dir.now)) result) }
+        (λ folder. HoldsRest (ids_in (sheets_in told dir.now) File.Stops)
+        (ids_in (sheets_in told dir.now) File.Routes) folder (sheets_in told dir.now)) result) }
     ensures loaded { IfOk result IsLoaded }
     ensures counts { Counts (HasFailed result) (F.faults files.old) (F.faults files.new) }
     ensures failed { IfFailed result

@@ -1,6 +1,7 @@
 //! The forms of fields (GTFS Schedule reference, field types). The functions meet `specs/Forms.antt`.
 ghost use Rattle.std.specs.Prelude.{◌≡◌, ◌≤◌, length, IfSome};
 ghost use Rattle.stop_schedule.specs.Forms as spec;
+ghost use Rattle.stop_schedule.specs.Limits.{time_limit};
 
 use service_day::{Day, DayForm, read_day};
 
@@ -95,7 +96,7 @@ fn number(text: &[u8]) -> Option<u32>
 #[inline(always)]
 pub(crate) fn seconds(text: &[u8]) -> Option<u32>
     ensures value { result ≡ spec.seconds text.now }
-    ensures bound { IfSome result (λ seconds. seconds ≤ 359999) }
+    ensures bound { IfSome result (λ seconds. seconds ≤ time_limit) }
 {
     if text.len() == 7 {
         return clock(b'0', text);
@@ -112,7 +113,7 @@ pub(crate) fn seconds(text: &[u8]) -> Option<u32>
 fn clock(tens: u8, rest: &[u8]) -> Option<u32>
     requires { length rest.now ≡ 7 }
     ensures value { result ≡ spec.clock tens rest.now }
-    ensures bound { IfSome result (λ seconds. seconds ≤ 359999) }
+    ensures bound { IfSome result (λ seconds. seconds ≤ time_limit) }
 {
     if !is_clock(tens, rest) {
         return None;

@@ -30,7 +30,8 @@ impl<'a> TakesRows for FrequencyRows<'a> {
 
     ghost Keeps = { λ _ _. ⊤ };
 
-    ghost Holds = { λ start taker rows. (taker.trips.now ≡ start.trips.now) × (taker.carried.items ≡ map (is_carried rows) taker.trips.now) };
+    ghost Holds = { λ start taker rows. (taker.trips.now ≡ start.trips.now)
+        × (taker.carried.items ≡ map (is_carried rows) taker.trips.now) };
 
     fn file(&self) -> TableFile {
         TableFile::Frequencies

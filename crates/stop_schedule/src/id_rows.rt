@@ -20,6 +20,7 @@ pub(crate) struct IdRows {
 impl TakesRows for IdRows {
     ghost use Rattle.std.specs.Prelude.{◌≡◌, ◌<◌, map, length};
     ghost use Rattle.stop_schedule.specs.Causes.{duplicate_fault};
+    ghost use Rattle.stop_schedule.specs.Places.{own_id};
     ghost use Rattle.stop_schedule.specs.Sheet.{nth};
 
     ghost file_of = { λ taker. taker.file };
@@ -30,7 +31,7 @@ impl TakesRows for IdRows {
 
     ghost Keeps = { λ taker number. length taker.ids < number };
 
-    ghost Holds = { λ _ taker rows. taker.ids ≡ map (nth 0) rows };
+    ghost Holds = { λ _ taker rows. taker.ids ≡ map (nth own_id) rows };
 
     fn file(&self) -> TableFile {
         self.file

@@ -2,15 +2,14 @@
 ghost use Rattle.std.specs.Prelude.{◌≡◌, ◌&&◌, ◌||◌, ◌+◌, ◌≤◌, ◌<◌, ◌++◌, ◌∷◌, [], not, Some, is_some, if◌then◌else◌, length, slice_get, position, true, IfOk, OnOk, OnErr, IfSome, IsTrue};
 ghost use Rattle.std.specs.Str.{bytes_eq, is_utf8};
 ghost use Rattle.stop_schedule.specs.Ids.{are_ids, has_id, has_id_len as has_len, is_id, with_id};
+ghost use Rattle.stop_schedule.specs.Limits.{number_limit};
 ghost use Rattle.stop_schedule.specs.Sheet.{nth};
 
+use crate::limits::MAX_ID_LEN;
 use crate::sheet::Sheet;
 use indexmap::IndexSet;
 use std::alloc::{AllocError, Global};
 use std::marker::Model;
-
-// The bytes that an id has at most.
-const MAX_ID_LEN: usize = 200;
 
 // The ids that can be numbered; those of a folder are fewer, by the rows that its files have at most.
 const MAX_IDS: usize = 4_294_967_295;
@@ -32,12 +31,13 @@ impl Model for Ids {
     ghost use Rattle.std.specs.Prelude.{◌≡◌, ◌≤◌, true, List, ℕ, map, length};
     ghost use Rattle.std.specs.String.{string_bytes};
     ghost use Rattle.stop_schedule.specs.Ids.{are_ids};
+    ghost use Rattle.stop_schedule.specs.Limits.{number_limit};
 
     ghost Value = { List (List ℕ) };
 
     ghost view = { λ a. map string_bytes a.ids.keys };
 
-    ghost invariant = { λ a. (are_ids (map string_bytes a.ids.keys) ≡ true) × (length a.ids.keys ≤ 4294967295) };
+    ghost invariant = { λ a. (are_ids (map string_bytes a.ids.keys) ≡ true) × (length a.ids.keys ≤ number_limit) };
 }
 
 impl Ids {
@@ -54,7 +54,7 @@ impl Ids {
     pub(crate) fn len(&self) -> usize
         ensures value { result ≡ length self.now }
         ensures ids { IsTrue (are_ids self.now) }
-        ensures few { result ≤ 4294967295 }
+        ensures few { result ≤ number_limit }
     {
         self.ids.len()
     }
@@ -84,7 +84,7 @@ impl Ids {
     /// Adds an id at the end where it is one and is new, and says whether it was added. Want of memory
     /// leaves the ids as they were.
     pub(crate) fn add(&mut self, alloc: Global, id: &[u8]) -> Result<bool, AllocError>
-        requires { length self.old < 4294967295 }
+        requires { length self.old < number_limit }
         ensures added { IfOk result (λ added. added ≡ (is_id id.now && not (has_id id.now self.old))) }
         ensures ids { IfOk result (λ added. self.new ≡ (if added then self.old ++ id.now ∷ [] else self.old)) }
         ensures few { OnOk result (length self.new ≤ length self.old + 1) }
@@ -106,7 +106,7 @@ impl Ids {
     /// were.
     pub(crate) fn number_of(&mut self, alloc: Global, id: &str) -> Result<u32, AllocError>
         requires id { is_id id.now ≡ true }
-        requires room { length self.old < 4294967295 }
+        requires room { length self.old < number_limit }
         ensures ids { IfOk result (λ _. self.new ≡ with_id id.now self.old) }
         ensures number { IfOk result (λ number. slice_get self.new number ≡ Some id.now) }
         ensures few { OnOk result (length self.new ≤ length self.old + 1) }
@@ -140,7 +140,7 @@ impl Ids {
         number: u32,
     ) -> Result<u32, AllocError>
         requires id { is_id id.now ≡ true }
-        requires room { length self.old < 4294967295 }
+        requires room { length self.old < number_limit }
         ensures ids { IfOk result (λ _. self.new ≡ with_id id.now self.old) }
         ensures number { IfOk result (λ number. slice_get self.new number ≡ Some id.now) }
         ensures few { OnOk result (length self.new ≤ length self.old + 1) }
@@ -158,8 +158,10 @@ impl Ids {
 
 /// The number of the id in a column of the row at hand.
 pub(crate) fn find_in(ids: &Ids, sheet: &Sheet<'_>, column: usize) -> Option<u32>
-    ensures place { is_utf8 (nth column sheet.now.row) ≡ true → result ≡ position (bytes_eq (nth column sheet.now.row)) ids.now }
-    ensures found { is_utf8 (nth column sheet.now.row) ≡ true → is_some result ≡ has_id (nth column sheet.now.row) ids.now }
+    ensures place { is_utf8 (nth column sheet.now.row) ≡ true
+        → result ≡ position (bytes_eq (nth column sheet.now.row)) ids.now }
+    ensures found { is_utf8 (nth column sheet.now.row) ≡ true
+        → is_some result ≡ has_id (nth column sheet.now.row) ids.now }
     ensures within { IfSome result (λ place. place < length ids.now) }
     ensures at { IfSome result (λ place. slice_get ids.now place ≡ Some (nth column sheet.now.row)) }
     ensures ids { IsTrue (are_ids ids.now) }
@@ -174,8 +176,10 @@ pub(crate) fn find_in(ids: &Ids, sheet: &Sheet<'_>, column: usize) -> Option<u32
 
 /// The same, by a number that is tried first.
 pub(crate) fn find_from(ids: &Ids, sheet: &Sheet<'_>, column: usize, number: u32) -> Option<u32>
-    ensures place { is_utf8 (nth column sheet.now.row) ≡ true → result ≡ position (bytes_eq (nth column sheet.now.row)) ids.now }
-    ensures found { is_utf8 (nth column sheet.now.row) ≡ true → is_some result ≡ has_id (nth column sheet.now.row) ids.now }
+    ensures place { is_utf8 (nth column sheet.now.row) ≡ true
+        → result ≡ position (bytes_eq (nth column sheet.now.row)) ids.now }
+    ensures found { is_utf8 (nth column sheet.now.row) ≡ true
+        → is_some result ≡ has_id (nth column sheet.now.row) ids.now }
     ensures within { IfSome result (λ place. place < length ids.now) }
     ensures at { IfSome result (λ place. slice_get ids.now place ≡ Some (nth column sheet.now.row)) }
     ensures ids { IsTrue (are_ids ids.now) }

@@ -1,5 +1,4 @@
-//! What is read of each file: its columns in order, and how many rows it has at most. The functions meet
-//! `specs/Layout.antt`.
+//! What is read of each file: its columns in order. The function meets `specs/Layout.antt`.
 ghost use Rattle.std.specs.Prelude.{◌≡◌};
 ghost use Rattle.stop_schedule.specs.Layout as spec;
 
@@ -45,21 +44,5 @@ pub(crate) fn columns(file: TableFile) -> &'static [(Column, Form)]
             (Column::ArrivalTime, Form::Time),
             (Column::DepartureTime, Form::Time),
         ],
-    }
-}
-
-/// The data rows that a file has at most.
-pub(crate) fn row_limit(file: TableFile) -> u64
-    ensures { result ≡ spec.row_limit file }
-{
-    match file {
-        TableFile::Agency => 10_000,
-        TableFile::Stops => 100_000,
-        TableFile::Routes => 100_000,
-        TableFile::Trips => 200_000,
-        TableFile::Calendar => 200_000,
-        TableFile::CalendarDates => 4_000_000,
-        TableFile::Frequencies => 200_000,
-        TableFile::StopTimes => 4_000_000,
     }
 }

@@ -15,6 +15,7 @@ mod guesses;
 mod id_rows;
 mod ids;
 mod layout;
+mod limits;
 mod loading;
 mod numbers;
 mod rows;

@@ -1,7 +1,9 @@
 //! The files of a folder, each with what is made of its rows. The functions meet `specs/Timetable.antt`.
-ghost use Rattle.std.specs.Prelude.{◌≡◌, ◌≤◌, [], ⊤, true, map, length, is_some, IfOk, IfSome, OnOk};
+ghost use Rattle.std.specs.Prelude.{◌≡◌, ◌≤◌, ◌+◌, [], ⊤, true, map, length, is_some, IfOk, IfSome, OnOk};
 ghost use Rattle.stop_schedule.specs.Keeping.{HasTrips, KeepsTo, all_loaded};
-ghost use Rattle.stop_schedule.specs.Layout.{lists_ids, row_limit};
+ghost use Rattle.stop_schedule.specs.Layout.{lists_ids};
+ghost use Rattle.stop_schedule.specs.Limits.{row_limit};
+ghost use Rattle.stop_schedule.specs.Places.{own_id};
 ghost use Rattle.gw_base.specs.Count.{Counts};
 ghost use Rattle.stop_schedule.specs.Failures.{DaysFailed, IfFailed, Is};
 ghost use Rattle.stop_schedule.specs.Answers.{Finds, HasFailed};
@@ -58,7 +60,8 @@ fn read_needed<F: Files, T: TakesRows>(
 ) -> Result<(), TableFault>
     requires { T.Keeps taker.old 1 }
     ensures exact { IfSome (F.told files.old) (λ told. T.Holds taker.old taker.old []
-        → ReadsNeeded (T.file_of taker.old) (T.fault taker.old) (λ _. T.Holds taker.old taker.new) (sheets_in told dir.now) result) }
+        → ReadsNeeded (T.file_of taker.old) (T.fault taker.old) (λ _. T.Holds taker.old taker.new)
+        (sheets_in told dir.now) result) }
     ensures keeps { OnOk result (KeepsTo T.Keeps taker.new (row_limit (T.file_of taker.old))) }
     ensures same_given { T.given taker.new ≡ T.given taker.old }
     ensures counts { Counts (HasFailed result) (F.faults files.old) (F.faults files.new) }
@@ -78,7 +81,8 @@ pub(crate) fn read_zones<F: Files>(
     dir: &str,
     buffer: &mut Bytes,
 ) -> Result<(), TableFault>
-    ensures exact { IfSome (F.told files.old) (λ told. ReadsNeeded File.Agency zone_fault (λ _ _. ⊤) (sheets_in told dir.now) result) }
+    ensures exact { IfSome (F.told files.old)
+        (λ told. ReadsNeeded File.Agency zone_fault (λ _ _. ⊤) (sheets_in told dir.now) result) }
     ensures counts { Counts (HasFailed result) (F.faults files.old) (F.faults files.new) }
     ensures failed { IfFailed result (Is File.Agency) }
     ensures same { F.told files.new ≡ F.told files.old }
@@ -96,7 +100,9 @@ pub(crate) fn read_ids<F: Files>(
     file: TableFile,
 ) -> Result<Ids, TableFault>
     requires { lists_ids file ≡ true }
-    ensures exact { IfSome (F.told files.old) (λ told. ReadsNeeded file (duplicate_fault file) (λ ids rows. ids ≡ map (nth 0) rows) (sheets_in told dir.now) result) }
+    ensures exact { IfSome (F.told files.old)
+        (λ told. ReadsNeeded file (duplicate_fault file) (λ ids rows. ids ≡ map (nth own_id) rows)
+        (sheets_in told dir.now) result) }
     ensures counts { Counts (HasFailed result) (F.faults files.old) (F.faults files.new) }
     ensures failed { IfFailed result (Is file) }
     ensures same { F.told files.new ≡ F.told files.old }
@@ -121,9 +127,10 @@ pub(crate) fn read_trips<F: Files>(
     routes: &Ids,
 ) -> Result<(Trips, Ids), TableFault>
     ensures exact { IfSome (F.told files.old) (λ told. ReadsNeeded File.Trips (trip_fault routes.now)
-        (λ found. HoldsTrips routes.now found.1 found.0.ids found.0.routes.items found.0.services.items) (sheets_in told dir.now) result) }
+        (λ found. HoldsTrips routes.now found.1 found.0.ids found.0.routes.items found.0.services.items)
+        (sheets_in told dir.now) result) }
     ensures trips { IfOk result (λ found. HasTrips (length routes.now) found.0.ids found.0.routes.items) }
-    ensures few { IfOk result (λ found. length found.1 ≤ 200000) }
+    ensures few { IfOk result (λ found. length found.1 ≤ row_limit File.Trips) }
     ensures counts { Counts (HasFailed result) (F.faults files.old) (F.faults files.new) }
     ensures failed { IfFailed result (Is File.Trips) }
     ensures same { F.told files.new ≡ F.told files.old }
@@ -166,11 +173,13 @@ fn read_calendars<F: Files>(
     buffer: &mut Bytes,
     services: Ids,
 ) -> Result<(bool, CalendarRows), TableFault>
-    requires { length services ≤ 200000 }
-    ensures exact { IfSome (F.told files.old) (λ told. Finds (optional_fault File.Calendar calendar_fault (sheets_in told dir.now File.Calendar))
+    requires { length services ≤ row_limit File.Trips }
+    ensures exact { IfSome (F.told files.old)
+        (λ told. Finds (optional_fault File.Calendar calendar_fault (sheets_in told dir.now File.Calendar))
         (λ found. (found.0 ≡ is_some (sheets_in told dir.now File.Calendar))
-        × HoldsCalendars services found.1.services found.1.calendars (rows_in (sheets_in told dir.now File.Calendar))) result) }
-    ensures few { IfOk result (λ found. length found.1.services ≤ 400000) }
+        × HoldsCalendars services found.1.services found.1.calendars (rows_in (sheets_in told dir.now File.Calendar)))
+        result) }
+    ensures few { IfOk result (λ found. length found.1.services ≤ row_limit File.Trips + row_limit File.Calendar) }
     ensures counts { Counts (HasFailed result) (F.faults files.old) (F.faults files.new) }
     ensures failed { IfFailed result (Is File.Calendar) }
     ensures same { F.told files.new ≡ F.told files.old }
@@ -193,10 +202,12 @@ fn read_dates<F: Files>(
     buffer: &mut Bytes,
     services: Ids,
 ) -> Result<(bool, DateRows), TableFault>
-    requires { length services ≤ 400000 }
-    ensures exact { IfSome (F.told files.old) (λ told. Finds (optional_fault File.CalendarDates date_fault (sheets_in told dir.now File.CalendarDates))
+    requires { length services ≤ row_limit File.Trips + row_limit File.Calendar }
+    ensures exact { IfSome (F.told files.old)
+        (λ told. Finds (optional_fault File.CalendarDates date_fault (sheets_in told dir.now File.CalendarDates))
         (λ found. (found.0 ≡ is_some (sheets_in told dir.now File.CalendarDates))
-        × HoldsDates services found.1.services found.1.exceptions (rows_in (sheets_in told dir.now File.CalendarDates))) result) }
+        × HoldsDates services found.1.services found.1.exceptions
+        (rows_in (sheets_in told dir.now File.CalendarDates))) result) }
     ensures counts { Counts (HasFailed result) (F.faults files.old) (F.faults files.new) }
     ensures failed { IfFailed result (Is File.CalendarDates) }
     ensures same { F.told files.new ≡ F.told files.old }
@@ -219,9 +230,11 @@ pub(crate) fn read_services<F: Files>(
     buffer: &mut Bytes,
     services: Ids,
 ) -> Result<Services, TableFault>
-    requires { length services ≤ 200000 }
+    requires { length services ≤ row_limit File.Trips }
     ensures exact { IfSome (F.told files.old) (λ told. Finds (calendars_fault (sheets_in told dir.now))
-        (λ found. HoldsServices services found.calendars found.exceptions (rows_in (sheets_in told dir.now File.Calendar)) (rows_in (sheets_in told dir.now File.CalendarDates))) result) }
+        (λ found. HoldsServices services found.calendars found.exceptions
+        (rows_in (sheets_in told dir.now File.Calendar)) (rows_in (sheets_in told dir.now File.CalendarDates)))
+        result) }
     ensures counts { Counts (HasFailed result) (F.faults files.old) (F.faults files.new) }
     ensures failed { IfFailed result
         (λ named. IfSome (F.told files.old) (λ told. DaysFailed (sheets_in told dir.now) named)) }
@@ -334,7 +347,8 @@ pub(crate) fn read_stop_times<F: Files>(
 impl Services {
     /// Whether a service runs on a day.
     pub(crate) fn run(&self, service: u32, day: Day) -> bool
-        ensures { result ≡ runs_by (exception_at self.now.exceptions service day) (calendar_at self.now.calendars service) day }
+        ensures { result ≡ runs_by (exception_at self.now.exceptions service day)
+            (calendar_at self.now.calendars service) day }
     {
         if let Some(added) = self.exceptions.get(&(service, day.number())) {
             return *added;

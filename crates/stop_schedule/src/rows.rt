@@ -28,8 +28,8 @@ impl<'a> Model for Rows<'a> {
     ghost invariant = { λ r. IsPlainUnlessFailed r.reader };
 }
 
-// What is told of a read that stopped the reader. Bytes that lie in memory can't fail to be read, but `csv` doesn't say so
-// of the reader that it is given: that too is told as want of memory.
+// What is told of a read that stopped the reader. Bytes that lie in memory can't fail to be read, but `csv` doesn't
+// say so of the reader that it is given: that too is told as want of memory.
 fn refusal(error: Error) -> AllocError
     requires { stops_reader (error_kind error) ≡ true }
 {
@@ -58,7 +58,8 @@ impl<'a> Rows<'a> {
     /// memory there are none.
     pub(crate) fn advance(&mut self) -> Result<bool, AllocError>
         ensures none { IfOk result (λ found. found ≡ false → self.new.row ≡ []) }
-        ensures reads { IfOk result (λ found. MatchBool found (self.old.left ≡ self.new.row ∷ self.new.left) (self.old.left ≡ [])) }
+        ensures reads { IfOk result
+            (λ found. MatchBool found (self.old.left ≡ self.new.row ∷ self.new.left) (self.old.left ≡ [])) }
     {
         let found = match self.reader.read_byte_record(&mut self.row) {
             Ok(found) => found,

@@ -73,6 +73,7 @@ impl TakesRows for CalendarRows {
     ghost use Rattle.std.specs.Prelude.{◌<◌, ◌+◌, length};
     ghost use Rattle.stop_schedule.specs.Causes.{calendar_fault};
     ghost use Rattle.stop_schedule.specs.Holding.{HoldsCalendars};
+    ghost use Rattle.stop_schedule.specs.Limits.{row_limit};
     ghost use Rattle.stop_schedule.specs.declared.table_file.TableFile.TheVariants as TableFile;
 
     ghost file_of = { λ _. TableFile.Calendar };
@@ -81,7 +82,7 @@ impl TakesRows for CalendarRows {
 
     ghost given = { λ _. 0 };
 
-    ghost Keeps = { λ taker number. length taker.services < 200000 + number };
+    ghost Keeps = { λ taker number. length taker.services < row_limit TableFile.Trips + number };
 
     ghost Holds = { λ start taker rows. HoldsCalendars start.services taker.services taker.calendars rows };
 
@@ -114,6 +115,7 @@ impl TakesRows for DateRows {
     ghost use Rattle.std.specs.Prelude.{◌<◌, ◌+◌, length};
     ghost use Rattle.stop_schedule.specs.Causes.{date_fault};
     ghost use Rattle.stop_schedule.specs.Holding.{HoldsDates};
+    ghost use Rattle.stop_schedule.specs.Limits.{row_limit};
     ghost use Rattle.stop_schedule.specs.declared.table_file.TableFile.TheVariants as TableFile;
 
     ghost file_of = { λ _. TableFile.CalendarDates };
@@ -122,7 +124,8 @@ impl TakesRows for DateRows {
 
     ghost given = { λ _. 0 };
 
-    ghost Keeps = { λ taker number. length taker.services < 400000 + number };
+    ghost Keeps = { λ taker number. length taker.services
+        < row_limit TableFile.Trips + row_limit TableFile.Calendar + number };
 
     ghost Holds = { λ start taker rows. HoldsDates start.services taker.services taker.exceptions rows };
 

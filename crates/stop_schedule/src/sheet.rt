@@ -33,13 +33,17 @@ impl<'a> Model for Sheet<'a> {
 
     ghost Value = { RowsLeft };
 
-    ghost view = { λ s. record { row = fields_at s.places.items s.rows.row; left = map (fields_at s.places.items) s.rows.left } };
+    ghost view = { λ s. record {
+      row = fields_at s.places.items s.rows.row;
+      left = map (fields_at s.places.items) s.rows.left;
+    } };
 }
 
 // The places of a file's columns where the row at hand names the columns, or the first that it doesn't name.
 fn find_places(alloc: Global, rows: &Rows<'_>, file: TableFile) -> Result<Vec<usize>, TableFault>
     ensures no_failure { HasFailed result → ⊥ }
-    ensures exact { UnlessFree is_free result (λ answer. map_ok (λ places. places.items) answer ≡ places_of file rows.now.row (columns_of file)) }
+    ensures exact { UnlessFree is_free result
+        (λ answer. map_ok (λ places. places.items) answer ≡ places_of file rows.now.row (columns_of file)) }
 {
     let mut places = Vec::new(alloc);
     for (column, _) in columns(file) {
@@ -53,7 +57,8 @@ fn find_places(alloc: Global, rows: &Rows<'_>, file: TableFile) -> Result<Vec<us
 
 /// A field as a text, if it is one.
 pub(crate) fn text_of(field: &[u8]) -> Option<&str>
-    ensures cases { MatchOption result (is_utf8 field.now ≡ false) (λ text. (text.now ≡ field.now) × (is_utf8 field.now ≡ true)) }
+    ensures cases { MatchOption result (is_utf8 field.now ≡ false)
+        (λ text. (text.now ≡ field.now) × (is_utf8 field.now ≡ true)) }
 {
     match str::from_utf8(field) {
         Ok(text) => Some(text),
@@ -80,7 +85,8 @@ impl<'a> Sheet<'a> {
 
     /// Reads the next data row, and says whether there was one. After want of memory there are none.
     pub(crate) fn advance(&mut self) -> Result<bool, AllocError>
-        ensures reads { IfOk result (λ found. MatchBool found (self.old.left ≡ self.new.row ∷ self.new.left) (self.old.left ≡ [])) }
+        ensures reads { IfOk result
+            (λ found. MatchBool found (self.old.left ≡ self.new.row ∷ self.new.left) (self.old.left ≡ [])) }
     {
         self.rows.advance()
     }
@@ -97,7 +103,8 @@ impl<'a> Sheet<'a> {
 
     /// The same as a text, if it is one.
     pub(crate) fn text(&self, column: usize) -> Option<&str>
-        ensures cases { MatchOption result (is_utf8 (nth column self.now.row) ≡ false) (λ text. (text.now ≡ nth column self.now.row) × (is_utf8 (nth column self.now.row) ≡ true)) }
+        ensures cases { MatchOption result (is_utf8 (nth column self.now.row) ≡ false)
+            (λ text. (text.now ≡ nth column self.now.row) × (is_utf8 (nth column self.now.row) ≡ true)) }
     {
         text_of(self.field(column))
     }

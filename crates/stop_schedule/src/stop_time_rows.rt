@@ -6,27 +6,30 @@ ghost use Rattle.stop_schedule.specs.Forms as forms_of;
 ghost use Rattle.stop_schedule.specs.Holding.{HoldsStops, IsKnown};
 ghost use Rattle.stop_schedule.specs.Ids.{are_ids};
 ghost use Rattle.stop_schedule.specs.Keeping.{all_loaded, are_times, is_loaded};
+ghost use Rattle.stop_schedule.specs.Limits.{row_limit as row_limit_of, stop_limit};
+ghost use Rattle.stop_schedule.specs.Places.{stop_times_trip_id as trip_id, stop_times_stop_sequence as stop_sequence, stop_times_stop_id as stop_id, stop_times_arrival_time as arrival_time, stop_times_departure_time as departure_time};
 ghost use Rattle.stop_schedule.specs.Sheet.{Row, nth};
 ghost use Rattle.stop_schedule.specs.StopTimes as spec;
 ghost use Rattle.stop_schedule.specs.TripStops.{stops_kept};
 ghost use Rattle.stop_schedule.specs.declared.stop_times.LoadedStop.{LoadedStop as Loaded};
+ghost use Rattle.stop_schedule.specs.declared.table_file.TableFile.TheVariants as File;
 
 use crate::column::Column;
 use crate::forms::{seconds, sequence};
 use crate::guesses::Guesses;
 use crate::ids::{Ids, find_from, find_in};
-use crate::layout::row_limit;
+use crate::limits::{MAX_STOPS, row_limit};
 use crate::numbers::StopNo;
 use crate::sheet::Sheet;
-use crate::stop_times::{LoadedStop, MAX_STOPS};
+use crate::stop_times::LoadedStop;
 use crate::table_fault::TableFault;
 use crate::table_file::TableFile;
 use crate::taking::TakesRows;
 use crate::trip_stops::TripStops;
 use std::alloc::Global;
 
-/// The stops of each trip of `trips.txt`, in rising sequence. Besides, where the next row's ids are looked for at first: at
-/// the trip that began last, and at a guess of its stop.
+/// The stops of each trip of `trips.txt`, in rising sequence. Besides, where the next row's ids are looked for at
+/// first: at the trip that began last, and at a guess of its stop.
 #[derive(Drop)]
 pub(crate) struct StopTimeRows<'a> {
     pub(crate) trips: &'a Ids,
@@ -95,7 +98,7 @@ fn times(sheet: &Sheet<'_>) -> Option<(u32, u32)>
 // Whether the trip at a place has as many stops as it may have.
 fn is_full(by_trip: &[TripStops], trip: u32) -> bool
     ensures { (held : List Loaded) → slice_get (map stops_kept by_trip.now) trip ≡ Some held
-        → result ≡ nat_le 250 (length held) }
+        → result ≡ nat_le stop_limit (length held) }
 {
     match by_trip.get(trip as usize) {
         Some(held) => held.len() >= MAX_STOPS,
@@ -116,7 +119,8 @@ fn put(
         → HoldsStops trips stops (map stops_kept by_trip.old.items) before
         → Finds (stop_time_fault trips stops before row)
         (λ _. HoldsStops trips stops (map stops_kept by_trip.new.items) (before ++ row ∷ [])) result }
-    ensures loaded { (stops : ℕ) → is_loaded stops loaded ≡ true → all_loaded stops (map stops_kept by_trip.old.items) ≡ true
+    ensures loaded { (stops : ℕ) → is_loaded stops loaded ≡ true
+        → all_loaded stops (map stops_kept by_trip.old.items) ≡ true
         → OnOk result (all_loaded stops (map stops_kept by_trip.new.items) ≡ true) }
     ensures no_failure { HasFailed result → ⊥ }
 {
@@ -141,8 +145,8 @@ fn known_ids(
     trip: u32,
     stop: u32,
 ) -> Option<(u32, u32)>
-    ensures trip { IfSome result (λ known. slice_get trips.now known.0 ≡ Some (nth 0 sheet.now.row)) }
-    ensures stop { IfSome result (λ known. slice_get stops.now known.1 ≡ Some (nth 2 sheet.now.row)) }
+    ensures trip { IfSome result (λ known. slice_get trips.now known.0 ≡ Some (nth trip_id sheet.now.row)) }
+    ensures stop { IfSome result (λ known. slice_get stops.now known.1 ≡ Some (nth stop_id sheet.now.row)) }
     ensures trips { IsTrue (are_ids trips.now) }
     ensures stops { IsTrue (are_ids stops.now) }
 {
@@ -158,8 +162,8 @@ fn known_ids(
 
 // The arrival and the departure of the row at hand, where both fields have a time.
 fn known_times(sheet: &Sheet<'_>) -> Option<(u32, u32)>
-    ensures arrival { IfSome result (λ known. forms_of.seconds (nth 3 sheet.now.row) ≡ Some known.0) }
-    ensures departure { IfSome result (λ known. forms_of.seconds (nth 4 sheet.now.row) ≡ Some known.1) }
+    ensures arrival { IfSome result (λ known. forms_of.seconds (nth arrival_time sheet.now.row) ≡ Some known.0) }
+    ensures departure { IfSome result (λ known. forms_of.seconds (nth departure_time sheet.now.row) ≡ Some known.1) }
     ensures few { IfSome result (λ known. are_times (Some known) ≡ true) }
 {
     match (seconds(sheet.field(3)), seconds(sheet.field(4))) {
@@ -170,11 +174,13 @@ fn known_times(sheet: &Sheet<'_>) -> Option<(u32, u32)>
 
 // The stop of the row at hand by its number, where its fields have their forms and it has both times.
 fn known_stop(sheet: &Sheet<'_>, number: u64, stop: u32) -> Option<LoadedStop>
-    ensures sequence { IfSome result (λ known. forms_of.sequence (nth 1 sheet.now.row) ≡ Some known.sequence) }
-    ensures arrival { IfSome result (λ _. is_some (forms_of.seconds (nth 3 sheet.now.row)) ≡ true) }
-    ensures departure { IfSome result (λ _. is_some (forms_of.seconds (nth 4 sheet.now.row)) ≡ true) }
+    ensures sequence { IfSome result
+        (λ known. forms_of.sequence (nth stop_sequence sheet.now.row) ≡ Some known.sequence) }
+    ensures arrival { IfSome result (λ _. is_some (forms_of.seconds (nth arrival_time sheet.now.row)) ≡ true) }
+    ensures departure { IfSome result (λ _. is_some (forms_of.seconds (nth departure_time sheet.now.row)) ≡ true) }
     ensures times { IfSome result (λ known. known.times ≡ spec.times sheet.now.row) }
-    ensures counted { IfSome result (λ known. (number ≤ 4000000) × (known.row ≡ number) × (known.stop.0 ≡ stop)) }
+    ensures counted { IfSome result
+        (λ known. (number ≤ row_limit_of File.StopTimes) × (known.row ≡ number) × (known.stop.0 ≡ stop)) }
     ensures few { IfSome result (λ known. are_times known.times ≡ true) }
 {
     if number > row_limit(TableFile::StopTimes) {
@@ -226,7 +232,8 @@ impl<'a> TakesRows for StopTimeRows<'a> {
 
     ghost Keeps = { λ taker _. all_loaded (length taker.stops.now) (map stops_kept taker.by_trip.items) ≡ true };
 
-    ghost Holds = { λ start taker rows. (taker.trips.now ≡ start.trips.now) × (taker.stops.now ≡ start.stops.now) × HoldsStops taker.trips.now taker.stops.now (map stops_kept taker.by_trip.items) rows };
+    ghost Holds = { λ start taker rows. (taker.trips.now ≡ start.trips.now) × (taker.stops.now ≡ start.stops.now)
+        × HoldsStops taker.trips.now taker.stops.now (map stops_kept taker.by_trip.items) rows };
 
     fn file(&self) -> TableFile {
         TableFile::StopTimes

@@ -9,9 +9,6 @@ ghost use Rattle.stop_schedule.specs.StopTimes as spec;
 use crate::numbers::StopNo;
 use std::alloc::{AllocError, Global};
 
-/// The stops that a trip has at most.
-pub(crate) const MAX_STOPS: usize = 250;
-
 /// A stop of a trip, with its times in seconds from the start of the service day (GTFS Schedule reference,
 /// stop_times.txt).
 #[derive(Clone, Copy, Debug, PartialEq, Eq)]
@@ -38,7 +35,8 @@ pub struct LoadedStop {
 /// The place of a sequence among stops in rising sequence, unless one has it.
 pub(crate) fn place_of(stops: &[LoadedStop], sequence: u32) -> Option<usize>
     ensures within { IfSome result (λ place. place ≤ length stops.now) }
-    ensures place { is_rising stops.now ≡ true → MatchOption result (has_sequence sequence stops.now ≡ true) (IsBetween stops.now sequence) }
+    ensures place { is_rising stops.now ≡ true
+        → MatchOption result (has_sequence sequence stops.now ≡ true) (IsBetween stops.now sequence) }
 {
     let mut rest = stops;
     while let [earlier @ .., last] = rest {
@@ -100,7 +98,8 @@ fn time_between(before: Option<(usize, (u32, u32))>, after: Option<(usize, (u32,
 // The times of the stop at a place.
 fn times_at(stops: &[LoadedStop], place: usize) -> (u32, u32)
     requires { place < length stops.now }
-    ensures { (stop : LoadedStop) → slice_get stops.now place ≡ Some stop → result ≡ spec.times_at stops.now place stop }
+    ensures { (stop : LoadedStop) → slice_get stops.now place ≡ Some stop
+        → result ≡ spec.times_at stops.now place stop }
 {
     if let Some(times) = stops[place].times {
         return times;

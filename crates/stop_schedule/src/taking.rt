@@ -7,7 +7,7 @@ ghost use Rattle.gw_base.specs.Directory.{bytes_of};
 ghost use Rattle.stop_schedule.specs.Failures.{IfFailed};
 ghost use Rattle.stop_schedule.specs.Answers.{Finds, FindsKnown, HasFailed, is_free};
 ghost use Rattle.stop_schedule.specs.Keeping.{KeepsTo};
-ghost use Rattle.stop_schedule.specs.Layout.{row_limit};
+ghost use Rattle.stop_schedule.specs.Limits.{row_limit};
 ghost use Rattle.stop_schedule.specs.Faults.{Fits, fault_in, first_fault, row_fault as fault_of_row};
 ghost use Rattle.stop_schedule.specs.Rows.{rows};
 ghost use Rattle.stop_schedule.specs.Sheet.{Row, rows_in, sheet_of};
@@ -53,15 +53,16 @@ pub(crate) trait TakesRows {
         requires fits { Fits (file_of self.old) number sheet.now.row }
         requires keeps { Keeps self.old number }
         ensures takes { (start : Self) (before : List Row) → Holds start self.old before → number ≡ length before + 1
-            → Finds (fault self.old before sheet.now.row) (λ _. Holds start self.new (before ++ sheet.now.row ∷ [])) result }
+            → Finds (fault self.old before sheet.now.row) (λ _. Holds start self.new (before ++ sheet.now.row ∷ []))
+            result }
         ensures keeps { OnOk result (Keeps self.new (number + 1)) }
         ensures same_fault { fault self.new ≡ fault self.old }
         ensures same_file { file_of self.new ≡ file_of self.old }
         ensures same_given { given self.new ≡ given self.old }
         ensures no_failure { HasFailed result → ⊥ };
 
-    /// Takes the row at hand where it is seen at once that its fields have their forms, and says whether it was taken, or
-    /// tells its fault.
+    /// Takes the row at hand where it is seen at once that its fields have their forms, and says whether it was
+    /// taken, or tells its fault.
     fn take_known(
         &mut self,
         _alloc: Global,
@@ -70,7 +71,8 @@ pub(crate) trait TakesRows {
     ) -> Result<bool, TableFault>
         requires { Keeps self.old number }
         ensures takes { (start : Self) (before : List Row) → Holds start self.old before → number ≡ length before + 1
-            → FindsKnown (fault_of_row (file_of self.old) (fault self.old) before sheet.now.row) (Holds start self.new before)
+            → FindsKnown (fault_of_row (file_of self.old) (fault self.old) before sheet.now.row)
+            (Holds start self.new before)
             (Holds start self.new (before ++ sheet.now.row ∷ [])) result }
         ensures few { IfOk result (λ taken. taken ≡ true → number ≤ row_limit (file_of self.old)) }
         ensures keeps { IfOk result (λ taken. Keeps self.new (if taken then number + 1 else number)) }
@@ -164,7 +166,8 @@ pub(crate) fn read_rows<F: Files, T: TakesRows>(
 ) -> Result<bool, TableFault>
     requires { T.Keeps taker.old 1 }
     ensures exact { IfSome (F.told files.old) (λ told. T.Holds taker.old taker.old []
-        → FindsFile (T.file_of taker.old) (T.fault taker.old) (T.Holds taker.old taker.new) (sheets_in told dir.now) result) }
+        → FindsFile (T.file_of taker.old) (T.fault taker.old) (T.Holds taker.old taker.new) (sheets_in told dir.now)
+        result) }
     ensures keeps { OnOk result (KeepsTo T.Keeps taker.new (row_limit (T.file_of taker.old))) }
     ensures same_fault { T.fault taker.new ≡ T.fault taker.old }
     ensures same_file { T.file_of taker.new ≡ T.file_of taker.old }

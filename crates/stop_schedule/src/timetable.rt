@@ -3,7 +3,9 @@ ghost use Rattle.std.specs.Prelude.{◌≡◌, ◌≤◌, ◌<◌, true, Some, l
 ghost use Rattle.std.specs.Str.{bytes_eq};
 ghost use Rattle.stop_schedule.specs.Held.{are_in_range};
 ghost use Rattle.stop_schedule.specs.Ids.{are_distinct};
+ghost use Rattle.stop_schedule.specs.Limits.{id_limit, row_limit, stop_limit};
 ghost use Rattle.stop_schedule.specs.Stops.{are_known, are_rising, are_timed};
+ghost use Rattle.stop_schedule.specs.declared.table_file.TableFile.TheVariants as File;
 
 use crate::carried::CarriedTrip;
 use crate::ids::Ids;
@@ -32,7 +34,7 @@ impl Timetable {
     /// The number of trips.
     pub fn trips(&self) -> u32
         ensures value { result ≡ length self.now.trips }
-        ensures limit { result ≤ 200000 }
+        ensures limit { result ≤ row_limit File.Trips }
         ensures distinct { IsTrue (are_distinct self.now.trips) }
     {
         self.trips.len() as u32
@@ -54,7 +56,7 @@ impl Timetable {
         requires { trip.0 < length self.now.trips }
         ensures value { slice_get self.now.trips trip.0 ≡ Some result.now }
         ensures shortest { 1 ≤ length result.now }
-        ensures longest { length result.now ≤ 200 }
+        ensures longest { length result.now ≤ id_limit }
 
         // No other trip has the id, so `find_trip` finds this one by it.
         ensures found { position (bytes_eq result.now) self.now.trips ≡ Some trip.0 }
@@ -67,7 +69,7 @@ impl Timetable {
         requires { trip.0 < length self.now.trips }
         ensures value { result.now ≡ (seen self.now).route_of trip.0 }
         ensures shortest { 1 ≤ length result.now }
-        ensures longest { length result.now ≤ 200 }
+        ensures longest { length result.now ≤ id_limit }
     {
         let carried = &self.carried[trip.0 as usize];
         self.routes.at(carried.route)
@@ -89,7 +91,7 @@ impl Timetable {
         requires { stop.0 < length self.now.stops }
         ensures value { slice_get self.now.stops stop.0 ≡ Some result.now }
         ensures shortest { 1 ≤ length result.now }
-        ensures longest { length result.now ≤ 200 }
+        ensures longest { length result.now ≤ id_limit }
         ensures found { position (bytes_eq result.now) self.now.stops ≡ Some stop.0 }
     {
         self.stops.at(stop.0)
@@ -111,7 +113,7 @@ impl Timetable {
         requires { route.0 < length self.now.routes }
         ensures value { slice_get self.now.routes route.0 ≡ Some result.now }
         ensures shortest { 1 ≤ length result.now }
-        ensures longest { length result.now ≤ 200 }
+        ensures longest { length result.now ≤ id_limit }
         ensures found { position (bytes_eq result.now) self.now.routes ≡ Some route.0 }
     {
         self.routes.at(route.0)
@@ -123,7 +125,7 @@ impl Timetable {
         ensures value { result.now ≡ (seen self.now).stops_of trip.0 }
         ensures rising { are_rising result.now ≡ true }
         ensures known { are_known (length self.now.stops) result.now ≡ true }
-        ensures few { length result.now ≤ 250 }
+        ensures few { length result.now ≤ stop_limit }
         ensures timed { are_timed result.now ≡ true }
     {
         let carried = &self.carried[trip.0 as usize];
@@ -132,8 +134,8 @@ impl Timetable {
         stops
     }
 
-    /// What every timetable keeps: the ids are told apart, and the stops and the route of each trip are known. A law for readers
-    /// of a timetable, which does nothing when it runs.
+    /// What every timetable keeps: the ids are told apart, and the stops and the route of each trip are known. A law
+    /// for readers of a timetable, which does nothing when it runs.
     pub fn is_sound(&self)
         ensures { IsSound (seen self.now) }
     {

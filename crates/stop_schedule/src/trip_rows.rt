@@ -10,8 +10,8 @@ use crate::table_file::TableFile;
 use crate::taking::TakesRows;
 use std::alloc::Global;
 
-/// The trips of the rows, each with the number of its route and of its service. Besides, where the next row's ids are looked
-/// for at first: at a guess of its route, and at the last service.
+/// The trips of the rows, each with the number of its route and of its service. Besides, where the next row's ids are
+/// looked for at first: at a guess of its route, and at the last service.
 #[derive(Drop)]
 pub(crate) struct TripRows<'a> {
     pub(crate) known_routes: &'a Ids,
@@ -36,9 +36,12 @@ impl<'a> TakesRows for TripRows<'a> {
 
     ghost given = { λ taker. length taker.known_routes.now };
 
-    ghost Keeps = { λ taker number. KeepsTrips (length taker.known_routes.now) taker.trips taker.services taker.trip_routes.items number };
+    ghost Keeps = { λ taker number. KeepsTrips (length taker.known_routes.now) taker.trips taker.services
+        taker.trip_routes.items number };
 
-    ghost Holds = { λ start taker rows. (taker.known_routes.now ≡ start.known_routes.now) × HoldsTrips taker.known_routes.now taker.services taker.trips taker.trip_routes.items taker.trip_services.items rows };
+    ghost Holds = { λ start taker rows. (taker.known_routes.now ≡ start.known_routes.now)
+        × HoldsTrips taker.known_routes.now taker.services taker.trips taker.trip_routes.items
+        taker.trip_services.items rows };
 
     fn file(&self) -> TableFile {
         TableFile::Trips

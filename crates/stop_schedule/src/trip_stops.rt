@@ -1,5 +1,5 @@
-//! The stops of a trip while rows are read: in few bytes each where the rows follow each other in sequence, as they mostly
-//! do. The functions meet `specs/TripStops.antt`.
+//! The stops of a trip while rows are read: in few bytes each where the rows follow each other in sequence, as they
+//! mostly do. The functions meet `specs/TripStops.antt`.
 ghost use Rattle.std.specs.Prelude.{◌≡◌, ◌++◌, ℕ, [], true, length, IfOk, IfSome, OnOk};
 ghost use Rattle.stop_schedule.specs.Rising.{is_rising};
 ghost use Rattle.stop_schedule.specs.TripStops as spec;
@@ -8,8 +8,8 @@ use crate::numbers::StopNo;
 use crate::stop_times::{LoadedStop, place_of};
 use std::alloc::{AllocError, Global};
 
-/// A stop in few bytes: its sequence, its number, the seconds from its trip's first minute to the arrival, and those from
-/// there to the departure.
+/// A stop in few bytes: its sequence, its number, the seconds from its trip's first minute to the arrival, and those
+/// from there to the departure.
 #[derive(Clone, Copy, Debug)]
 pub struct BriefStop {
     pub(crate) sequence: u16,
@@ -133,7 +133,8 @@ fn begin(held: &mut BriefStops, stop: &LoadedStop)
 
 // Adds a stop behind the others where it is in sequence and can be kept in few bytes, and says whether it was added.
 fn append(held: &mut BriefStops, stop: &LoadedStop) -> Result<bool, AllocError>
-    ensures added { IfOk result (λ added. spec.brief_stops held.new ≡ spec.with_stop added stop.now (spec.brief_stops held.old)) }
+    ensures added { IfOk result
+        (λ added. spec.brief_stops held.new ≡ spec.with_stop added stop.now (spec.brief_stops held.old)) }
     ensures less { IfOk result (λ added. added ≡ true → spec.IsBehind (spec.brief_stops held.old) stop.now.sequence) }
 {
     if !is_behind(held.stops.as_slice(), stop.sequence) {
@@ -191,7 +192,8 @@ fn insert_wide(alloc: Global, held: &mut TripStops, stop: &LoadedStop) -> Result
 
 // Adds a stop behind those in few bytes, where that can be, and says whether it was added.
 fn append_brief(held: &mut TripStops, stop: &LoadedStop) -> Result<bool, AllocError>
-    ensures added { IfOk result (λ added. spec.stops_kept held.new ≡ spec.with_stop added stop.now (spec.stops_kept held.old)) }
+    ensures added { IfOk result
+        (λ added. spec.stops_kept held.new ≡ spec.with_stop added stop.now (spec.stops_kept held.old)) }
     ensures less { IfOk result (λ added. added ≡ true → spec.IsBehind (spec.stops_kept held.old) stop.now.sequence) }
 {
     match held {

@@ -17,6 +17,7 @@ pub(crate) struct ZoneRows {
 impl TakesRows for ZoneRows {
     ghost use Rattle.std.specs.Prelude.{◌≡◌, ⊤, option_map};
     ghost use Rattle.stop_schedule.specs.Causes.{zone_fault, first_row};
+    ghost use Rattle.stop_schedule.specs.Places.{agency_timezone};
     ghost use Rattle.stop_schedule.specs.Sheet.{nth};
     ghost use Rattle.stop_schedule.specs.declared.table_file.TableFile.TheVariants.{Agency};
 
@@ -28,7 +29,7 @@ impl TakesRows for ZoneRows {
 
     ghost Keeps = { λ _ _. ⊤ };
 
-    ghost Holds = { λ _ taker rows. taker.first ≡ option_map (nth 0) (first_row rows) };
+    ghost Holds = { λ _ taker rows. taker.first ≡ option_map (nth agency_timezone) (first_row rows) };
 
     fn file(&self) -> TableFile {
         TableFile::Agency

@@ -2,7 +2,7 @@
 ghost use Rattle.std.specs.Prelude.{◌==◌, ◌%◌};
 
 use super::FeedIndex;
-use crate::entry::Entry;
+use crate::batch::Batch;
 use crate::row::Row;
 use crate::write::Choice;
 use gw_base::{List, MemorySink};
@@ -70,9 +70,9 @@ fn each_call_once(rt: HostRuntime) -> Result<(), Fail> {
     Ok(())
 }
 
-fn merge(index: &mut FeedIndex<u32, u8>, items: Vec<Entry<u32, u8>>) -> Result<(), AllocError> {
-    index.prepare_for(items.as_slice())?;
-    index.merge(items);
+fn merge(index: &mut FeedIndex<u32, u8>, batch: Batch<u32, u8>) -> Result<(), AllocError> {
+    index.prepare_for(&batch)?;
+    index.merge(batch);
     Ok(())
 }
 
@@ -81,19 +81,18 @@ fn merges_many_at_once(rt: HostRuntime) -> Result<(), Fail> {
     let mut index = FeedIndex::make(rt.alloc());
     put(&mut index, 5, 1, b"five")?;
     put(&mut index, 7, 3, b"seven")?;
-    let mut items = Vec::new(rt.alloc());
+    let mut batch = Batch::new(rt.alloc());
     for (key, value, bytes) in [
         (3, 1, b"3a"),
+        (9, 9, b"9a"),
         (3, 5, b"3b"),
         (5, 7, b"5b"),
-        (9, 9, b"9a"),
         (4, 1, b"4a"),
     ] {
-        let bytes = List::copied(rt.alloc(), bytes)?;
-        items.push(Entry { key, value, bytes })?;
+        batch.put(key, value, bytes)?;
     }
-    merge(&mut index, items)?;
-    assert_eq!(rt; index.pool().dead(), 6);
+    merge(&mut index, batch)?;
+    assert_eq!(rt; index.pool().dead(), 4);
     let mut sink = MemorySink::make(rt.alloc(), 100, List::new(rt.alloc()))?;
     write_odd(&rt, &index, &mut sink, b"3b4a5bseven9a");
     Ok(())

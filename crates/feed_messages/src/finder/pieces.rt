@@ -18,7 +18,8 @@ use wire_fields::{Field, Value, WireFault, next_field};
 
 // The first field of a piece, and the piece behind it. None at its end.
 pub fn first_of<'a>(piece: &Piece<'a>) -> Result<Option<(Field<'a>, Piece<'a>)>, WireFault>
-    ensures found { IfOk result (λ found. MatchOption found (piece.now.bytes.now ≡ []) (λ x. IsFollowed piece.now (field_of x.0) x.1)) }
+    ensures found { IfOk result
+        (λ found. MatchOption found (piece.now.bytes.now ≡ []) (λ x. IsFollowed piece.now (field_of x.0) x.1)) }
     ensures fault { IfErr result (λ fault. BreaksHere piece.now fault) }
 {
     match next_field(piece.bytes, 0)? {

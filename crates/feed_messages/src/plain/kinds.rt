@@ -28,7 +28,8 @@ pub fn number_in(field: &Field<'_>, number: u32) -> Option<u64>
 // The bytes that a field holds, if the field has that field number.
 #[inline(always)]
 pub fn body_in<'a>(field: &Field<'a>, number: u32) -> Option<&'a [u8]>
-    ensures { option_map (λ body. body.now) result ≡ (if field.now.number == number then body_in (payload_of field.now.value) else None) }
+    ensures { option_map (λ body. body.now) result
+        ≡ (if field.now.number == number then body_in (payload_of field.now.value) else None) }
 {
     match field.value {
         Value::Bytes(body) if field.number == number => Some(body),
@@ -117,7 +118,8 @@ pub fn bodies<'a>(
 // The last of these bodies, if there is one, where all are UTF-8.
 fn last_text<'a>(bodies: &[&'a [u8]]) -> Result<Option<&'a str>, Utf8Error>
     ensures { MatchResult result
-        (λ last. AllByRecursion IsUtf8 (map (λ body. body.now) bodies.now) × (option_map (λ text. text.now) last ≡ last_or None (map (λ body. body.now) bodies.now)))
+        (λ last. AllByRecursion IsUtf8 (map (λ body. body.now) bodies.now)
+        × (option_map (λ text. text.now) last ≡ last_or None (map (λ body. body.now) bodies.now)))
         (λ _. ¬ AllByRecursion IsUtf8 (map (λ body. body.now) bodies.now)) }
 {
     let mut last = None;

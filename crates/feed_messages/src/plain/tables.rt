@@ -168,7 +168,8 @@ pub struct Header {
 }
 
 impl Message for Header {
-    ghost table = { λ fields m. OfFeedHeader fields (record { version = m.version; incrementality = m.incrementality; timestamp = m.timestamp }) };
+    ghost table = { λ fields m. OfFeedHeader fields
+        (record { version = m.version; incrementality = m.incrementality; timestamp = m.timestamp }) };
 
     fn of_fields(alloc: Global, fields: &[Field<'_>]) -> Result<Header, PlainFault> {
         Ok(Header {

@@ -205,7 +205,9 @@ impl QuickMessage for List<Translation> {
 
 // The translations of a text, and none where it is missing.
 fn translations(alloc: Global, found: &Found<'_>) -> Result<List<Translation>, PlainFault>
-    ensures { IfOk result (λ list. (number : ℕ) (fields : List WireField) → IsFound number fields found.now → AreTranslations number fields list) }
+    ensures { IfOk result
+        (λ list. (number : ℕ) (fields : List WireField) → IsFound number fields found.now
+        → AreTranslations number fields list) }
 {
     match read_found(alloc, found)? {
         Some(translations) => Ok(translations),

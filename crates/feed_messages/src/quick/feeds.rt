@@ -93,7 +93,8 @@ impl<'a> Parts<'a> for HeaderParts<'a> {
 
     ghost after = { AfterHeader };
 
-    ghost table = { λ fields m. OfFeedHeader fields (record { version = m.version; incrementality = m.incrementality; timestamp = m.timestamp }) };
+    ghost table = { λ fields m. OfFeedHeader fields
+        (record { version = m.version; incrementality = m.incrementality; timestamp = m.timestamp }) };
 
     #[inline(always)]
     fn start(_alloc: Global, _bytes: &[u8]) -> Result<HeaderParts<'a>, AllocError> {
@@ -123,7 +124,8 @@ impl<'a> Parts<'a> for HeaderParts<'a> {
 }
 
 impl QuickMessage for Header {
-    ghost table = { λ fields m. OfFeedHeader fields (record { version = m.version; incrementality = m.incrementality; timestamp = m.timestamp }) };
+    ghost table = { λ fields m. OfFeedHeader fields
+        (record { version = m.version; incrementality = m.incrementality; timestamp = m.timestamp }) };
 
     fn read(alloc: Global, bytes: &[u8]) -> Result<Header, PlainFault> {
         read_parts::<HeaderParts<'_>>(alloc, bytes)

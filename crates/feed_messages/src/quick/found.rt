@@ -34,11 +34,12 @@ fn joined(alloc: Global, first: &[u8], second: &[u8]) -> Result<Bytes, PlainFaul
     Ok(bytes)
 }
 
-// One body and a second one. It stands between its caller and `joined`, which is rare, so that the room for the answer of
-// `joined` is cleared only here.
+// One body and a second one. It stands between its caller and `joined`, which is rare, so that the room for the
+// answer of `joined` is cleared only here.
 #[inline(always)]
 fn with_second<'a>(alloc: Global, first: &[u8], body: &[u8]) -> Result<Found<'a>, PlainFault>
-    ensures { IfOk result (λ more. (bodies : List (List ℕ)) → bodies ≡ first.now ∷ [] → IsFoundIn (bodies ++ body.now ∷ []) more) }
+    ensures { IfOk result
+        (λ more. (bodies : List (List ℕ)) → bodies ≡ first.now ∷ [] → IsFoundIn (bodies ++ body.now ∷ []) more) }
 {
     Ok(Found::Joined(joined(alloc, first, body)?))
 }
@@ -47,7 +48,9 @@ fn with_second<'a>(alloc: Global, first: &[u8], body: &[u8]) -> Result<Found<'a>
 #[cold]
 #[inline(never)]
 fn extended(bytes: Bytes, body: &[u8]) -> Result<Bytes, PlainFault>
-    ensures { IfOk result (λ more. (bodies : List (List ℕ)) → IsFoundIn bodies (Joined bytes) → IsFoundIn (bodies ++ body.now ∷ []) (Joined more)) }
+    ensures { IfOk result
+        (λ more. (bodies : List (List ℕ)) → IsFoundIn bodies (Joined bytes)
+        → IsFoundIn (bodies ++ body.now ∷ []) (Joined more)) }
 {
     check_fields(body)?;
     let mut bytes = bytes;
@@ -57,7 +60,9 @@ fn extended(bytes: Bytes, body: &[u8]) -> Result<Bytes, PlainFault>
 
 #[inline(always)]
 fn with_another<'a>(bytes: Bytes, body: &[u8]) -> Result<Found<'a>, PlainFault>
-    ensures { IfOk result (λ more. (bodies : List (List ℕ)) → IsFoundIn bodies (Joined bytes) → IsFoundIn (bodies ++ body.now ∷ []) more) }
+    ensures { IfOk result
+        (λ more. (bodies : List (List ℕ)) → IsFoundIn bodies (Joined bytes)
+        → IsFoundIn (bodies ++ body.now ∷ []) more) }
 {
     Ok(Found::Joined(extended(bytes, body)?))
 }
@@ -65,7 +70,8 @@ fn with_another<'a>(bytes: Bytes, body: &[u8]) -> Result<Found<'a>, PlainFault>
 // These bodies and one more.
 #[inline(always)]
 fn with_body<'a>(alloc: Global, found: Found<'a>, body: &'a [u8]) -> Result<Found<'a>, PlainFault>
-    ensures { IfOk result (λ more. (bodies : List (List ℕ)) → IsFoundIn bodies found.entry → IsFoundIn (bodies ++ body.now ∷ []) more) }
+    ensures { IfOk result
+        (λ more. (bodies : List (List ℕ)) → IsFoundIn bodies found.entry → IsFoundIn (bodies ++ body.now ∷ []) more) }
 {
     match found {
         Found::Nothing => Ok(Found::One(body)),

@@ -92,7 +92,9 @@ pub fn read_found<M: QuickMessage>(
     alloc: Global,
     found: &Found<'_>,
 ) -> Result<Option<M>, PlainFault>
-    ensures { IfOk result (λ message. (number : ℕ) (fields : List WireField) → IsFound number fields found.now → IsMessage M.table number fields message) }
+    ensures { IfOk result
+        (λ message. (number : ℕ) (fields : List WireField) → IsFound number fields found.now
+        → IsMessage M.table number fields message) }
 {
     match found {
         Found::Nothing => Ok(None),
@@ -104,7 +106,9 @@ pub fn read_found<M: QuickMessage>(
 // The message that the bodies mean together, which has to be there.
 #[inline(always)]
 pub fn read_required<M: QuickMessage>(alloc: Global, found: &Found<'_>) -> Result<M, PlainFault>
-    ensures { IfOk result (λ message. (number : ℕ) (fields : List WireField) → IsFound number fields found.now → IsMessage M.table number fields (Some message)) }
+    ensures { IfOk result
+        (λ message. (number : ℕ) (fields : List WireField) → IsFound number fields found.now
+        → IsMessage M.table number fields (Some message)) }
 {
     match read_found(alloc, found)? {
         Some(message) => Ok(message),

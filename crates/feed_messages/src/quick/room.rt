@@ -1,12 +1,12 @@
-//! Room for the messages of a list before they are read: how many there are is counted first, which saves moving them, and
-//! room that stays empty.
+//! Room for the messages of a list before they are read: how many there are is counted first, which saves moving
+//! them, and room that stays empty.
 ghost use Rattle.std.specs.Prelude.{◌≡◌, ◌≤◌, [], length, IfOk, IfSome};
 
 use gw_base::List;
 use std::alloc::{AllocError, Global};
 
-// The tag, the size and the bytes behind them, if the bytes begin with the tag of one byte of a field of bytes and a size of
-// one or two.
+// The tag, the size and the bytes behind them, if the bytes begin with the tag of one byte of a field of bytes and a
+// size of one or two.
 #[inline(always)]
 fn head(bytes: &[u8]) -> Option<(u8, usize, &[u8])>
     ensures { IfSome result (λ x. length x.2.now ≤ length bytes.now) }
@@ -26,8 +26,8 @@ fn head(bytes: &[u8]) -> Option<(u8, usize, &[u8])>
     }
 }
 
-// How many bodies of this field number stand at the front, up to the first field of another kind than bytes, or that isn't
-// whole. Nothing has to be proved of it but its bound.
+// How many bodies of this field number stand at the front, up to the first field of another kind than bytes, or that
+// isn't whole. Nothing has to be proved of it but its bound.
 fn bodies_in_front(bytes: &[u8], number: u8) -> usize
     ensures { result ≤ length bytes.now }
 {

@@ -1,5 +1,5 @@
-//! The messages of a trip, each by its table of `specs/Tables.antt`. Of a number the last one is kept, and read by its type
-//! at the end.
+//! The messages of a trip, each by its table of `specs/Tables.antt`. Of a number the last one is kept, and read by
+//! its type at the end.
 ghost use Rattle.feed_messages.specs.Tables.{OfTripDescriptor, OfStopTimeEvent, OfStopTimeUpdate, OfTripUpdate};
 ghost use Rattle.feed_messages.specs.Parts.{AfterTrip, AfterEvent, AfterStop, AfterUpdate};
 

@@ -9,4 +9,6 @@ use Rattle.feed_messages.proofs.finder.first_fault.Goals as goal
 pub returns : goal.returns
 returns c =
     let bytes = c.args.bytes.now in
-    rw c.earlier.ensures (least_either (IsTooLong bytes) (InEach feed_known (length bytes) (whole bytes)) c.too_long.result c.in_ok-message.message c.too_long.ensures c.in_ok-message.ensures)
+    rw c.earlier.ensures
+    (least_either (IsTooLong bytes) (InEach feed_known (length bytes) (whole bytes)) c.too_long.result
+    c.in_ok-message.message c.too_long.ensures c.in_ok-message.ensures)

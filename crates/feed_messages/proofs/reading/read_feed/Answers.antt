@@ -15,11 +15,13 @@ use Rattle.feed_messages.proofs.ReadAgain.{answers_it, means_short_feed}
 use Rattle.feed_messages.proofs.ShortEntities.{means_short, short_has_no_fault}
 use Rattle.feed_messages.proofs.reading.read_feed.Goals as goal
 
-short_feed : (bytes : List ℕ) (moment : ℤ) (entities : List Entity) → IsMoment moment → AllByRecursion IsReadable entities → bytes ≡ written_feed moment entities
+short_feed : (bytes : List ℕ) (moment : ℤ) (entities : List Entity) → IsMoment moment
+    → AllByRecursion IsReadable entities → bytes ≡ written_feed moment entities
     → MeansShortFeed bytes (full_dataset moment entities)
 short_feed bytes moment entities is readable same =
     let small : unsigned_abs moment < 2 ^ 64 = omega (arith, ints) in
-    subst (λ (b : List ℕ). MeansShortFeed b (full_dataset moment entities)) (sym same) (means_short_feed moment entities small readable)
+    subst (λ (b : List ℕ). MeansShortFeed b (full_dataset moment entities)) (sym same)
+    (means_short_feed moment entities small readable)
 
 pub returns-in-Ok : goal.returns-in-Ok
 returns-in-Ok c =
@@ -31,14 +33,17 @@ returns-in-Ok c =
       fault = tt;
       again = λ moment entities is readable same.
           one_feed c.args.bytes.now c.in-Ok.feed (full_dataset moment entities) means
-          (means_short c.args.bytes.now (full_dataset moment entities) (short_feed c.args.bytes.now moment entities is readable same));
+          (means_short c.args.bytes.now (full_dataset moment entities)
+          (short_feed c.args.bytes.now moment entities is readable same));
     }
 
 pub returns-in-Err-Meaningless-clause-only : goal.returns-in-Err-Meaningless-clause-only
 returns-in-Err-Meaningless-clause-only c = λ other h.
-    IfOk-weaker c.checked_feed.result (λ feed. MeansFeed c.args.bytes.now feed) (λ feed. feed ≡ other) (λ feed k. one_feed c.args.bytes.now feed other k h) c.checked_feed.ensures.means
+    IfOk-weaker c.checked_feed.result (λ feed. MeansFeed c.args.bytes.now feed) (λ feed. feed ≡ other)
+    (λ feed k. one_feed c.args.bytes.now feed other k h) c.checked_feed.ensures.means
 
 pub returns-in-Err-Meaningless-clause-again : goal.returns-in-Err-Meaningless-clause-again
 returns-in-Err-Meaningless-clause-again c = λ moment entities is readable same.
-    answers_it c.args.bytes.now (full_dataset moment entities) c.checked_feed.result (short_feed c.args.bytes.now moment entities is readable same)
+    answers_it c.args.bytes.now (full_dataset moment entities) c.checked_feed.result
+    (short_feed c.args.bytes.now moment entities is readable same)
     c.checked_feed.ensures.means c.checked_feed.ensures.fault

@@ -1,19 +1,14 @@
--- what the words left say behind the deliveries so far is what all say
-use Rattle.std.proofs.Common.{◌≡◌, ◌≤◌, List, Result, length, [], IfSome}
-use Rattle.std.specs.List.{AllByRecursion}
-use Rattle.gateway_core.specs.Deliveries.{schedule_in}
-use Rattle.gateway_core.specs.Deliveries.{CanServe}
-use Rattle.gateway.specs.Work.{Deliveries}
-use Rattle.gateway_core.specs.declared.named.Named.{Named}
-use Rattle.gateway.specs.declared.exit.Exit.{Exit}
+-- what arrived so far stands, and what the words left say behind it is what all words say
+use Rattle.std.proofs.Common.{◌≡◌, ◌≤◌, length, IfSome}
+use Rattle.gateway.proofs.DeliveryLemmas.{HasArrived}
 use Rattle.gateway.proofs.deliveries.deliveries.Given as goal
 
 abbrev pub invariant-loop-flag : goal.invariant-loop-flag
 invariant-loop-flag g l = record {
-  told : (answer : Result (List Named) Exit) → IfSome (g.F.Files.told l.fn.files) (λ told. Deliveries l.setting told l.rest l.found answer → Deliveries l.setting told l.words [] answer);
+  arrived : IfSome (g.F.Files.told l.fn.files) (λ told. HasArrived l.fn.gate.setting l.at told l.words l.rest l.gate l.so_far);
   counts : g.F.Files.faults l.fn.files ≤ g.F.Files.faults l.files;
   same : g.F.Files.told l.files ≡ g.F.Files.told l.fn.files;
-  servable : AllByRecursion (λ (one : Named). CanServe (schedule_in l.setting) one.delivered) l.found;
+  setting : l.gate.setting ≡ l.fn.gate.setting;
 }
 
 abbrev pub decreases-loop-flag : goal.decreases-loop-flag

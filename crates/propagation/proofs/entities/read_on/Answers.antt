@@ -7,6 +7,9 @@ use Rattle.propagation.proofs.entities.read_on.Goals as goal
 pub returns-then-runs : goal.returns-then-runs
 returns-then-runs c =
     let schedule = schedule_of c.args.context.now in
-    said_there schedule c.args.feed.now c.args.update.now c.args.trip.0 c.in-Some.dated.trip.0 c.args.day c.in-Some.dated.day
-    (run_on schedule c.args.trip.0 c.args.day) (run_of c.args.context.now.table.now.stops c.in-Some.dated) c.read_dated.result
-    c.in-Some.ensures.value (ap (λ trip. trip.0) c.in-Some.ensures.names.0) c.in-Some.ensures.names.1 (sym c.runs.ensures ∙ c.if-runs.true) c.read_dated.ensures
+    said_there schedule c.args.feed.now c.args.update.now c.args.trip.0 c.in-Some.dated.trip.0 c.args.day
+    c.in-Some.dated.day
+    (run_on schedule c.args.trip.0 c.args.day) (run_of c.args.context.now.table.now.stops c.in-Some.dated)
+    c.read_dated.result
+    c.in-Some.ensures.value (ap (λ trip. trip.0) c.in-Some.ensures.names.0) c.in-Some.ensures.names.1
+    (sym c.runs.ensures ∙ c.if-runs.true) c.read_dated.ensures

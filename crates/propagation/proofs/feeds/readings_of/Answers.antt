@@ -12,12 +12,15 @@ returns c =
     let schedule = schedule_of c.args.context.now in
     let sorted_out = c.in_ok-given.ensures in
     let last = last_of_each (given_all (readings schedule c.args.feed.now)) in
-    let front : IsPermutation last c.in_ok-last_of_each.field-0.items = rw (c.in_ok-last_of_each.ensures, sorted_out.given) (IsPermutation-reverse last) in
+    let front : IsPermutation last c.in_ok-last_of_each.field-0.items =
+    rw (c.in_ok-last_of_each.ensures, sorted_out.given) (IsPermutation-reverse last) in
     let same : IsPermutation last c.in_ok-journeys.journeys =
-    IsPermutation-trans last c.in_ok-last_of_each.field-0.items c.in_ok-journeys.journeys front c.in_ok-journeys.ensures.same in
+    IsPermutation-trans last c.in_ok-last_of_each.field-0.items c.in_ok-journeys.journeys front
+    c.in_ok-journeys.ensures.same in
     record {
       same = same;
-      each_last = λ trip day. last_there trip day (given_all (readings schedule c.args.feed.now)) c.in_ok-journeys.journeys same;
+      each_last = λ trip day. last_there trip day (given_all (readings schedule c.args.feed.now))
+          c.in_ok-journeys.journeys same;
       sorted = c.in_ok-journeys.ensures.sorted;
       servable = all-servable schedule c.args.feed.now c.in_ok-journeys.journeys same;
       taken = c.len-taken.ensures.value ∙ ap length sorted_out.given;

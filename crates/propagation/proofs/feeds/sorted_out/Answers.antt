@@ -9,10 +9,17 @@ use Rattle.propagation.proofs.feeds.sorted_out.Goals.{in-None, in-Some-Ok+in_ok-
 pub overflow_add-passed : goal.overflow_add-passed
 overflow_add-passed c =
     let so_far = c.loop-number.invariant in
-    omega (arith, so_far.passed_is, so_far.many, passed-most (said_to (schedule_of c.args.context.now) c.args.feed.now c.loop-number.number))
+    omega (
+      arith,
+      so_far.passed_is,
+      so_far.many,
+      passed-most (said_to (schedule_of c.args.context.now) c.args.feed.now c.loop-number.number),
+    )
 
 pub loop-number-init : goal.loop-number-init
-loop-number-init c = rw (c.new-given.ensures.empty, c.new-aside.ensures.empty) (sorted_none (schedule_of c.args.context.now) c.args.feed.now)
+loop-number-init c =
+    rw (c.new-given.ensures.empty, c.new-aside.ensures.empty)
+    (sorted_none (schedule_of c.args.context.now) c.args.feed.now)
 
 pub loop-number-preserved : goal.loop-number-preserved
 loop-number-preserved c =
@@ -23,23 +30,34 @@ loop-number-preserved c =
     let is = rw c.as_slice-entity-items.ensures.same at c.entity-item.is in
     elim c.match-branch-2.branch [
       | in-None w ↦
-          sorted_more schedule c.args.feed.now number c.loop-number.given c.match-branch-2.given c.loop-number.passed c.match-branch-2.passed c.loop-number.aside c.match-branch-2.aside
+          sorted_more schedule c.args.feed.now number c.loop-number.given c.match-branch-2.given c.loop-number.passed
+          c.match-branch-2.passed c.loop-number.aside c.match-branch-2.aside
           c.entity-item.result None so_far within is (sym w.in-None.is ∙ c.in_ok-read_entity.ensures)
-          (w.given-is ∙ sym (append-nil c.loop-number.given)) w.passed-is (w.aside-is ∙ sym (append-nil c.loop-number.aside))
+          (w.given-is ∙ sym (append-nil c.loop-number.given)) w.passed-is
+          (w.aside-is ∙ sym (append-nil c.loop-number.aside))
       | in-Some-Ok+in_ok-push-in-Some-Ok w ↦
-          sorted_more schedule c.args.feed.now number c.loop-number.given c.match-branch-2.given c.loop-number.passed c.match-branch-2.passed c.loop-number.aside c.match-branch-2.aside
-          c.entity-item.result (Some (Ok w.in-Some-Ok.reading)) so_far within is (ap (λ said. Some said) (sym w.in-Some-Ok.field-0-is) ∙ (sym w.in-Some-Ok.is ∙ c.in_ok-read_entity.ensures))
-          (w.given-is ∙ w.in_ok-push-in-Some-Ok.ensures.added) (w.passed-is ∙ omega arith) (w.aside-is ∙ sym (append-nil c.loop-number.aside))
+          sorted_more schedule c.args.feed.now number c.loop-number.given c.match-branch-2.given c.loop-number.passed
+          c.match-branch-2.passed c.loop-number.aside c.match-branch-2.aside
+          c.entity-item.result (Some (Ok w.in-Some-Ok.reading)) so_far within is
+          (ap (λ said. Some said) (sym w.in-Some-Ok.field-0-is)
+          ∙ (sym w.in-Some-Ok.is ∙ c.in_ok-read_entity.ensures))
+          (w.given-is ∙ w.in_ok-push-in-Some-Ok.ensures.added) (w.passed-is ∙ omega arith)
+          (w.aside-is ∙ sym (append-nil c.loop-number.aside))
       | in-Some-Err+in_ok-push-in-Some-Err w ↦
-          sorted_more schedule c.args.feed.now number c.loop-number.given c.match-branch-2.given c.loop-number.passed c.match-branch-2.passed c.loop-number.aside c.match-branch-2.aside
-          c.entity-item.result (Some (Err w.in-Some-Err.fault)) so_far within is (ap (λ said. Some said) (sym w.in-Some-Err.field-0-is) ∙ (sym w.in-Some-Err.is ∙ c.in_ok-read_entity.ensures))
-          (w.given-is ∙ sym (append-nil c.loop-number.given)) (w.passed-is ∙ omega arith) (w.aside-is ∙ w.in_ok-push-in-Some-Err.ensures.added)
+          sorted_more schedule c.args.feed.now number c.loop-number.given c.match-branch-2.given c.loop-number.passed
+          c.match-branch-2.passed c.loop-number.aside c.match-branch-2.aside
+          c.entity-item.result (Some (Err w.in-Some-Err.fault)) so_far within is
+          (ap (λ said. Some said) (sym w.in-Some-Err.field-0-is)
+          ∙ (sym w.in-Some-Err.is ∙ c.in_ok-read_entity.ensures))
+          (w.given-is ∙ sym (append-nil c.loop-number.given)) (w.passed-is ∙ omega arith)
+          (w.aside-is ∙ w.in_ok-push-in-Some-Err.ensures.added)
     ]
 
 pub returns : goal.returns
 returns c =
     let so_far = c.loop-number.invariant in
-    let all = sorted_all (schedule_of c.args.context.now) c.args.feed.now c.loop-number.number (rw c.as_slice-entity-items.ensures.same at c.loop-number-test.false) in
+    let all = sorted_all (schedule_of c.args.context.now) c.args.feed.now c.loop-number.number
+    (rw c.as_slice-entity-items.ensures.same at c.loop-number-test.false) in
     record {
       given = so_far.given_is ∙ ap given_all all;
       passed = so_far.passed_is ∙ ap passed_count all;

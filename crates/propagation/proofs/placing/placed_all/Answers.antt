@@ -5,25 +5,31 @@ use Rattle.propagation.proofs.PlaceLemmas.{placed_none, placed_more, placed_all-
 use Rattle.propagation.proofs.placing.placed_all.Goals as goal
 
 pub loop-number-init : goal.loop-number-init
-loop-number-init c = rw c.in_ok-all.ensures (placed_none (run_of c.args.table.now.stops c.args.dated.now) c.args.updates.now)
+loop-number-init c =
+    rw c.in_ok-all.ensures (placed_none (run_of c.args.table.now.stops c.args.dated.now) c.args.updates.now)
 
 pub loop-number-preserved : goal.loop-number-preserved
 loop-number-preserved c =
     let run = run_of c.args.table.now.stops c.args.dated.now in
     let update = c.index-updates-number.result in
-    let at = is_at run update (place_of run c.loop-number.number c.loop-number.after update) c.in-Ok.next (sym c.in-Ok.is ∙ c.place.ensures) in
-    placed_more run c.args.updates.now c.loop-number.number c.loop-number.after c.loop-number.all c.push.new.self update c.in-Ok.next
+    let at = is_at run update (place_of run c.loop-number.number c.loop-number.after update) c.in-Ok.next
+    (sym c.in-Ok.is ∙ c.place.ensures) in
+    placed_more run c.args.updates.now c.loop-number.number c.loop-number.after c.loop-number.all c.push.new.self
+    update c.in-Ok.next
     c.loop-number.invariant c.loop-number-test.true c.index-updates-number.is at c.in_ok-push.ensures.added
 
 pub returns-in-Err : goal.returns-in-Err
 returns-in-Err c =
     let run = run_of c.args.table.now.stops c.args.dated.now in
     let update = c.index-updates-number.result in
-    placed_all-fault run c.args.updates.now c.loop-number.number c.loop-number.after c.loop-number.all update c.in-Err.fault
+    placed_all-fault run c.args.updates.now c.loop-number.number c.loop-number.after c.loop-number.all update
+    c.in-Err.fault
     c.loop-number.invariant c.loop-number-test.true c.index-updates-number.is
-    (is_fault run update (place_of run c.loop-number.number c.loop-number.after update) c.in-Err.fault (sym c.in-Err.is ∙ c.place.ensures))
+    (is_fault run update (place_of run c.loop-number.number c.loop-number.after update) c.in-Err.fault
+    (sym c.in-Err.is ∙ c.place.ensures))
 
 pub returns : goal.returns
 returns c =
     let run = run_of c.args.table.now.stops c.args.dated.now in
-    placed_all-done run c.args.updates.now c.loop-number.number c.loop-number.after c.loop-number.all c.loop-number.invariant (omega arith)
+    placed_all-done run c.args.updates.now c.loop-number.number c.loop-number.after c.loop-number.all
+    c.loop-number.invariant (omega arith)

@@ -1,5 +1,5 @@
 use Rattle.std.proofs.Common.{subst}
-use Rattle.service_day.specs.Utc.{IsMoment}
+use Rattle.gw_base.specs.Moments.{IsMoment}
 use Rattle.journey_model.specs.Schedules.{schedule_of}
 use Rattle.reverse_calls.proofs.SaidLemmas.{says_all}
 use Rattle.reverse_calls.proofs.siri.said.Goals as goal

@@ -12,7 +12,8 @@ keep_at-requires-clause-room c = rw c.loop-place.invariant (few-ids c.args.ids c
 
 pub returns-then-are_all_carried : goal.returns-then-are_all_carried
 returns-then-are_all_carried c =
-    sym (ids-all c.args.ids c.args.carried.now (rw c.len.ensures.value at (c.are_all_carried.ensures c.if-are_all_carried.true)))
+    sym (ids-all c.args.ids c.args.carried.now
+    (rw c.len.ensures.value at (c.are_all_carried.ensures c.if-are_all_carried.true)))
 
 pub loop-place-preserved : goal.loop-place-preserved
 loop-place-preserved c =
@@ -20,5 +21,6 @@ loop-place-preserved c =
     let ids = c.args.ids in
     let carried = c.args.carried.now in
     c.in_ok-keep_at.ensures
-    ∙ ap (λ (all : List (List ℕ)). all ++ cond (get_or carried place false) (get_or ids place [] ∷ []) []) c.loop-place.invariant
+    ∙ ap (λ (all : List (List ℕ)). all ++ cond (get_or carried place false) (get_or ids place [] ∷ []) [])
+    c.loop-place.invariant
     ∙ sym (ids_more ids carried place)

@@ -1,5 +1,5 @@
 -- The id of a trip that is carried is one, and is new.
-use Rattle.std.proofs.Common.{◌≡◌, ◌∙◌, true, false, [], get_or, slice_get, Some, sym}
+use Rattle.std.proofs.Common.{◌≡◌, ◌∙◌, true, false, [], get_or, sym}
 use Rattle.std.proofs.lemmas.Bool.{false≢true}
 use Rattle.stop_schedule.specs.Ids.{has_id, is_id}
 use Rattle.stop_schedule.proofs.CarryingLemmas.{found_at}
@@ -13,7 +13,8 @@ prove-unreachable-requires c =
     let is : get_or ids c.args.place [] ≡ id = found_at ids c.args.place id c.at.ensures.value in
     let sound : is_id id ≡ true = id-at ids c.args.place id (and-left _ _ c.len.ensures.ids) c.at.ensures.value in
     let lacks : has_id id c.args.kept.now ≡ false = rw is at c.requires.new in
-    let added : c.in_ok-added.added ≡ true = rw (c.as_bytes.ensures.value, sound, lacks) at c.in_ok-added.ensures.added in
+    let added : c.in_ok-added.added ≡ true =
+    rw (c.as_bytes.ensures.value, sound, lacks) at c.in_ok-added.ensures.added in
     false≢true (sym c.if-prove.true ∙ added)
 
 pub returns : goal.returns
@@ -23,6 +24,8 @@ returns c =
     let is : get_or ids c.args.place [] ≡ id = found_at ids c.args.place id c.at.ensures.value in
     let sound : is_id id ≡ true = id-at ids c.args.place id (and-left _ _ c.len.ensures.ids) c.at.ensures.value in
     let lacks : has_id id c.args.kept.now ≡ false = rw is at c.requires.new in
-    let added : c.in_ok-added.added ≡ true = rw (c.as_bytes.ensures.value, sound, lacks) at c.in_ok-added.ensures.added in
-    let flag : get_or c.args.carried.now c.args.place false ≡ true = sym c.is_carried_at.ensures ∙ c.if-not-is_carried_at.false in
+    let added : c.in_ok-added.added ≡ true =
+    rw (c.as_bytes.ensures.value, sound, lacks) at c.in_ok-added.ensures.added in
+    let flag : get_or c.args.carried.now c.args.place false ≡ true =
+    sym c.is_carried_at.ensures ∙ c.if-not-is_carried_at.false in
     rw (flag, is) (rw (added, c.as_bytes.ensures.value) at c.in_ok-added.ensures.ids)

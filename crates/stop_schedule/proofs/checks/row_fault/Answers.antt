@@ -13,5 +13,6 @@ returns-in_default c =
     let row = c.args.sheet.now.row in
     let some : 0 < length (drop i items) = simp length-drop (omega arith) in
     let no_text : is_utf8 (nth i row) ≡ false = rw (← c.field-field.ensures.value) c.in_default.ensures.cases in
-    let none : all_text 0 (columns c.args.file) row ≡ false = c.loop-i.invariant.texts ∙ first-no-text i (drop i items) row some no_text in
+    let none : all_text 0 (columns c.args.file) row ≡ false =
+    c.loop-i.invariant.texts ∙ first-no-text i (drop i items) row some no_text in
     rw none refl

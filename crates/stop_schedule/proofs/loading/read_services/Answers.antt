@@ -17,9 +17,13 @@ returns-clause-exact g c =
     ] in
     if_both (g.F.Files.told c.args.files.now) c.in_ok-has_calendar.ensures.exact dates
     (λ told p q. (
-      both-none _ _ p.0 (dates-none (sheets_in told c.args.dir.now File.Calendar) (sheets_in told c.args.dir.now File.CalendarDates) _ _ p.1.0 q.1.0 some q.0),
+      both-none _ _ p.0
+          (dates-none (sheets_in told c.args.dir.now File.Calendar) (sheets_in told c.args.dir.now File.CalendarDates)
+          _ _ p.1.0 q.1.0 some q.0),
       record {
         calendars_are = λ number service at. p.1.1.inside number service (p.1.1.extends number service at);
-        exceptions_are = λ number service day at. q.1.1.inside number service day (q.1.1.extends number service (p.1.1.extends number service at));
+        exceptions_are =
+            λ number service day at. q.1.1.inside number service day
+            (q.1.1.extends number service (p.1.1.extends number service at));
       },
     ))

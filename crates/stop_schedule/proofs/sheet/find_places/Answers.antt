@@ -13,5 +13,6 @@ loop-column-preserved c =
     let within : c.loop-column.column-index < length c.columns-column-items.result.now = omega arith in
     let at = rw c.name.ensures at (sym c.in-Some.ensures.place) in
     rw c.in_ok-push.ensures.items
-    (step-place file names c.columns-column-items.result.now c.loop-column.column-index (AgencyTimezone, Any) c.loop-column.places.items c.in-Some.place
+    (step-place file names c.columns-column-items.result.now c.loop-column.column-index (AgencyTimezone, Any)
+    c.loop-column.places.items c.in-Some.place
     (places_of file names (columns file)) within at c.loop-column.invariant)

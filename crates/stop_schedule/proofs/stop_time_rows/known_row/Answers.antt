@@ -16,10 +16,12 @@ returns-in-Some-clause-known c =
     let loaded = c.in-Some.loaded in
     record {
       ids = ids.trips;
-      fits = known-fits trips stops row c.args.number c.in_ok-trip.trip stop ids.trips ids.stops ids.trip ids.stop (ap is_some fields.sequence)
+      fits = known-fits trips stops row c.args.number c.in_ok-trip.trip stop ids.trips ids.stops ids.trip ids.stop
+          (ap is_some fields.sequence)
           fields.arrival fields.departure fields.counted.0;
       trip_at = ids.trip;
       of_stop = has-at stops stop (nth 2 row) ids.stop;
-      loaded_is = loaded-row stops row c.args.number loaded.row loaded.sequence loaded.stop.0 loaded.times fields.counted.1 (sym fields.sequence)
+      loaded_is = loaded-row stops row c.args.number loaded.row loaded.sequence loaded.stop.0 loaded.times
+          fields.counted.1 (sym fields.sequence)
           (rw fields.counted.2 (sym (place-of-id-at stops stop (nth 2 row) ids.stops ids.stop))) fields.times;
     }

@@ -14,5 +14,6 @@ returns-then-last-sequence c =
     record {
       within = within;
       place = λ rising. between c.args.stops.now rest inv.0 c.args.sequence all
-          (less-front rest inv.0 c.args.sequence (length rest - 1) none long (rw all at rising) c.if-last-sequence.true) inv.1.greater;
+          (less-front rest inv.0 c.args.sequence (length rest - 1) none long (rw all at rising)
+          c.if-last-sequence.true) inv.1.greater;
     }

@@ -4,4 +4,5 @@ use Rattle.stop_schedule.proofs.stop_times.push_filled.Given as goal
 
 -- the stops so far, and the others with their times, are all
 abbrev pub invariant-loop-place : goal.invariant-loop-place
-invariant-loop-place l = l.into.items ++ filled_from l.stops l.place (drop l.place l.stops) ≡ l.fn.into.items ++ filled l.stops
+invariant-loop-place l = l.into.items ++ filled_from l.stops l.place (drop l.place l.stops) ≡ l.fn.into.items
+    ++ filled l.stops

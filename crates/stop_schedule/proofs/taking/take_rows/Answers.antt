@@ -24,7 +24,8 @@ loop-number-preserved g c =
         same_given = c.in_default.ensures.same_given ∙ inv.1.same_given;
         same_fault = c.in_default.ensures.same_fault ∙ inv.1.same_fault;
         same_file = c.in_default.ensures.same_file ∙ inv.1.same_file;
-        so_far = λ holds. taken g.T.TakesRows.Holds file (g.T.TakesRows.fault start) start c.loop-number.taker c.take_row.new.taker c.args.sheet.now.left inv.0
+        so_far = λ holds. taken g.T.TakesRows.Holds file (g.T.TakesRows.fault start) start c.loop-number.taker
+            c.take_row.new.taker c.args.sheet.now.left inv.0
             c.loop-number.sheet.left left row number (inv.1.so_far holds) is inv.1.number takes;
       },
     )
@@ -41,5 +42,6 @@ returns-in-Err-clause-takes g c = λ holds.
     let fault_is = inv.1.same_fault in
     let file_is = inv.1.same_file in
     let takes = rw (fault_is, file_is) at (c.in-Err.ensures.takes start inv.0) in
-    refused g.T.TakesRows.Holds file (g.T.TakesRows.fault start) start c.loop-number.taker c.take_row.new.taker c.args.sheet.now.left inv.0
+    refused g.T.TakesRows.Holds file (g.T.TakesRows.fault start) start c.loop-number.taker c.take_row.new.taker
+    c.args.sheet.now.left inv.0
     c.loop-number.sheet.left left row number c.in-Err.fault (inv.1.so_far holds) is inv.1.number takes

@@ -1,5 +1,5 @@
 use Rattle.std.proofs.Common.{◌≡◌, ◌≤◌, ◌+◌, [], List, length}
-use Rattle.stop_schedule.specs.Layout.{row_limit}
+use Rattle.stop_schedule.specs.Limits.{row_limit}
 use Rattle.stop_schedule.specs.Sheet.{Row}
 use Rattle.stop_schedule.proofs.TakingLemmas.{SoFar}
 use Rattle.stop_schedule.proofs.taking.take_rows.Given as goal
@@ -15,7 +15,8 @@ invariant-loop-number g l = (done : List Row) × record {
   same_fault : g.T.TakesRows.fault l.taker ≡ g.T.TakesRows.fault l.fn.taker;
   same_file : g.T.TakesRows.file_of l.taker ≡ g.T.TakesRows.file_of l.fn.taker;
   so_far : g.T.TakesRows.Holds l.fn.taker l.fn.taker []
-      → SoFar g.T.TakesRows.Holds (g.T.TakesRows.file_of l.fn.taker) (g.T.TakesRows.fault l.fn.taker) l.fn.taker l.taker l.fn.sheet.left done l.sheet.left;
+      → SoFar g.T.TakesRows.Holds (g.T.TakesRows.file_of l.fn.taker) (g.T.TakesRows.fault l.fn.taker) l.fn.taker
+      l.taker l.fn.sheet.left done l.sheet.left;
 }
 
 abbrev pub decreases-loop-number : goal.decreases-loop-number

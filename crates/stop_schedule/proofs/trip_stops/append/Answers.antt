@@ -11,6 +11,7 @@ returns-clause-added c =
     let row_is : begun.row + length begun.stops.items ≡ begun.row + vec_len begun.stops = omega arith in
     ap (all_expanded begun.row begun.minute) c.in_ok-push.ensures.items
     ∙ expanded-behind begun.row begun.minute begun.stops.items c.in-Some.brief
-    ∙ ap (λ (row : ℕ). all_expanded begun.row begun.minute begun.stops.items ++ expanded row begun.minute c.in-Some.brief ∷ []) row_is
+    ∙ ap (λ (row : ℕ). all_expanded begun.row begun.minute begun.stops.items
+    ++ expanded row begun.minute c.in-Some.brief ∷ []) row_is
     ∙ ap (λ (last : LoadedStop). all_expanded begun.row begun.minute begun.stops.items ++ last ∷ []) stop_is
     ∙ ap (λ (stops : List LoadedStop). stops ++ c.args.stop.now ∷ []) c.begin.ensures

@@ -7,7 +7,8 @@ pub returns-in-Ok : goal.returns-in-Ok
 returns-in-Ok c = λ rising.
     let stops = c.args.stops.now.items in
     let stop = c.args.stop.now in
-    let between : IsBetween stops stop.sequence c.in-Some.place = (rw c.as_slice.ensures.value at c.in-Some.ensures.place) rising in (
+    let between : IsBetween stops stop.sequence c.in-Some.place =
+    (rw c.as_slice.ensures.value at c.in-Some.ensures.place) rising in (
       not-between stops stop.sequence c.in-Some.place between,
       c.in-Ok.ensures.items ∙ placed-at stops stop c.in-Some.place between,
     )

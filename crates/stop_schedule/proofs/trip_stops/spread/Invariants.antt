@@ -5,4 +5,5 @@ use Rattle.stop_schedule.proofs.trip_stops.spread.Given as goal
 -- the stops so far, and the others, are all
 abbrev pub invariant-loop-place : goal.invariant-loop-place
 invariant-loop-place l =
-    l.into.items ++ all_expanded (l.held.row + l.place) l.held.minute (drop l.place l.held.stops.items) ≡ l.fn.into.items ++ brief_stops l.held
+    l.into.items ++ all_expanded (l.held.row + l.place) l.held.minute (drop l.place l.held.stops.items)
+    ≡ l.fn.into.items ++ brief_stops l.held

@@ -1,10 +1,13 @@
 -- The bytes begin with one number, and behind it with one.
+use Rattle.feed_messages.specs.Limits.{entity_limit}
 use Rattle.feed_messages.specs.Found.{IsLongHere}
 use Rattle.feed_messages.proofs.LongEntities.{other_tag, no_tag, no_size, short_size, long_size, match_lt}
 use Rattle.feed_messages.proofs.finder.lengths.begins_long.Goals as goal
 
 pub returns-then-tag-ne-ENTITY_TAG : goal.returns-then-tag-ne-ENTITY_TAG
-returns-then-tag-ne-ENTITY_TAG c = other_tag c.args.piece.now.bytes.now c.in-Some.rest.now c.in-Some.tag c.in-Some.ensures.found c.if-tag-ne-ENTITY_TAG.true
+returns-then-tag-ne-ENTITY_TAG c =
+    other_tag c.args.piece.now.bytes.now c.in-Some.rest.now c.in-Some.tag c.in-Some.ensures.found
+    c.if-tag-ne-ENTITY_TAG.true
 
 pub returns-in-Some-first_number : goal.returns-in-Some-first_number
 returns-in-Some-first_number c =
@@ -13,12 +16,15 @@ returns-in-Some-first_number c =
     let tag = c.in-Some.tag in
     let len = c.in-Some-first_number.len in
     let behind = c.in-Some-first_number._behind.now in
-    match_lt 1048576 len (IsLongHere bytes) (¬ IsLongHere bytes)
-    (long_size bytes rest behind tag len c.in-Some.ensures.found c.in-Some-first_number.ensures.found c.if-tag-ne-ENTITY_TAG.false)
+    match_lt entity_limit len (IsLongHere bytes) (¬ IsLongHere bytes)
+    (long_size bytes rest behind tag len c.in-Some.ensures.found c.in-Some-first_number.ensures.found
+    c.if-tag-ne-ENTITY_TAG.false)
     (short_size bytes rest behind tag len c.in-Some.ensures.found c.in-Some-first_number.ensures.found)
 
 pub returns-in-None-first_number : goal.returns-in-None-first_number
-returns-in-None-first_number c = no_size c.args.piece.now.bytes.now c.in-Some.rest.now c.in-Some.tag c.in-Some.ensures.found c.in-None-first_number.ensures.none
+returns-in-None-first_number c =
+    no_size c.args.piece.now.bytes.now c.in-Some.rest.now c.in-Some.tag c.in-Some.ensures.found
+    c.in-None-first_number.ensures.none
 
 pub returns-in-None : goal.returns-in-None
 returns-in-None c = no_tag c.args.piece.now.bytes.now c.in-None.ensures.none

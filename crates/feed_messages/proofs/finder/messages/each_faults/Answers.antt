@@ -9,5 +9,7 @@ pub returns : goal.returns
 returns g c =
     let set = c.in_ok-inner.ensures in
     let Has = InEach g.K.KnownMessage.known c.args.end in
-    least_same (InSome (Listed c.as_slice.result.now) Has) (InSome (Inside c.args.number (Listed c.args.pieces.now)) Has)
-    (rw c.as_slice.ensures.same (in_same Has (same_turned set))) (rw c.as_slice.ensures.same (in_same Has set)) c.in_ok-found.found c.in_ok-found.ensures
+    least_same (InSome (Listed c.as_slice.result.now) Has)
+    (InSome (Inside c.args.number (Listed c.args.pieces.now)) Has)
+    (rw c.as_slice.ensures.same (in_same Has (same_turned set))) (rw c.as_slice.ensures.same (in_same Has set))
+    c.in_ok-found.found c.in_ok-found.ensures

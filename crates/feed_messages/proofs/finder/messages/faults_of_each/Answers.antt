@@ -12,7 +12,9 @@ pub loop-piece-preserved : goal.loop-piece-preserved
 loop-piece-preserved g c =
     let known = g.K.KnownMessage.known in
     rw c.earlier-found.ensures
-    (least_step (InEach known c.args.end) c.args.inner.now c.loop-piece.piece-index c.piece-item.result c.loop-piece.found c.in_ok-piece_faults.field-0 c.loop-piece-test.true c.piece-item.is c.loop-piece.invariant c.in_ok-piece_faults.ensures)
+    (least_step (InEach known c.args.end) c.args.inner.now c.loop-piece.piece-index c.piece-item.result
+    c.loop-piece.found c.in_ok-piece_faults.field-0 c.loop-piece-test.true c.piece-item.is c.loop-piece.invariant
+    c.in_ok-piece_faults.ensures)
 
 pub returns : goal.returns
 returns g c = rw (take_all c.loop-piece.piece-index c.args.inner.now (omega arith)) at c.loop-piece.invariant

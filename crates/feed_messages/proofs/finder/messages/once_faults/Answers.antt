@@ -11,7 +11,12 @@ returns g c =
     let set = c.in_ok-inner.ensures in
     let known = g.K.KnownMessage.known in
     let inner =
-    least_same (InMessage known (Listed c.as_slice.result.now) c.args.end) (InMessage known (Inside c.args.number (Listed c.args.pieces.now)) c.args.end)
-    (rw c.as_slice.ensures.same (message_same known c.args.end (same_turned set))) (rw c.as_slice.ensures.same (message_same known c.args.end set)) c.in_ok-inner-2.inner c.in_ok-inner-2.ensures in
+    least_same (InMessage known (Listed c.as_slice.result.now) c.args.end)
+    (InMessage known (Inside c.args.number (Listed c.args.pieces.now)) c.args.end)
+    (rw c.as_slice.ensures.same (message_same known c.args.end (same_turned set)))
+    (rw c.as_slice.ensures.same (message_same known c.args.end set)) c.in_ok-inner-2.inner
+    c.in_ok-inner-2.ensures in
     rw c.earlier.ensures
-    (least_either (InMessage known (Inside c.args.number (Listed c.args.pieces.now)) c.args.end) (IsMissing c.args.number c.args.name (Listed c.args.pieces.now) c.args.end) c.in_ok-inner-2.inner c.missing.result inner c.missing.ensures)
+    (least_either (InMessage known (Inside c.args.number (Listed c.args.pieces.now)) c.args.end)
+    (IsMissing c.args.number c.args.name (Listed c.args.pieces.now) c.args.end) c.in_ok-inner-2.inner
+    c.missing.result inner c.missing.ensures)

@@ -8,7 +8,13 @@ pub returns-in-Ok : goal.returns-in-Ok
 returns-in-Ok c = let w = c.in-Ok.ensures.whole in not_torn (piece_of c.args.piece.now) w.0 w.1
 
 pub overflow_add-result : goal.overflow_add-result
-overflow_add-result c = let inside = c.args.piece.now.within in omega (arith, inside, break_within c.args.piece.now.bytes.now c.in-Err.fault.at c.in-Err.fault.kind c.in-Err.ensures.broken)
+overflow_add-result c = let inside = c.args.piece.now.within in
+    omega (
+      arith,
+      inside,
+      break_within c.args.piece.now.bytes.now c.in-Err.fault.at c.in-Err.fault.kind
+          c.in-Err.ensures.broken,
+    )
 
 pub returns-in-Err : goal.returns-in-Err
 returns-in-Err c = torn_there (piece_of c.args.piece.now) c.in-Err.fault.at c.in-Err.fault.kind c.in-Err.ensures.broken

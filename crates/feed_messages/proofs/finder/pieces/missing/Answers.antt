@@ -10,16 +10,24 @@ use Rattle.feed_messages.proofs.finder.pieces.missing.Goals as goal
 
 pub returns-then-is_empty : goal.returns-then-is_empty
 returns-then-is_empty c =
-    let P : Option Required → Type 0 = λ name. IsLeast (IsMissing c.args.number name (Listed c.args.pieces.now) c.args.end) None in
-    subst P (sym c.in-Some.is) (not_missing_empty c.args.number c.args.end c.in-Some.name c.args.pieces.now (eqb-true _ _ (sym c.if-is_empty.ensures)))
+    let P : Option Required → Type 0 =
+    λ name. IsLeast (IsMissing c.args.number name (Listed c.args.pieces.now) c.args.end) None in
+    subst P (sym c.in-Some.is)
+    (not_missing_empty c.args.number c.args.end c.in-Some.name c.args.pieces.now
+    (eqb-true _ _ (sym c.if-is_empty.ensures)))
 
 pub returns-then-all_lack : goal.returns-then-all_lack
 returns-then-all_lack c =
-    let P : Option Required → Type 0 = λ name. IsLeast (IsMissing c.args.number name (Listed c.args.pieces.now) c.args.end) (Some (MissingField c.place_of-place.result c.in-Some.name)) in
+    let P : Option Required → Type 0 =
+    λ name. IsLeast (IsMissing c.args.number name (Listed c.args.pieces.now) c.args.end)
+    (Some (MissingField c.place_of-place.result c.in-Some.name)) in
     subst P (sym c.in-Some.is)
-    (missing_here c.args.number c.args.end c.first_tag.result c.place_of-place.result c.in-Some.name c.args.pieces.now c.if-all_lack.ensures c.first_tag.ensures c.place_of-place.ensures)
+    (missing_here c.args.number c.args.end c.first_tag.result c.place_of-place.result c.in-Some.name c.args.pieces.now
+    c.if-all_lack.ensures c.first_tag.ensures c.place_of-place.ensures)
 
 pub returns-else-all_lack : goal.returns-else-all_lack
 returns-else-all_lack c =
-    let P : Option Required → Type 0 = λ name. IsLeast (IsMissing c.args.number name (Listed c.args.pieces.now) c.args.end) None in
-    subst P (sym c.in-Some.is) (not_missing_in c.args.number c.args.end c.in-Some.name c.args.pieces.now c.if-all_lack.ensures)
+    let P : Option Required → Type 0 =
+    λ name. IsLeast (IsMissing c.args.number name (Listed c.args.pieces.now) c.args.end) None in
+    subst P (sym c.in-Some.is)
+    (not_missing_in c.args.number c.args.end c.in-Some.name c.args.pieces.now c.if-all_lack.ensures)

@@ -6,5 +6,6 @@ use Rattle.feed_messages.proofs.plain.kinds.last_text.Given as goal
 abbrev pub invariant-loop-body : goal.invariant-loop-body
 invariant-loop-body l = record {
   texts : AllByRecursion IsUtf8 (map (λ body. body.now) (take l.body-index l.bodies));
-  last : last_or (option_map (λ text. text.now) l.last) (map (λ body. body.now) (drop l.body-index l.bodies)) ≡ last_or None (map (λ body. body.now) l.bodies);
+  last : last_or (option_map (λ text. text.now) l.last) (map (λ body. body.now) (drop l.body-index l.bodies))
+      ≡ last_or None (map (λ body. body.now) l.bodies);
 }

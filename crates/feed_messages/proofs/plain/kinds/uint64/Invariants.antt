@@ -6,4 +6,5 @@ use Rattle.feed_messages.proofs.plain.kinds.uint64.Given as goal
 
 -- the last number so far, where none follows, is the last of all
 abbrev pub invariant-loop-field : goal.invariant-loop-field
-invariant-loop-field l = last_or l.last (numbers l.number (map field_of (drop l.field-index l.fields))) ≡ last_or None (numbers l.number (map field_of l.fields))
+invariant-loop-field l = last_or l.last (numbers l.number (map field_of (drop l.field-index l.fields)))
+    ≡ last_or None (numbers l.number (map field_of l.fields))

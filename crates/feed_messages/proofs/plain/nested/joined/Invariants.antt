@@ -4,4 +4,5 @@ use Rattle.feed_messages.proofs.plain.nested.joined.Given as goal
 
 -- the bytes so far, and those of the bodies that follow, are all
 abbrev pub invariant-loop-body : goal.invariant-loop-body
-invariant-loop-body l = l.bytes ++ concat (map (λ body. body.now) (drop l.body-index l.bodies)) ≡ concat (map (λ body. body.now) l.bodies)
+invariant-loop-body l = l.bytes ++ concat (map (λ body. body.now) (drop l.body-index l.bodies))
+    ≡ concat (map (λ body. body.now) l.bodies)

@@ -5,4 +5,5 @@ use Rattle.feed_messages.proofs.plain.nested.repeated.Given as goal
 
 -- the messages so far are what the bodies so far mean
 abbrev pub invariant-loop-body : goal.invariant-loop-body
-invariant-loop-body g l = AllZip (Means g.M.Message.table) (map (λ body. body.now) (take l.body-index l.body-items)) l.messages
+invariant-loop-body g l =
+    AllZip (Means g.M.Message.table) (map (λ body. body.now) (take l.body-index l.body-items)) l.messages

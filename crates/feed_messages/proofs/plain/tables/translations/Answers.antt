@@ -20,11 +20,22 @@ unwrapped text = text.translations
 pub returns-in_err-translations : goal.returns-in_err-translations
 returns-in_err-translations c =
     passed_on _ _ _ _ c.from_residual.ensures.1 c.in_err-translations.ensures
-    (λ _ whole. (option_map wrapped whole.found, (whole.message.0, joined_along OfTranslatedString Wrapped wrapped (λ fields text h. h) _ whole.found whole.message.1)))
+    (λ _ whole. (
+      option_map wrapped whole.found,
+      (
+        whole.message.0,
+        joined_along OfTranslatedString Wrapped wrapped (λ fields text h. h) _ whole.found
+            whole.message.1,
+      ),
+    ))
 
 pub returns-in-Some : goal.returns-in-Some
 returns-in-Some c = record {
   found = Some c.in-Some.field-0.translations;
-  message = (c.in_ok-translations.ensures.0, joined_along Wrapped OfTranslatedString unwrapped (λ fields text h. h) _ (Some c.in-Some.field-0) (rw c.in-Some.is at c.in_ok-translations.ensures.1));
+  message = (
+    c.in_ok-translations.ensures.0,
+    joined_along Wrapped OfTranslatedString unwrapped (λ fields text h. h) _ (Some c.in-Some.field-0)
+        (rw c.in-Some.is at c.in_ok-translations.ensures.1),
+  );
   same = refl;
 }

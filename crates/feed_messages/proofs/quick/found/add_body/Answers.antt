@@ -6,7 +6,11 @@ use Rattle.feed_messages.proofs.quick.found.add_body.Goals as goal
 
 pub returns-in_ok-found-in-Some : goal.returns-in_ok-found-in-Some
 returns-in_ok-found-in-Some c = λ fields known.
-    found_new c.args.number fields (field_of c.args.field.now) c.args.found.now c.in_ok-found-in-Some.field-0 c.in-Some.body.now (sym c.in-Some.ensures) (rw c.replace-before.ensures.value at c.in_ok-found-in-Some.ensures) known
+    found_new c.args.number fields (field_of c.args.field.now) c.args.found.now c.in_ok-found-in-Some.field-0
+    c.in-Some.body.now (sym c.in-Some.ensures)
+    (rw c.replace-before.ensures.value at c.in_ok-found-in-Some.ensures) known
 
 pub returns-in-None : goal.returns-in-None
-returns-in-None c = λ fields known. found_same c.args.number fields (field_of c.args.field.now) c.args.found.now (sym c.in-None.ensures) known
+returns-in-None c =
+    λ fields known. found_same c.args.number fields (field_of c.args.field.now) c.args.found.now
+    (sym c.in-None.ensures) known

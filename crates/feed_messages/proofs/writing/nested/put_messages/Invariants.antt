@@ -7,6 +7,7 @@ use Rattle.feed_messages.proofs.writing.nested.put_messages.Given as goal
 -- the messages so far stand in the buffer
 abbrev pub invariant-loop-message : goal.invariant-loop-message
 invariant-loop-message g l = record {
-  appends : Appends l.initial.buf l.buf (flat_map (λ m. bytes_field l.number (g.M.WrittenMessage.written m)) (take l.message-index l.message-items));
+  appends : Appends l.initial.buf l.buf
+      (flat_map (λ m. bytes_field l.number (g.M.WrittenMessage.written m)) (take l.message-index l.message-items));
   sound : AllByRecursion g.M.WrittenMessage.sound (take l.message-index l.message-items);
 }

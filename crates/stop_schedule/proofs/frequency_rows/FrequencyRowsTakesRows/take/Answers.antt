@@ -19,6 +19,7 @@ returns-in-Some-get_mut-clause-takes c = λ start before kept counted.
       (
         kept.0,
         ap (λ items. set items c.in-Some.trip false) holds
-            ∙ set-one (is_carried before) (is_carried (before ++ row ∷ [])) trip (carried-other before row) trips c.in-Some.trip false (and-right _ _ c.in-Some.ensures.ids) at (carried-not before row),
+            ∙ set-one (is_carried before) (is_carried (before ++ row ∷ [])) trip (carried-other before row) trips
+            c.in-Some.trip false (and-right _ _ c.in-Some.ensures.ids) at (carried-not before row),
       ),
     )

@@ -14,14 +14,21 @@ returns-in-Ok-None-clause-takes c = λ start before holds counted.
     let number = c.in_ok-service.service in
     let service_is = c.in-Some.ensures.cases.0 in
     let grown : c.number_of.new.self ≡ with_id (nth 0 row) services = rw (← service_is) c.in_ok-service.ensures.ids in
-    let distinct : are_distinct (with_id (nth 0 row) services) ≡ true = rw (← grown) (and-right _ _ c.in_ok-service.ensures.sound) in
-    let numbered : slice_get (with_id (nth 0 row) services) number ≡ Some (nth 0 row) = rw (← grown) (rw service_is at c.in_ok-service.ensures.number) in
+    let distinct : are_distinct (with_id (nth 0 row) services) ≡ true =
+    rw (← grown) (and-right _ _ c.in_ok-service.ensures.sound) in
+    let numbered : slice_get (with_id (nth 0 row) services) number ≡ Some (nth 0 row) =
+    rw (← grown) (rw service_is at c.in_ok-service.ensures.number) in
     let value = calendar-is row c.weekdays.result c.in-Some-Some.start c.in-Some-Some.end c.weekdays.ensures
-    (c.in-Some-Some.ensures (text-8 row c.requires.fits.texts)) (c.in-Some-Some.ensures' (text-9 row c.requires.fits.texts)) in
-    let changed : (q : ℕ) → calendar_at c.insert.new.self q ≡ cond (nat_eq number q) (Some (calendar_of row)) (calendar_at c.args.self.now.calendars q) =
-    λ q. c.in-Ok-None.ensures.updates.0 q ∙ ap (λ v. cond (nat_eq number q) (Some v) (calendar_at c.args.self.now.calendars q)) value in
-    let fresh : calendar_at c.args.self.now.calendars number ≡ None = sym c.in-Ok-None.ensures.old ∙ c.in-Ok-None.field-0-is in
-    let step = calendars-step start.services services number before row distinct numbered c.args.self.now.calendars c.insert.new.self holds changed fresh in
+    (c.in-Some-Some.ensures (text-8 row c.requires.fits.texts))
+    (c.in-Some-Some.ensures' (text-9 row c.requires.fits.texts)) in
+    let changed : (q : ℕ) → calendar_at c.insert.new.self q
+    ≡ cond (nat_eq number q) (Some (calendar_of row)) (calendar_at c.args.self.now.calendars q) =
+    λ q. c.in-Ok-None.ensures.updates.0 q
+    ∙ ap (λ v. cond (nat_eq number q) (Some v) (calendar_at c.args.self.now.calendars q)) value in
+    let fresh : calendar_at c.args.self.now.calendars number ≡ None =
+    sym c.in-Ok-None.ensures.old ∙ c.in-Ok-None.field-0-is in
+    let step = calendars-step start.services services number before row distinct numbered c.args.self.now.calendars
+    c.insert.new.self holds changed fresh in
     (step.0, rw grown step.1)
 
 pub returns-in-Ok-Some-clause-takes : goal.returns-in-Ok-Some-clause-takes
@@ -31,7 +38,10 @@ returns-in-Ok-Some-clause-takes c = λ start before holds counted.
     let number = c.in_ok-service.service in
     let service_is = c.in-Some.ensures.cases.0 in
     let grown : c.number_of.new.self ≡ with_id (nth 0 row) services = rw (← service_is) c.in_ok-service.ensures.ids in
-    let distinct : are_distinct (with_id (nth 0 row) services) ≡ true = rw (← grown) (and-right _ _ c.in_ok-service.ensures.sound) in
-    let numbered : slice_get (with_id (nth 0 row) services) number ≡ Some (nth 0 row) = rw (← grown) (rw service_is at c.in_ok-service.ensures.number) in
+    let distinct : are_distinct (with_id (nth 0 row) services) ≡ true =
+    rw (← grown) (and-right _ _ c.in_ok-service.ensures.sound) in
+    let numbered : slice_get (with_id (nth 0 row) services) number ≡ Some (nth 0 row) =
+    rw (← grown) (rw service_is at c.in_ok-service.ensures.number) in
     let stands = sym c.in-Ok-Some.ensures.old ∙ c.in-Ok-Some.field-0-is in
-    rw counted (calendars-twice start.services services number before row distinct numbered c.args.self.now.calendars holds _ stands)
+    rw counted (calendars-twice start.services services number before row distinct numbered c.args.self.now.calendars
+    holds _ stands)

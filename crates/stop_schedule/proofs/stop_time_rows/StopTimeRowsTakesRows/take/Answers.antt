@@ -15,7 +15,8 @@ pub returns-in_default-clause-takes : goal.returns-in_default-clause-takes
 returns-in_default-clause-takes c = λ start before kept counted.
     let row = c.args.sheet.now.row in
     let text : is_utf8 (nth 0 row) ≡ true = and-left (is_utf8 (nth 0 row)) _ c.requires.fits.texts in
-    rw counted (unknown-trip c.args.self.now.trips.now c.args.self.now.stops.now before row kept.2.known (sym (c.in_default.ensures.found text)))
+    rw counted (unknown-trip c.args.self.now.trips.now c.args.self.now.stops.now before row kept.2.known
+    (sym (c.in_default.ensures.found text)))
 
 pub returns-then-is_full-clause-takes : goal.returns-then-is_full-clause-takes
 returns-then-is_full-clause-takes c = λ start before kept counted.
@@ -25,7 +26,8 @@ returns-then-is_full-clause-takes c = λ start before kept counted.
     let by_trip = map stops_kept c.begin_trip-self.new.by_trip.items in
     let holds : HoldsStops trips stops by_trip before = rw c.begin_trip-self.ensures kept.2 in
     let held = stops_in stops before (nth 0 row) in
-    let full = (rw c.as_slice.ensures.value at c.is_full.ensures) held (stands-in trips stops by_trip before holds c.in-Some.trip (nth 0 row) c.in-Some.ensures.at) in
+    let full = (rw c.as_slice.ensures.value at c.is_full.ensures) held
+    (stands-in trips stops by_trip before holds c.in-Some.trip (nth 0 row) c.in-Some.ensures.at) in
     let many : 250 ≤ length held = leb-true 250 (length held) (sym full ∙ c.if-is_full.true) in
     rw counted (too-many trips stops before row many)
 
@@ -37,10 +39,13 @@ returns-in_default-find_in-clause-takes c = λ start before kept counted.
     let by_trip = map stops_kept c.begin_trip-self.new.by_trip.items in
     let holds : HoldsStops trips stops by_trip before = rw c.begin_trip-self.ensures kept.2 in
     let held = stops_in stops before (nth 0 row) in
-    let full = (rw c.as_slice.ensures.value at c.is_full.ensures) held (stands-in trips stops by_trip before holds c.in-Some.trip (nth 0 row) c.in-Some.ensures.at) in
+    let full = (rw c.as_slice.ensures.value at c.is_full.ensures) held
+    (stands-in trips stops by_trip before holds c.in-Some.trip (nth 0 row) c.in-Some.ensures.at) in
     let not_full : nat_le 250 (length held) ≡ false = sym full ∙ c.if-is_full.false in
     let few : length held < 250 = grind (arith, nat_tests, not_full) in
     let text : is_utf8 (nth 0 row) ≡ true = and-left (is_utf8 (nth 0 row)) _ c.requires.fits.texts in
     let of_trip : has_id (nth 0 row) trips ≡ true = sym (c.in-Some.ensures.found text) in
-    let stop_text : is_utf8 (nth 2 row) ≡ true = and-left (is_utf8 (nth 2 row)) _ (and-right (is_utf8 (nth 1 row)) _ (and-right (is_utf8 (nth 0 row)) _ c.requires.fits.texts)) in
+    let stop_text : is_utf8 (nth 2 row) ≡ true =
+    and-left (is_utf8 (nth 2 row)) _
+    (and-right (is_utf8 (nth 1 row)) _ (and-right (is_utf8 (nth 0 row)) _ c.requires.fits.texts)) in
     rw counted (unknown-stop trips stops before row few of_trip (sym (c.in_default-find_in.ensures.found stop_text)))

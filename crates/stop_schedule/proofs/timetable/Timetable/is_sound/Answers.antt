@@ -8,6 +8,8 @@ returns c =
       trips = c.len.ensures.ids;
       stops = c.len-2.ensures.ids;
       routes = c.len-3.ensures.ids;
-      stops_of = stops-sound table.trips table.routes table.stops table.carried.items table.stop_rows.items table.in_range;
-      route_of = routes-sound table.trips table.routes table.stops table.carried.items table.stop_rows.items table.in_range c.len-3.ensures.ids;
+      stops_of = stops-sound table.trips table.routes table.stops table.carried.items table.stop_rows.items
+          table.in_range;
+      route_of = routes-sound table.trips table.routes table.stops table.carried.items table.stop_rows.items
+          table.in_range c.len-3.ensures.ids;
     }

@@ -13,10 +13,13 @@ returns-clause-takes c = λ start before kept counted.
     let routes = c.args.self.now.known_routes.now in
     let trips = c.args.self.now.trips in
     let services = c.args.self.now.services in
-    let on_route : is_utf8 (nth 1 row) ≡ true = and-left (is_utf8 (nth 1 row)) _ (and-right (is_utf8 (nth 0 row)) _ c.requires.fits.texts) in
+    let on_route : is_utf8 (nth 1 row) ≡ true =
+    and-left (is_utf8 (nth 1 row)) _ (and-right (is_utf8 (nth 0 row)) _ c.requires.fits.texts) in
     let route_at = id-of-place routes c.in-Some.route (nth 1 row) (sym (c.in-Some.ensures.place on_route)) in
-    let added : (is_id (nth 0 row) && not (has_id (nth 0 row) trips)) ≡ true = rw (← c.field.ensures.value) (sym c.in_ok-added.ensures.added ∙ c.if-not-added.false) in
-    let new : has_id (nth 0 row) trips ≡ false = not-false (has_id (nth 0 row) trips) (and-right (is_id (nth 0 row)) _ added) in
+    let added : (is_id (nth 0 row) && not (has_id (nth 0 row) trips)) ≡ true =
+    rw (← c.field.ensures.value) (sym c.in_ok-added.ensures.added ∙ c.if-not-added.false) in
+    let new : has_id (nth 0 row) trips ≡ false =
+    not-false (has_id (nth 0 row) trips) (and-right (is_id (nth 0 row)) _ added) in
     let service_is = c.in-Some-text.ensures.cases.0 in
     let all = rw (c.if-not-added.false, c.field.ensures.value) at c.in_ok-added.ensures.ids in
     let grown = rw service_is at c.in_ok-service.ensures.ids in
@@ -24,7 +27,9 @@ returns-clause-takes c = λ start before kept counted.
       no-trip-fault routes trips before row (sym (c.in-Some.ensures.found on_route)) holds.ids new,
       (
         kept.0,
-        trip-held routes services trips c.number_from.new.self c.add.new.self c.args.self.now.trip_routes.items c.args.self.now.trip_services.items c.push.new.self.items c.push-2.new.self.items
-            c.in-Some.route c.in_ok-service.service before row holds route_at grown on_service all c.in_ok-push.ensures.items c.in_ok-push-2.ensures.items,
+        trip-held routes services trips c.number_from.new.self c.add.new.self c.args.self.now.trip_routes.items
+            c.args.self.now.trip_services.items c.push.new.self.items c.push-2.new.self.items
+            c.in-Some.route c.in_ok-service.service before row holds route_at grown on_service all
+            c.in_ok-push.ensures.items c.in_ok-push-2.ensures.items,
       ),
     )

@@ -7,12 +7,14 @@ use Rattle.feed_messages.proofs.quick.trips.EventPartsParts.take.Goals as goal
 pub returns-then-field-eq1 : goal.returns-then-field-eq1
 returns-then-field-eq1 c = λ fields known. record {
   delay = c.number_after-self.ensures fields known.delay;
-  time = number_other 2 fields (field_of c.args.field.now) c.args.self.now.time (λ e. absurd (omega (arith, e, c.if-field-eq1.true))) known.time;
+  time = number_other 2 fields (field_of c.args.field.now) c.args.self.now.time
+      (λ e. absurd (omega (arith, e, c.if-field-eq1.true))) known.time;
 }
 
 pub returns-then-field-eq2 : goal.returns-then-field-eq2
 returns-then-field-eq2 c = λ fields known. record {
-  delay = number_other 1 fields (field_of c.args.field.now) c.args.self.now.delay (λ e. absurd (omega (arith, e, c.if-field-eq2.true))) known.delay;
+  delay = number_other 1 fields (field_of c.args.field.now) c.args.self.now.delay
+      (λ e. absurd (omega (arith, e, c.if-field-eq2.true))) known.delay;
   time = c.number_after-self-then-field-eq2.ensures fields known.time;
 }
 

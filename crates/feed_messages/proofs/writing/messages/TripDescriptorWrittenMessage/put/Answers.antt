@@ -4,4 +4,6 @@ use Rattle.feed_messages.proofs.writing.messages.TripDescriptorWrittenMessage.pu
 
 pub returns-clause-appends : goal.returns-clause-appends
 returns-clause-appends c =
-    appends_both (appends_both (appends_both c.put_optional_text.ensures.appends c.put_optional_text-2.ensures.appends) c.put_enum.ensures.appends) c.put_optional_text-3.ensures.appends
+    appends_both (appends_both
+    (appends_both c.put_optional_text.ensures.appends c.put_optional_text-2.ensures.appends)
+    c.put_enum.ensures.appends) c.put_optional_text-3.ensures.appends

@@ -1,0 +1,98 @@
+-- What was read of a connection's input, piece by piece.
+use Rattle.std.proofs.Common.{◌≡◌, ◌∙◌, ◌++◌, ◌≤◌, ◌<◌, [], ℕ, true, false, inl, inr, Ok, Err, List, Option, Some, None, length, drop, take, ap, sym, refl, subst, arith, length-append, append-nil}
+use Rattle.std.specs.Prelude.{IfSome, MatchOption, ◌↔◌, nat_le, if◌then◌else◌}
+use Rattle.std.proofs.Math.Seq.{take-append_seam}
+use Rattle.std.proofs.lemmas.List.{append_assoc}
+use Rattle.gw_base.specs.Connections.{Beside, Connections, Takes}
+use Rattle.http_talk.specs.Asked.{is_post}
+use Rattle.http_talk.specs.Request.{Get, IsHead, IsRefused, IsRequest, Post, Refused, headed, too_long}
+use Rattle.http_talk.specs.declared.refusal.Refusal.{Refusal}
+use Rattle.http_talk.specs.declared.refusal.Refusal.TheVariants as refusal
+use Rattle.http_talk.specs.declared.target.Head.{Head}
+use Rattle.http_talk.specs.declared.target.Target.{Target}
+use Rattle.door_talk.specs.Requests.{HasRead, IsEnded}
+
+-- before the first piece
+pub read_nothing : (before : Beside) → HasRead before before []
+read_nothing before = (refl, by before.told refl)
+  where
+    by : (t : Option Connections) → before.told ≡ t → MatchOption t (before.told ≡ None) (λ told. (rest : List ℕ) × (told.unread ≡ [] ++ rest) × (before.told ≡ Some (record { coming = told.coming; input = told.input; unread = rest; log = told.log })))
+    by None e = e
+    by (Some c) e = (c.unread, refl, e)
+
+-- one piece more
+pub takes_on : (a b c : Beside) (x y : List ℕ) → HasRead a b x → Takes b c y → HasRead a c (x ++ y)
+takes_on a b c x y h t = (t.0 ∙ h.0, by a.told h.1)
+  where
+    by : (s : Option Connections)
+        → MatchOption s (b.told ≡ None) (λ told. (rest : List ℕ) × (told.unread ≡ x ++ rest) × (b.told ≡ Some (record { coming = told.coming; input = told.input; unread = rest; log = told.log })))
+        → MatchOption s (c.told ≡ None) (λ told. (rest : List ℕ) × (told.unread ≡ x ++ y ++ rest) × (c.told ≡ Some (record { coming = told.coming; input = told.input; unread = rest; log = told.log })))
+    by None none =
+        subst (λ (s : Option Connections). MatchOption s (c.told ≡ None) (λ told. (rest : List ℕ) × (told.unread ≡ y ++ rest) × ((y ≡ []) ↔ (told.unread ≡ [])) × (c.told ≡ Some (record { coming = told.coming; input = told.input; unread = rest; log = told.log })))) none t.1
+    by (Some k) (rest, unread, told) =
+        let next : (rest' : List ℕ) × (rest ≡ y ++ rest') × ((y ≡ []) ↔ (rest ≡ [])) × (c.told ≡ Some (record { coming = k.coming; input = k.input; unread = rest'; log = k.log })) =
+        subst (λ (s : Option Connections). MatchOption s (c.told ≡ None) (λ told. (rest : List ℕ) × (told.unread ≡ y ++ rest) × ((y ≡ []) ↔ (told.unread ≡ [])) × (c.told ≡ Some (record { coming = told.coming; input = told.input; unread = rest; log = told.log })))) told t.1 in
+        (next.0, unread ∙ ap (λ (z : List ℕ). x ++ z) next.1 ∙ sym (append_assoc x y next.0), next.3)
+
+-- one piece more, read by a function of its own
+pub reads_on : (a b c : Beside) (x y : List ℕ) → HasRead a b x → HasRead b c y → HasRead a c (x ++ y)
+reads_on a b c x y h t = (t.0 ∙ h.0, by a.told h.1)
+  where
+    by : (s : Option Connections)
+        → MatchOption s (b.told ≡ None) (λ told. (rest : List ℕ) × (told.unread ≡ x ++ rest) × (b.told ≡ Some (record { coming = told.coming; input = told.input; unread = rest; log = told.log })))
+        → MatchOption s (c.told ≡ None) (λ told. (rest : List ℕ) × (told.unread ≡ x ++ y ++ rest) × (c.told ≡ Some (record { coming = told.coming; input = told.input; unread = rest; log = told.log })))
+    by None none =
+        subst (λ (s : Option Connections). MatchOption s (c.told ≡ None) (λ told. (rest : List ℕ) × (told.unread ≡ y ++ rest) × (c.told ≡ Some (record { coming = told.coming; input = told.input; unread = rest; log = told.log })))) none t.1
+    by (Some k) (rest, unread, told) =
+        let next : (rest' : List ℕ) × (rest ≡ y ++ rest') × (c.told ≡ Some (record { coming = k.coming; input = k.input; unread = rest'; log = k.log })) =
+        subst (λ (s : Option Connections). MatchOption s (c.told ≡ None) (λ told. (rest : List ℕ) × (told.unread ≡ y ++ rest) × (c.told ≡ Some (record { coming = told.coming; input = told.input; unread = rest; log = told.log })))) told t.1 in
+        (next.0, unread ∙ ap (λ (z : List ℕ). x ++ z) next.1 ∙ sym (append_assoc x y next.0), next.2)
+
+-- ---- what is asked for
+
+-- a head that is refused
+pub refused : (input : List ℕ) (why : Refusal) → IsRefused input why → IsRequest input (Refused why)
+refused input why (inl (long, is)) = too_long long (ap Refused is)
+refused input why (inr (count, is_head)) = headed count (Err why) is_head refl
+
+-- a GET
+pub gets : (input : List ℕ) (count : ℕ) (head : Head) → IsHead input count (Ok head) → is_post head.target ≡ false → IsRequest input (Get head.target)
+gets input count head is_head get = headed count (Ok head) is_head (rw get refl)
+
+whole : (target : Target) (size : ℕ) (body rest : List ℕ) → length body ≡ size
+    → (if nat_le size (length (body ++ rest)) then Post target (take size (body ++ rest)) else Refused refusal.Cut) ≡ Post target body
+whole target size body rest long =
+    rw (at size (length (body ++ rest)) (omega (arith, length-append body rest))) (ap (Post target) (ap (λ (n : ℕ). take n (body ++ rest)) (sym long) ∙ take-append_seam body rest))
+  where
+    at : (a b : ℕ) → a ≤ b → nat_le a b ≡ true
+    at a b h = grind arith
+
+ends : (target : Target) (size : ℕ) (body : List ℕ) → length body < size
+    → (if nat_le size (length body) then Post target (take size body) else Refused refusal.Cut) ≡ Refused refusal.Cut
+ends target size body short = rw (at size (length body) short) refl
+  where
+    at : (a b : ℕ) → b < a → nat_le a b ≡ false
+    at a b h = grind arith
+
+-- a POST, whose body is whole, and one whose input ends before
+pub posts : (input body rest : List ℕ) (count : ℕ) (head : Head) → IsHead input count (Ok head) → is_post head.target ≡ true
+    → drop count input ≡ body ++ rest → length body ≡ head.length → IsRequest input (Post head.target body)
+posts input body rest count head is_head post behind size = headed count (Ok head) is_head (rw (post, behind) (sym (whole head.target head.length body rest size)))
+
+pub cut : (input body : List ℕ) (count : ℕ) (head : Head) → IsHead input count (Ok head) → is_post head.target ≡ true
+    → drop count input ≡ body → length body < head.length → IsRequest input (Refused refusal.Cut)
+cut input body count head is_head post behind short = headed count (Ok head) is_head (rw (post, behind) (sym (ends head.target head.length body short)))
+
+-- ---- the end of the input
+
+pub takes_end : (b c : Beside) (y : List ℕ) → Takes b c y → y ≡ [] → IsEnded c
+takes_end b c y t none = by b.told t.1
+  where
+    by : (s : Option Connections)
+        → MatchOption s (c.told ≡ None) (λ told. (rest : List ℕ) × (told.unread ≡ y ++ rest) × ((y ≡ []) ↔ (told.unread ≡ [])) × (c.told ≡ Some (record { coming = told.coming; input = told.input; unread = rest; log = told.log })))
+        → IsEnded c
+    by None told = subst (λ (s : Option Connections). IfSome s (λ t. t.unread ≡ [])) (sym told) tt
+    by (Some k) (rest, unread, end, told) = subst (λ (s : Option Connections). IfSome s (λ t. t.unread ≡ [])) (sym told) (sym (ap (λ (z : List ℕ). z ++ rest) none) ∙ sym unread ∙ end.0 none)
+
+pub takes_none : (a b c : Beside) (x y : List ℕ) → HasRead a b x → Takes b c y → y ≡ [] → HasRead a c x
+takes_none a b c x y h t none = subst (HasRead a c) (ap (λ (z : List ℕ). x ++ z) none ∙ append-nil x) (takes_on a b c x y h t)

@@ -1,0 +1,39 @@
+use Rattle.std.proofs.Common.{◌∙◌, ◌++◌, drop, subst, sym, take}
+use Rattle.door_talk.specs.Requests.{ReadsHead}
+use Rattle.door_talk.specs.declared.heads.HeadRead.TheVariants as heads
+use Rattle.door_talk.proofs.AskLemmas.{asks_behind, asks_cut, asks_get, asks_refused}
+use Rattle.door_talk.proofs.ReadLemmas.{reads_on}
+use Rattle.door_talk.proofs.requests.read_request.Goals as goal
+
+pub returns-then-not-is_post-clause-asks : goal.returns-then-not-is_post-clause-asks
+returns-then-not-is_post-clause-asks g c =
+    asks_get (g.D.Sink.beside c.args.door.now) (g.D.Sink.beside c.read_head.new.door) c.in-Ok-Ended.ensures.reads.0 read.2 c.in-Ok-Ended.head c.in-Ok-Ended.ensures.reads.1 read.3 (sym c.is_post.ensures ∙ c.if-not-is_post.true)
+  where
+    read : ReadsHead (g.D.Sink.beside c.read_head.new.door) c.in-Ok-Ended.ensures.reads.0 c.read_head.new.piece (heads.Ended c.in-Ok-Ended.head c.in-Ok-Ended.from c.in-Ok-Ended.to)
+    read = subst (ReadsHead (g.D.Sink.beside c.read_head.new.door) c.in-Ok-Ended.ensures.reads.0 c.read_head.new.piece) c.in-Ok-Ended.field-0-is c.in-Ok-Ended.ensures.reads.2
+
+pub returns-else-not-is_post-clause-asks : goal.returns-else-not-is_post-clause-asks
+returns-else-not-is_post-clause-asks g c =
+    asks_behind (g.D.Sink.beside c.args.door.now) (g.D.Sink.beside c.read_head.new.door) c.in-Ok-Ended.ensures.reads.0
+    (drop c.in-Ok-Ended.from (take c.in-Ok-Ended.to c.read_head.new.piece)) c.read_post.new.body read.2 c.in-Ok-Ended.head c.read_post.result c.in-Ok-Ended.ensures.reads.1 read.3 read.4 read.5 c.read_post.ensures.asks
+  where
+    read : ReadsHead (g.D.Sink.beside c.read_head.new.door) c.in-Ok-Ended.ensures.reads.0 c.read_head.new.piece (heads.Ended c.in-Ok-Ended.head c.in-Ok-Ended.from c.in-Ok-Ended.to)
+    read = subst (ReadsHead (g.D.Sink.beside c.read_head.new.door) c.in-Ok-Ended.ensures.reads.0 c.read_head.new.piece) c.in-Ok-Ended.field-0-is c.in-Ok-Ended.ensures.reads.2
+
+pub returns-else-not-is_post-clause-reads : goal.returns-else-not-is_post-clause-reads
+returns-else-not-is_post-clause-reads g c = (
+  c.in-Ok-Ended.ensures.reads.0 ++ c.read_post.ensures.reads.0,
+  reads_on (g.D.Sink.beside c.args.door.now) (g.D.Sink.beside c.read_head.new.door) (g.D.Sink.beside c.read_post.new.door) c.in-Ok-Ended.ensures.reads.0 c.read_post.ensures.reads.0 c.in-Ok-Ended.ensures.reads.1 c.read_post.ensures.reads.1,
+)
+
+pub returns-in-Ok-Refused-clause-asks : goal.returns-in-Ok-Refused-clause-asks
+returns-in-Ok-Refused-clause-asks g c =
+    asks_refused (g.D.Sink.beside c.args.door.now) (g.D.Sink.beside c.read_head.new.door) c.in-Ok-Refused.ensures.reads.0 c.in-Ok-Refused.why c.in-Ok-Refused.ensures.reads.1
+    (subst (ReadsHead (g.D.Sink.beside c.read_head.new.door) c.in-Ok-Refused.ensures.reads.0 c.read_head.new.piece) c.in-Ok-Refused.field-0-is c.in-Ok-Refused.ensures.reads.2)
+
+pub returns-in-Ok-Cut-clause-asks : goal.returns-in-Ok-Cut-clause-asks
+returns-in-Ok-Cut-clause-asks g c =
+    asks_cut (g.D.Sink.beside c.args.door.now) (g.D.Sink.beside c.read_head.new.door) c.in-Ok-Cut.ensures.reads.0 c.in-Ok-Cut.why c.in-Ok-Cut.ensures.reads.1 read.0 read.1
+  where
+    read : ReadsHead (g.D.Sink.beside c.read_head.new.door) c.in-Ok-Cut.ensures.reads.0 c.read_head.new.piece (heads.Cut c.in-Ok-Cut.why)
+    read = subst (ReadsHead (g.D.Sink.beside c.read_head.new.door) c.in-Ok-Cut.ensures.reads.0 c.read_head.new.piece) c.in-Ok-Cut.field-0-is c.in-Ok-Cut.ensures.reads.2

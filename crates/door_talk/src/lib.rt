@@ -1,0 +1,13 @@
+//! Requests read off a door, and answers written to it: what the whole input of a connection asks for, in whatever pieces it
+//! comes (RFC 9112). The definitions are those of `specs/Requests.antt`.
+#![tactic(auto)]
+
+mod asked;
+mod bodies;
+mod heads;
+mod requests;
+#[cfg(test)]
+mod tests;
+
+pub use asked::Asked;
+pub use requests::read_request;

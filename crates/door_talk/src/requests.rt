@@ -1,0 +1,86 @@
+//! A request, read off a door. The definition is `AsksFor` of `specs/Requests.antt`.
+ghost use Rattle.std.specs.Prelude.{◌≡◌, ◌≤◌, ◌<◌, ◌++◌, true, ℕ, List, drop, take, length, IfSome, Ok};
+ghost use Rattle.gw_base.specs.Count.{Rose};
+ghost use Rattle.http_talk.specs.Asked.{is_post};
+ghost use Rattle.http_talk.specs.Request.{IsHead};
+ghost use Rattle.door_talk.specs.Requests.{AsksFor, HasMethod, HasRead};
+
+use crate::asked::Asked;
+use crate::bodies::{BodyRead, make_room, read_body};
+use crate::heads::{HeadRead, read_head};
+use gw_base::{Bytes, Door, Failed};
+use http_talk::{Head, HeadReader, Refusal};
+use std::alloc::Global;
+
+/// The most bytes that are read at once.
+const PIECE: usize = 16_384;
+
+/// Reads the body of a POST, of which the part of the last piece from there to there came already.
+fn read_post<D: Door>(
+    alloc: Global,
+    head: Head,
+    from: usize,
+    to: usize,
+    piece: &mut [u8],
+    body: &mut Bytes,
+    door: &mut D,
+) -> Asked
+    requires present { (D.beside door.old).present ≡ true }
+    requires room { 0 < length piece.old }
+    requires part { (from ≤ to) × (to ≤ length piece.old) }
+    requires post { is_post head.target ≡ true }
+    ensures asks { IfSome (D.beside door.old).told (λ told. (input : List ℕ) (count : ℕ) → IsHead input count (Ok head)
+        → drop count input ≡ drop from (take to piece.old) ++ told.unread → AsksFor input body.new result) }
+    ensures reads { (bytes : List ℕ) × HasRead (D.beside door.old) (D.beside door.new) bytes }
+    ensures method { HasMethod result }
+    ensures lost { result ≡ Asked.Lost → Rose (D.faults door.old) (D.faults door.new) }
+    ensures counts { D.faults door.old ≤ D.faults door.new }
+    ensures output { D.told door.new ≡ D.told door.old }
+{
+    let size = head.length as usize;
+    if make_room(alloc, body, size).is_err() {
+        return Asked::NoRoom;
+    }
+    let (came, _) = piece.split_at(to);
+    let (_, part) = came.split_at(from);
+    let (front, _) = part.split_at(size.min(part.len()));
+    if body.extend(front).is_err() {
+        return Asked::NoRoom;
+    }
+    match read_body(door, piece, size, body) {
+        Ok(BodyRead::Whole) => Asked::Post(head.target),
+        Ok(BodyRead::Cut) => Asked::Refused(Refusal::Cut),
+        Ok(BodyRead::NoRoom) => Asked::NoRoom,
+        Err(Failed) => Asked::Lost,
+    }
+}
+
+/// Reads what the present connection asks for, of which nothing was read yet. The body of a POST is read into `body`.
+pub fn read_request<D: Door>(
+    alloc: Global,
+    reader: &mut HeadReader,
+    body: &mut Bytes,
+    door: &mut D,
+) -> Asked
+    requires present { (D.beside door.old).present ≡ true }
+    ensures asks { IfSome (D.beside door.old).told (λ told. AsksFor told.unread body.new result) }
+    ensures reads { (bytes : List ℕ) × HasRead (D.beside door.old) (D.beside door.new) bytes }
+    ensures method { HasMethod result }
+    ensures lost { result ≡ Asked.Lost → Rose (D.faults door.old) (D.faults door.new) }
+    ensures counts { D.faults door.old ≤ D.faults door.new }
+    ensures output { D.told door.new ≡ D.told door.old }
+{
+    let mut piece = [0; PIECE];
+    reader.clear();
+    match read_head(reader, door, &mut piece) {
+        Ok(HeadRead::Ended { head, from, to }) => {
+            if !head.target.is_post() {
+                return Asked::Get(head.target);
+            }
+            read_post(alloc, head, from, to, &mut piece, body, door)
+        }
+        Ok(HeadRead::Refused(why)) => Asked::Refused(why),
+        Ok(HeadRead::Cut(why)) => Asked::Refused(why),
+        Err(Failed) => Asked::Lost,
+    }
+}

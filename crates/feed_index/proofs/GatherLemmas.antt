@@ -1,0 +1,61 @@
+-- Entries that are gathered in two runs of rows, and what an index will be with them.
+use Rattle.std.proofs.Common.{◌≡◌, ◌∙◌, ◌++◌, ◌∷◌, [], ◌+◌, ℕ, List, cond, length, take, drop, Option, Some, None, IsSome, option_map, sym, ap, refl, subst, append_assoc, length-append}
+use Rattle.std.proofs.lemmas.List.{length-map, take-append-drop}
+use Rattle.std.proofs.lemmas.List.Sums.{sum_by-append}
+use Rattle.std.specs.Prelude.{is_some}
+use Rattle.std.specs.Cmp.{IsTotalOrder}
+use Rattle.std.specs.List.{AllByRecursion}
+use Rattle.std.specs.Option.{option_or}
+use Rattle.std.specs.declared.cmp.Ordering.{Ordering}
+use Rattle.span_pool.specs.Spans.{Spans, bytes_of}
+use Rattle.feed_index.specs.declared.entry.Entry.{Entry}
+use Rattle.feed_index.specs.declared.row.Row.{Row}
+use Rattle.feed_index.specs.Entries.{Rising, put, put_all, total, value_at}
+use Rattle.feed_index.specs.Rows.{AreHeld, entries_of, entry_of}
+use Rattle.feed_index.specs.Staged.{AreGathered, gathered}
+use Rattle.feed_index.proofs.AllLemmas.{found, found_all, length-all, length-one, sum-all}
+use Rattle.feed_index.proofs.HeldLemmas.{own_is_live}
+
+module _ {K R : Type 0} where
+  -- the span of each row is live
+  pub all_live : (before rows : List (Row K R)) (spans : List (ℕ × List ℕ)) → AreHeld (before ++ rows) spans → AllByRecursion (λ (row : Row K R). IsSome (bytes_of spans row.slot)) rows
+  all_live before [] spans h = tt
+  all_live before (row ∷ rows) spans h =
+      let P : List (Row K R) → Type 0 = λ all. AreHeld all spans in
+      (own_is_live before row rows spans h, all_live (before ++ row ∷ []) rows spans (subst P (sym (append_assoc before (row ∷ []) rows)) h))
+
+module _ {K R : Type 0} {cmp : K → K → Ordering} (o : IsTotalOrder cmp) where
+  pub length_gathered : (rows : List (Row K R)) (pool : Spans) (front : ℕ) → AreGathered cmp rows pool front → length (gathered cmp rows pool.spans front) ≡ length rows
+  length_gathered rows pool front h =
+      let entries = entries_of pool.spans rows in
+      length-all (λ (one : Entry K R). one.key) o (take front entries) (drop front entries) h.staged
+      ∙ sym (length-append (take front entries) (drop front entries))
+      ∙ ap length (take-append-drop front entries)
+      ∙ length-map rows (entry_of pool.spans)
+
+  pub total_gathered : (rows : List (Row K R)) (pool : Spans) (front : ℕ) → AreGathered cmp rows pool front → total (gathered cmp rows pool.spans front) ≡ total (entries_of pool.spans rows)
+  total_gathered rows pool front h =
+      let entries = entries_of pool.spans rows in
+      sum-all (λ (one : Entry K R). one.key) o (λ one. length one.bytes) (take front entries) (drop front entries) h.staged
+      ∙ sym (sum_by-append (λ (one : Entry K R). length one.bytes) (take front entries) (drop front entries))
+      ∙ ap total (take-append-drop front entries)
+
+  map_or : (a b : Option (Entry K R)) → option_map (λ (one : Entry K R). one.value) (option_or a b) ≡ option_or (option_map (λ (one : Entry K R). one.value) a) (option_map (λ (one : Entry K R). one.value) b)
+  map_or None b = refl
+  map_or (Some one) b = refl
+
+  -- the value that a key has after several were put
+  pub value_after : (entries items : List (Entry K R)) (key : K) → Rising cmp items → value_at cmp (put_all cmp entries items) key ≡ option_or (value_at cmp items key) (value_at cmp entries key)
+  value_after entries items key h =
+      ap (option_map (λ (one : Entry K R). one.value)) (found_all (λ (one : Entry K R). one.key) o key entries items h)
+      ∙ map_or (found (λ (one : Entry K R). one.key) o key items) (found (λ (one : Entry K R). one.key) o key entries)
+
+  some_value : (it : Option (Entry K R)) → is_some (option_map (λ (one : Entry K R). one.value) it) ≡ is_some it
+  some_value None = refl
+  some_value (Some one) = refl
+
+  -- how many entries there are with one more
+  pub length_put : (entries : List (Entry K R)) (one : Entry K R) (key : K) (value : Option R) → Rising cmp entries → one.key ≡ key → value ≡ value_at cmp entries key → length (put cmp entries one) ≡ length entries + cond (is_some value) 0 1
+  length_put entries one key value h same is =
+      length-one (λ (each : Entry K R). each.key) o entries one h
+      ∙ rw (is, ← same) (ap (λ b. length entries + cond b 0 1) (sym (some_value (found (λ (each : Entry K R). each.key) o one.key entries))))

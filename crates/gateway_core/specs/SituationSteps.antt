@@ -1,0 +1,92 @@
+-- What becomes of the items of a delivery of situations, one after the other, and what is to be put of them.
+use Rattle.std.specs.Prelude.{◌≡◌, ℕ, Bool, List, map, Option, Some, None, Result, Ok, Err, if◌then◌else◌, ⊤}
+use Rattle.std.specs.Cmp.Lexicographic.{slice_cmp}
+use Rattle.std.specs.Ordering.{nat_cmp}
+use Rattle.std.specs.List.{AllByRecursion}
+use Rattle.std.specs.Result.{result_err}
+use Rattle.journey_model.specs.Schedules.{Schedule}
+use Rattle.journey_model.specs.Situations.{AreKnown}
+use Rattle.journey_model.specs.declared.fault.Fault.{Fault}
+use Rattle.journey_model.specs.declared.fault.Fault.TheVariants.{Full}
+use Rattle.journey_model.specs.declared.report.Report.{Report}
+use Rattle.journey_model.specs.declared.situation.Situation.{Situation}
+use Rattle.serde_json.specs.Data.{Data}
+use Rattle.siri_calls.specs.Verdicts.{tree_of}
+use Rattle.siri_calls.specs.declared.delivery.DeliveryFault.{DeliveryFault}
+use Rattle.siri_calls.specs.declared.delivery.DeliveryFault.TheVariants.{NotJson, NotDelivery, Memory}
+use Rattle.siri_situations.specs.Deliveries.{passed_count, shown}
+use Rattle.siri_situations.specs.Situations as judged
+use Rattle.siri_situations.specs.declared.delivery.Item.{Item}
+use Rattle.stop_schedule.specs.Table.{Table}
+use Rattle.gateway_core.specs.Deliveries.{taken}
+use Rattle.feed_index.specs.Drafts.{Drafted, after}
+use Rattle.gateway_core.specs.Reports.{aside_from}
+use Rattle.gateway_core.specs.Standing.{IsAlertServed, SituationEntry, situation_entry, situation_seen}
+use Rattle.gateway_core.specs.Steps.{SituationsAfter, situation_counts, situation_fits, situation_kept, with_situation}
+use Rattle.gateway_core.specs.Taking.{limited_verdict, limited_verdicts, report_on, situations_with_room}
+use Rattle.gateway_core.specs.declared.keys.Edition.{Edition}
+
+-- what an index of situations will be, as contracts see it
+abbrev pub alerts_after : Drafted (List ℕ) Edition → List SituationEntry
+alerts_after draft = map situation_seen (after (slice_cmp nat_cmp) draft)
+
+-- whether a situation counts, where it has room
+abbrev pub situation_verdict : List SituationEntry → Situation → Option Bool
+situation_verdict entries one =
+    if situation_fits entries one then Some (situation_counts (situation_kept entries one) one) else None
+
+-- with a situation's alert at its number
+abbrev pub with_alert : Table → List SituationEntry → Situation → List SituationEntry
+with_alert table entries one = with_situation entries (situation_entry table one)
+
+-- what is kept after a situation that counts or doesn't, and why one without room isn't taken
+abbrev pub after_situation : Table → List SituationEntry → Situation → Option Bool → List SituationEntry
+after_situation table entries one None = entries
+after_situation table entries one (Some counts) = if counts then with_alert table entries one else entries
+
+abbrev pub situation_fault : Option Bool → Option Fault
+situation_fault None = Some Full
+situation_fault (Some counts) = None
+
+-- what is kept after a verdict, and why its item is set aside, if it is
+abbrev pub verdict_step : Table → List SituationEntry → Result Situation Fault → List SituationEntry
+verdict_step table entries (Ok one) = after_situation table entries one (situation_verdict entries one)
+verdict_step table entries (Err fault) = entries
+
+abbrev pub verdict_fault : List SituationEntry → Result Situation Fault → Option Fault
+verdict_fault entries (Ok one) = situation_fault (situation_verdict entries one)
+verdict_fault entries (Err fault) = Some fault
+
+-- the verdicts on items, of which one is set aside that has too long an alert
+abbrev pub item_verdict : Table → Item → Result Situation Fault
+item_verdict table item = limited_verdict table (shown item)
+
+-- a situation that is taken has an alert that means it, and isn't too long
+abbrev pub IsVerdictServed : Table → Result Situation Fault → Type 0
+IsVerdictServed table (Ok one) = IsAlertServed table one
+IsVerdictServed table (Err fault) = ⊤
+
+-- after some verdicts: what is kept, and the items that are set aside
+pub record GathersVerdicts (table : Table) (before : List Situation) (verdicts : List (Result Situation Fault)) (entries : List SituationEntry) (aside : List (ℕ × Fault)) : Type 0 where
+  pub entries_are : SituationsAfter table before verdicts entries
+  pub aside_are : aside ≡ aside_from 0 (map result_err (situations_with_room before verdicts))
+
+-- after all of them: what is kept, and the report
+pub record GathersSituations (table : Table) (before : List Situation) (verdicts : List (Result Situation Fault)) (passed : ℕ) (entries : List SituationEntry) (report : Report) : Type 0 where
+  pub entries_are : SituationsAfter table before verdicts entries
+  pub report_is : report ≡ report_on (situations_with_room before verdicts) passed
+
+-- a body's items are taken over those that were admitted before: what is kept then, and the report
+pub record TakesBody (schedule : Schedule) (before : List Situation) (body : List ℕ) (entries : List SituationEntry) (report : Report) : Type 0 where
+  pub root : Data
+  pub is_tree : tree_of body ≡ Some root
+  pub all : List (Result (Situation × ℕ) Fault)
+  pub verdicts_are : judged.verdicts schedule root ≡ Ok all
+  pub known : AllByRecursion (λ one. AreKnown schedule.table one.refs) (taken (limited_verdicts schedule.table all))
+  pub gathers : GathersSituations schedule.table before (limited_verdicts schedule.table all) (passed_count all) entries report
+
+-- why a body is refused; want of memory is free
+abbrev pub IsRefused : Schedule → List ℕ → DeliveryFault → Type 0
+IsRefused schedule body NotJson = tree_of body ≡ None
+IsRefused schedule body (NotDelivery member) = (root : Data) × (tree_of body ≡ Some root) × (judged.verdicts schedule root ≡ Err member)
+IsRefused schedule body Memory = ⊤

@@ -1,0 +1,14 @@
+//! Samples: a folder of GTFS Schedule and deliveries of SIRI estimated timetables that follow from three numbers: a
+//! seed, how many trips there are, and at how many stops each of them stops. The definitions are `specs/Folder.antt`
+//! and `specs/Deliveries.antt`.
+#![tactic(auto)]
+
+mod draws;
+mod folder;
+mod journeys;
+mod maker;
+#[cfg(test)]
+mod tests;
+mod writing;
+
+pub use maker::Maker;
