@@ -1,0 +1,4 @@
+mod EndLemmas
+mod LoopLemmas
+mod PutLemmas
+mod TookLemmas

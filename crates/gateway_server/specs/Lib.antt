@@ -1,0 +1,6 @@
+pub mod Answers
+pub mod Bodies
+pub mod Log
+pub mod Serving
+pub mod Taking
+pub mod Steps

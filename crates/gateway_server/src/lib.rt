@@ -1,0 +1,13 @@
+//! The server's one step: a connection is read, answered and logged (RFC 9112), over a gateway. What an entry of the log may be is
+//! `IsLawful` of `specs/Log.antt`.
+#![tactic(auto)]
+
+mod answering;
+mod looping;
+mod serving;
+#[cfg(test)]
+mod tests;
+mod took;
+
+pub use looping::serve;
+pub use serving::serve_one;
