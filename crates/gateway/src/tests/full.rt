@@ -93,12 +93,12 @@ fn situations(alloc: Global) -> Result<String, AllocError> {
 }
 
 // The run of the words with these trips and deliveries.
-fn assert_full(
+fn assert_full<'x>(
     rt: &impl Abort,
     alloc: Global,
-    trips: &String,
-    journeys: &String,
-    situations: &String,
+    trips: &'x String,
+    journeys: &'x String,
+    situations: &'x String,
 ) {
     let others = [
         ("g/trips.txt", Some(trips.as_str().as_bytes())),
