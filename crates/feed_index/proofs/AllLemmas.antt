@@ -14,7 +14,7 @@ use Rattle.std.specs.declared.cmp.Ordering.{Ordering}
 use Rattle.std.specs.declared.cmp.Ordering.TheVariants.{Less, Equal, Greater}
 use Rattle.feed_index.specs.Order.{AreRising, above, below, with_all, with_one}
 use Rattle.feed_index.specs.Staged.{AreStaged, IsNew}
-use Rattle.feed_index.proofs.OrderLemmas.{AreAbove, AreBelow, each_filter, each_joined, each_weaker, either_order, filter_all, filter_none, greater_trans, later_counts, turned_greater, turned_less}
+use Rattle.feed_index.proofs.OrderLemmas.{AreAbove, each_filter, each_joined, each_weaker, either_order, filter_all, filter_none, greater_trans, later_counts, turned_greater, turned_less}
 use Rattle.feed_index.proofs.RisingLemmas.{Parts, parts_at, parts_between, rising_one, rising_parts}
 
 module _ {X : Type 0} where

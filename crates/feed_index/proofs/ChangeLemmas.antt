@@ -43,14 +43,6 @@ module _ {K R : Type 0} where
         entries_are = entries-append now (take at rows) (drop (suc at) rows) ∙ rw (one.front, one.back, take-map (entry_of spans) at rows, drop-map (entry_of spans) (suc at) rows) refl;
       }
 
-  pub is_live_at : (rows : List (Row K R)) (spans : List (ℕ × List ℕ)) (at : ℕ) (old : Row K R) → at < length rows → old ≡ get_or rows at old → AreHeld rows spans → IsSome (bytes_of spans old.slot)
-  is_live_at rows spans at old within is_old held =
-      let parts = split_at rows at within in
-      let same : parts.0 ≡ old = sym (parts.2 old) ∙ sym is_old in
-      let P : List (Row K R) → Type 0 = λ all. AreHeld all spans in
-      let Q : Row K R → Type 0 = λ one. AreHeld (take at rows ++ one ∷ drop (suc at) rows) spans in
-      own_is_live (take at rows) old (drop (suc at) rows) spans (subst Q same (subst P parts.1 held))
-
   same_rest : (x y : Entry K R) (xs ys : List (Entry K R)) → x ∷ xs ≡ y ∷ ys → xs ≡ ys
   same_rest x y xs ys h = cc
 

@@ -1,8 +1,9 @@
 -- Entries that are gathered in two runs of rows, and what an index will be with them.
-use Rattle.std.proofs.Common.{◌≡◌, ◌∙◌, ◌++◌, ◌∷◌, [], ◌+◌, ℕ, List, cond, length, take, drop, Option, Some, None, IsSome, option_map, sym, ap, refl, subst, append_assoc, length-append}
+use Rattle.std.proofs.Common.{◌≡◌, ◌∙◌, ◌++◌, ◌∷◌, [], ◌+◌, ℕ, Bool, true, false, List, cond, length, take, drop, Option, Some, None, IsSome, option_map, sym, ap, refl, subst, arith, append_assoc, length-append}
+use Rattle.std.proofs.lemmas.Bool.{le-ltb, lt-ltb}
 use Rattle.std.proofs.lemmas.List.{length-map, take-append-drop}
 use Rattle.std.proofs.lemmas.List.Sums.{sum_by-append}
-use Rattle.std.specs.Prelude.{is_some}
+use Rattle.std.specs.Prelude.{is_some, nat_lt}
 use Rattle.std.specs.Cmp.{IsTotalOrder}
 use Rattle.std.specs.List.{AllByRecursion}
 use Rattle.std.specs.Option.{option_or}
@@ -13,8 +14,9 @@ use Rattle.feed_index.specs.declared.row.Row.{Row}
 use Rattle.feed_index.specs.Entries.{Rising, put, put_all, total, value_at}
 use Rattle.feed_index.specs.Rows.{AreHeld, entries_of, entry_of}
 use Rattle.feed_index.specs.Staged.{AreGathered, gathered}
-use Rattle.feed_index.proofs.AllLemmas.{found, found_all, length-all, length-one, sum-all}
+use Rattle.feed_index.proofs.AllLemmas.{all_one, found, found_all, length-all, length-one, sum-all}
 use Rattle.feed_index.proofs.HeldLemmas.{own_is_live}
+use Rattle.feed_index.proofs.RisingLemmas.{rising_all}
 
 module _ {K R : Type 0} where
   -- the span of each row is live
@@ -59,3 +61,28 @@ module _ {K R : Type 0} {cmp : K → K → Ordering} (o : IsTotalOrder cmp) wher
   length_put entries one key value h same is =
       length-one (λ (each : Entry K R). each.key) o entries one h
       ∙ rw (is, ← same) (ap (λ b. length entries + cond b 0 1) (sym (some_value (found (λ (each : Entry K R). each.key) o one.key entries))))
+
+  -- how many entries there will be with one more among several: one more where no other of its key stays, and it is
+  -- one more of the several
+  pub length_with : (kept items : List (Entry K R)) (one : Entry K R) (stays grew : Bool) → Rising cmp kept → Rising cmp items → stays ≡ is_some (value_at cmp kept one.key) → grew ≡ nat_lt (length items) (length (put cmp items one)) →
+      length (put_all cmp kept (put cmp items one)) ≡ cond stays (length (put_all cmp kept items)) (cond grew (length (put_all cmp kept items) + 1) (length (put_all cmp kept items)))
+  length_with kept items one stays grew kept_rises rises stays_is grew_is =
+      let after = put_all cmp kept items in
+      let among : length (put cmp items one) ≡ length items + cond (is_some (value_at cmp items one.key)) 0 1 = length_put items one one.key (value_at cmp items one.key) rises refl refl in
+      let whole : length (put cmp after one) ≡ length after + cond (is_some (value_at cmp after one.key)) 0 1 =
+      length_put after one one.key (value_at cmp after one.key) (rising_all (λ (each : Entry K R). each.key) o kept items kept_rises) refl refl in
+      ap length (all_one (λ (each : Entry K R). each.key) o kept items one rises)
+      ∙ whole
+      ∙ ap (λ (it : Option R). length after + cond (is_some it) 0 1) (value_after kept items one.key rises)
+      ∙ by (value_at cmp items one.key) (value_at cmp kept one.key) stays grew (length items) (length (put cmp items one)) (length after) among stays_is grew_is
+    where
+      by : (a b : Option R) (s g : Bool) (m n l : ℕ) → n ≡ m + cond (is_some a) 0 1 → s ≡ is_some b → g ≡ nat_lt m n →
+          l + cond (is_some (option_or a b)) 0 1 ≡ cond s l (cond g (l + 1) l)
+      by (Some x) (Some y) s g m n l h is more = rw is (omega arith)
+      by None (Some y) s g m n l h is more = rw is (omega arith)
+      by (Some x) None s g m n l h is more =
+          let same : g ≡ false = more ∙ le-ltb m n (omega (arith, h)) in
+          rw (is, same) (omega arith)
+      by None None s g m n l h is more =
+          let grew : g ≡ true = more ∙ lt-ltb m n (omega (arith, h)) in
+          rw (is, grew) (omega arith)

@@ -249,8 +249,3 @@ module _ {K X : Type 0} (key_of : X → K) {cmp : K → K → Ordering} (o : IsT
       fold-append (with_one key_of cmp) xs before (b ∷ behind)
       ∙ behind_all (below key_of cmp (key_of b) mid) b (above key_of cmp (key_of b) mid) behind low k
       ∙ rw (below_all (key_of b) xs before h, above_all (key_of b) xs before h) refl
-
-  -- an element that comes behind greater ones
-  pub one_before : (xs more : List X) (x : X) → AreBelow (key_of x) more → with_one key_of cmp (with_all key_of cmp xs more) x ≡ with_all key_of cmp (with_one key_of cmp xs x) more
-  one_before xs [] x h = refl
-  one_before xs (y ∷ more) x h = one_before (with_one key_of cmp xs y) more x h.1 ∙ ap (λ (ys : List X). with_all key_of cmp ys more) (either_order xs y x h.0)

@@ -1,13 +1,13 @@
 -- Two runs in one list, of which the second is merged into the first from its end.
-use Rattle.std.proofs.Common.{◌≡◌, ◌∙◌, ◌++◌, ◌∷◌, [], ◌<◌, ◌≤◌, ◌+◌, ◌-◌, ℕ, false, List, length, get_or, take, drop, sym, ap, refl, subst, arith, append_assoc, length-append}
-use Rattle.std.proofs.lemmas.List.{append-nil, get_or_at, length-take-le, length-drop, nil_from_length, take-append-drop}
+use Rattle.std.proofs.Common.{◌≡◌, ◌∙◌, ◌++◌, ◌∷◌, [], ◌<◌, ◌≤◌, ◌+◌, ◌-◌, ℕ, false, List, length, get_or, take, drop, sym, ap, subst, arith, append_assoc, length-append}
+use Rattle.std.proofs.lemmas.List.{append-nil, get_or_at, length-take-le, length-drop, take-append-drop}
 use Rattle.std.specs.Cmp.{IsTotalOrder}
 use Rattle.std.specs.List.{AllByRecursion}
 use Rattle.std.specs.Ordering.{is_eq, is_lt}
 use Rattle.std.specs.declared.cmp.Ordering.{Ordering}
 use Rattle.feed_index.specs.Order.{AreRising, above, below, with_all}
 use Rattle.feed_index.specs.Staged.{IsNew}
-use Rattle.feed_index.proofs.OrderLemmas.{AreBelow, all_round, each_back, each_filter, each_front, each_weaker}
+use Rattle.feed_index.proofs.OrderLemmas.{AreBelow, all_round, each_filter, each_front, each_weaker}
 use Rattle.feed_index.proofs.RisingLemmas.{rising_parts, rising_take}
 use Rattle.feed_index.proofs.TurnLemmas.{last_of}
 
@@ -45,18 +45,12 @@ module _ {K X : Type 0} (key_of : X → K) {cmp : K → K → Ordering} (o : IsT
     apart = apart;
   }
 
-  pub runs_end : (rows first behind : List X) (front end : ℕ) → Runs key_of cmp rows first behind front end → end ≤ front → rows ≡ with_all key_of cmp first behind
-  runs_end rows first behind front end runs le =
-      let none : runs.run ≡ [] = nil_from_length runs.run (let a : length runs.low ≡ front = runs.front_is in let b : length runs.low + length runs.run ≡ end = runs.end_is in omega arith) in
-      runs.is ∙ rw none (sym (runs.result ∙ rw none refl))
-
   -- the last of the second run
   pub record Last (rows first behind : List X) (front end : ℕ) (runs : Runs key_of cmp rows first behind front end) (one : X) : Type 0 where
     pub run : List X
     pub run_is : runs.run ≡ run ++ one ∷ []
     pub below_it : AreBelow key_of o (key_of one) run
     pub rises : AreRising key_of cmp run
-    pub is_new : IsNew key_of cmp runs.low (key_of one)
     pub apart : AllByRecursion (λ x. IsNew key_of cmp runs.low (key_of x)) run
 
   pub last : (rows first behind : List X) (front end : ℕ) (runs : Runs key_of cmp rows first behind front end) → front < end → (one : X) → one ≡ get_or rows (end - 1) one → Last rows first behind front end runs one
@@ -79,7 +73,6 @@ module _ {K X : Type 0} (key_of : X → K) {cmp : K → K → Ordering} (o : IsT
         run_is = run_is;
         below_it = rises.low;
         rises = rises.front;
-        is_new = (each_back (λ x. IsNew key_of cmp runs.low (key_of x)) parts.0 (one ∷ []) new).0;
         apart = each_front (λ x. IsNew key_of cmp runs.low (key_of x)) parts.0 (one ∷ []) new;
       }
 

@@ -1,5 +1,5 @@
 -- What a sink got while some bytes are still gathered.
-use Rattle.std.proofs.Common.{◌≡◌, ◌∙◌, ◌++◌, ◌∷◌, [], ◌<◌, ◌+◌, ℕ, Bool, true, false, cond, List, Option, Some, None, take, drop, length, sym, ap, refl, subst, arith, append_assoc, get_or}
+use Rattle.std.proofs.Common.{◌≡◌, ◌∙◌, ◌++◌, ◌∷◌, [], ◌<◌, ◌+◌, ℕ, Bool, true, false, cond, List, Option, Some, take, drop, length, sym, ap, refl, subst, arith, append_assoc, get_or}
 use Rattle.std.proofs.lemmas.List.{append-nil, get_or-map, length-map, take_more, take-append-drop}
 use Rattle.std.proofs.Math.Seq.{take-length}
 use Rattle.std.proofs.lemmas.List.Concat.{flat_map-append}
@@ -13,14 +13,6 @@ use Rattle.span_pool.specs.Spans.{bytes_of}
 use Rattle.feed_index.specs.declared.entry.Entry.{Entry}
 use Rattle.feed_index.specs.declared.row.Row.{Row}
 use Rattle.feed_index.specs.Rows.{entries_of, entry_of}
-
-pub with_none : (told : Option (List ℕ)) → told ≡ with_bytes told []
-with_none None = refl
-with_none (Some written) = ap Some (sym (append-nil written))
-
--- nothing was sent yet
-pub sends_none : (told : Option (List ℕ)) (gathered text : List ℕ) → gathered ≡ text → Sends told told gathered text
-sends_none told gathered text e = record { sent = []; told = with_none told; rest = e }
 
 -- one more piece was gathered
 pub sends_more : (before mid now : Option (List ℕ)) (gathered more text piece : List ℕ) → Sends before mid gathered text → Sends mid now more (gathered ++ piece) → Sends before now more (text ++ piece)

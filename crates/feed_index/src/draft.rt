@@ -1,6 +1,5 @@
 //! What an index will be: entries that are to be put at once, found beside those that it has.
-ghost use Rattle.std.specs.Prelude.{◌≡◌, ℕ, ◌≤◌, [], drop, length, option_map, IfSome, OnErr, OnOk};
-ghost use Rattle.feed_index.specs.declared.entry.Entry.{Entry as Kept};
+ghost use Rattle.std.specs.Prelude.{◌≡◌, ◌≤◌, [], drop, length, option_map, if◌then◌else◌, OnErr, OnOk};
 ghost use Rattle.feed_index.specs.Drafts.{after};
 ghost use Rattle.feed_index.specs.Entries.{put, put_all, value_at};
 
@@ -12,6 +11,13 @@ use std::marker::Model;
 
 #[cfg(test)]
 mod tests;
+
+/// How many entries there are with one at a key: one more where no entry that stays has the key, and the batch grew.
+fn counted(len: u64, more: u64, stays: bool, grew: bool) -> u64
+    ensures value { result ≡ (if stays then len else (if grew then more else len)) }
+{
+    if !stays && grew { more } else { len }
+}
 
 /// Entries that are to be put into an index whose first entries go, gathered in any order. A contract sees the entries
 /// that stay and those that are to be put, of one for each key.
@@ -79,17 +85,6 @@ impl<'a, K: Ord, R> Draft<'a, K, R> {
     {
         self.batch
     }
-
-    /// How many entries there will be with one of this key, where that is a number.
-    fn len_with(&self, key: &K) -> Option<u64>
-        ensures value { IfSome result
-            (λ len. (one : Kept K R) → one.key ≡ key.now → len ≡ length (put K.cmp (after K.cmp self.now) one)) }
-    {
-        match self.find(key) {
-            Some(_) => Some(self.len),
-            None => self.len.checked_add(1),
-        }
-    }
 }
 
 impl<'a, K: Ord + Drop, R: Drop> Draft<'a, K, R> {
@@ -101,11 +96,13 @@ impl<'a, K: Ord + Drop, R: Drop> Draft<'a, K, R> {
             ≡ put K.cmp (after K.cmp self.old) (record { key = key; value = value; bytes = bytes })) }
         ensures unchanged { OnErr result (self.new ≡ self.old) }
     {
-        let Some(len) = self.len_with(&key) else {
+        let Some(more) = self.len.checked_add(1) else {
             return Err(AllocError);
         };
+        let stays = self.index.find_behind(self.gone, &key).is_some();
+        let before = self.batch.len();
         self.batch.put(key, value, bytes.as_slice())?;
-        self.len = len;
+        self.len = counted(self.len, more, stays, before < self.batch.len());
         Ok(())
     }
 }
