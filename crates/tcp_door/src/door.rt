@@ -1,5 +1,5 @@
 //! The door of the network. It tells nothing of its connections but whether one is present.
-ghost use Rattle.std.specs.Prelude.{◌≡◌, None, IsSome, IsOk, IsErr, OnOk, OnErr};
+ghost use Rattle.std.specs.Prelude.{◌≡◌, ◌≤◌, None, IsSome, IsOk, IsErr, OnOk, OnErr};
 ghost use Rattle.std.specs.Io.{ReadsAtMost};
 ghost use Rattle.gw_base.specs.Count.{Counts, Rose};
 ghost use Rattle.tcp_door.specs.DoorOfTcp.{beside_of, new_door};
@@ -87,7 +87,7 @@ impl<'a, R: Net + Clock + AllocGlobal> TcpDoor<'a, R> {
     // Counts a fault.
     fn fault(&mut self) -> Failed
         ensures rose { Rose self.old.faults self.new.faults }
-        ensures counts { Counts (IsErr result) self.old.faults self.new.faults }
+        ensures never_falls { self.old.faults ≤ self.new.faults }
         ensures port { self.new.port ≡ self.old.port }
         ensures present { self.new.present ≡ self.old.present }
     {

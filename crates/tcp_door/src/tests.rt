@@ -29,7 +29,7 @@ fn client(rt: &HostRuntime, port: Option<u16>) -> io::Result<TcpStream> {
 fn serve<D: Door>(
     door: &mut D,
     buf: &mut [u8],
-    (head, body): (&[u8], &[u8]),
+    answer: (&[u8], &[u8]),
     mark: Mark,
 ) -> Result<usize, Failed>
     requires absent { (D.beside door.old).present ≡ false }
@@ -38,6 +38,7 @@ fn serve<D: Door>(
 {
     if door.next()? {
         let read = door.read(buf);
+        let (head, body) = answer;
         let written = put_all(door, head).is_ok() && put_all(door, body).is_ok();
         door.finish(mark, None);
         return if written { read } else { Err(Failed) };
@@ -73,30 +74,30 @@ fn an_answer_comes_whole(rt: HostRuntime) -> Result<(), Fail> {
     Ok(())
 }
 
-// A client that sends nothing is left in time, and the next one is served.
-fn assert_left(rt: &HostRuntime, limits: Limits) -> Result<(), Fail> {
-    let mut door = TcpDoor::new(rt, "127.0.0.1:0", limits);
-    assert_eq!(rt; door.bind(), Ok(()));
-    let mut buf = [0u8; 1024];
-    let mut silent = client(rt, door.port())?;
-    let start = Instant::now(rt)?;
-    assert_eq!(rt; serve(&mut door, &mut buf, (b"", b""), Mark::Lost), Err(Failed));
-    assert!(rt; start.elapsed(rt)? < Duration::from_secs(10));
-    assert_eq!(rt; rest(rt.alloc(), &mut silent)?.len(), 0);
-    let mut next = client(rt, door.port())?;
-    next.write_all(GET)?;
-    let read = serve(&mut door, &mut buf, (HEAD, b"body"), Mark::Shown);
-    assert_eq!(rt; read, Ok(GET.len()));
-    assert_eq!(rt; rest(rt.alloc(), &mut next)?.len(), HEAD.len() + 4);
-    Ok(())
-}
-
 #[test]
 fn a_silent_client_is_left(rt: HostRuntime) -> Result<(), Fail> {
-    let short = Duration::from_millis(500);
-    let usual = Limits::usual();
-    assert_left(&rt, Limits { wait: short, ..usual })?;
-    assert_left(&rt, Limits { whole: short, ..usual })
+    let (short, usual) = (Duration::from_millis(500), Limits::usual());
+    let rows = [
+        Limits { wait: short, ..usual },
+        Limits { whole: short, ..usual },
+    ];
+    for limits in rows {
+        let mut door = TcpDoor::new(&rt, "127.0.0.1:0", limits);
+        assert_eq!(rt; door.bind(), Ok(()));
+        let mut buf = [0u8; 1024];
+        let mut silent = client(&rt, door.port())?;
+        let start = Instant::now(&rt)?;
+        let lost = serve(&mut door, &mut buf, (b"", b""), Mark::Lost);
+        assert_eq!(rt; lost, Err(Failed));
+        assert!(rt; start.elapsed(&rt)? < Duration::from_secs(10));
+        assert_eq!(rt; rest(rt.alloc(), &mut silent)?.len(), 0);
+        let mut next = client(&rt, door.port())?;
+        next.write_all(GET)?;
+        let read = serve(&mut door, &mut buf, (HEAD, b"body"), Mark::Shown);
+        assert_eq!(rt; read, Ok(GET.len()));
+        assert_eq!(rt; rest(rt.alloc(), &mut next)?.len(), HEAD.len() + 4);
+    }
+    Ok(())
 }
 
 // Sends the head and then as much of a body as the machine takes of one that isn't read. Answers how many bytes.
