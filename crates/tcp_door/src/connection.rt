@@ -1,5 +1,4 @@
 //! A connection of the network, whose reads and writes all end in time.
-ghost use Rattle.std.specs.Io.{ReadsAtMost};
 
 use crate::limits::Limits;
 use std::io::{self, ErrorKind, Read, Write};
@@ -39,16 +38,17 @@ impl<'a, R: Net + Clock> Connection<'a, R> {
         })
     }
 
-    /// Writes a piece behind what is held. It is held too where it fits; else all leaves.
+    /// Writes a piece behind what is held, and holds what of it fits in the room. Where it doesn't fit, all leaves.
     pub fn put(&mut self, held: &mut Vec<u8>, piece: &[u8]) -> io::Result<()> {
-        if piece.len() <= ROOM.saturating_sub(held.len()) {
-            self.patience()?;
-            held.extend_from_slice(piece)?;
+        self.patience()?;
+        let (front, rest) = piece.split_at(piece.len().min(ROOM.saturating_sub(held.len())));
+        held.extend_from_slice(front)?;
+        if rest.is_empty() {
             return Ok(());
         }
         self.write_all(held.as_slice())?;
         held.clear();
-        self.write_all(piece)
+        self.write_all(rest)
     }
 
     /// Sends what is held and closes the connection, where the client may still send after its input was read on. An error is one
@@ -83,9 +83,15 @@ impl<'a, R: Net + Clock> Connection<'a, R> {
 
 impl<'a, R: Net + Clock> Read for Connection<'a, R> {
     fn read(&mut self, buf: &mut [u8]) -> io::Result<usize> {
-        let wait = self.patience()?;
-        self.stream.set_read_timeout(Some(wait))?;
-        self.stream.read(buf)
+        for _ in 0..u64::MAX {
+            let wait = self.patience()?;
+            self.stream.set_read_timeout(Some(wait))?;
+            match self.stream.read(buf) {
+                Err(fault) if fault.kind() == ErrorKind::Interrupted => {}
+                ended => return ended,
+            }
+        }
+        Err(io::Error::from(ErrorKind::Interrupted))
     }
 }
 

@@ -1,13 +1,15 @@
 //! The door of the network. It tells nothing of its connections but whether one is present.
-ghost use Rattle.std.specs.Prelude.{◌≡◌, ◌≤◌, None, IsSome, IsOk, IsErr, OnOk, OnErr};
-ghost use Rattle.std.specs.Io.{ReadsAtMost};
+ghost use Rattle.std.specs.Prelude.{◌≡◌, ◌<◌, ◌≤◌, true, false, None, Ok, length, take, IsSome, IsOk, IsErr, IfOk, OnOk, OnErr};
 ghost use Rattle.gw_base.specs.Count.{Counts, Rose};
-ghost use Rattle.tcp_door.specs.DoorOfTcp.{beside_of, new_door};
+ghost use Rattle.gw_base.specs.Told.{with_bytes};
+ghost use Rattle.gw_base.specs.Connections.{Arrives, NoneComes, Takes, Logs};
+ghost use Rattle.tcp_door.specs.DoorOfTcp.{told_of, beside_of, new_door};
 
 use crate::connection::{Connection, ROOM};
 use crate::limits::Limits;
 use gw_base::{Door, Failed, Mark, Moment, Sink};
-use std::io::{self, ErrorKind, Read, Write};
+use std::alloc::Global;
+use std::io::{self, ErrorKind, Read};
 use std::marker::Model;
 use std::net::{Net, OpenListener, TcpListener};
 use std::time::Clock;
@@ -16,7 +18,7 @@ use std::time::Clock;
 /// in `finish`, and bytes that can't leave are a fault then. A contract sees the port, whether a connection is present, and
 /// the count of faults.
 #[derive(Drop)]
-pub struct TcpDoor<'a, R: Net + Clock + AllocGlobal> {
+pub struct TcpDoor<'a, R: Net + Clock> {
     rt: &'a R,
     address: &'a str,
     limits: Limits,
@@ -27,7 +29,7 @@ pub struct TcpDoor<'a, R: Net + Clock + AllocGlobal> {
     faults: u64,
 }
 
-impl<'a, R: Net + Clock + AllocGlobal> Model for TcpDoor<'a, R> {
+impl<'a, R: Net + Clock> Model for TcpDoor<'a, R> {
     ghost use Rattle.std.specs.Prelude.{option_map};
     ghost use Rattle.tcp_door.specs.DoorOfTcp.{DoorOfTcp};
 
@@ -40,9 +42,9 @@ impl<'a, R: Net + Clock + AllocGlobal> Model for TcpDoor<'a, R> {
     } };
 }
 
-impl<'a, R: Net + Clock + AllocGlobal> TcpDoor<'a, R> {
+impl<'a, R: Net + Clock> TcpDoor<'a, R> {
     /// A door at that address, an IP address or host and a port as `127.0.0.1:8080`, which isn't bound yet. Takes no memory.
-    pub fn new(rt: &'a R, address: &'a str, limits: Limits) -> TcpDoor<'a, R>
+    pub fn new(rt: &'a R, alloc: Global, address: &'a str, limits: Limits) -> TcpDoor<'a, R>
         ensures { result ≡ new_door }
     {
         TcpDoor {
@@ -52,7 +54,7 @@ impl<'a, R: Net + Clock + AllocGlobal> TcpDoor<'a, R> {
             bound: None,
             present: false,
             connection: None,
-            held: Vec::new(rt.alloc()),
+            held: Vec::new(alloc),
             faults: 0,
         }
     }
@@ -143,17 +145,25 @@ fn no_connection() -> io::Error {
     io::Error::from(ErrorKind::NotConnected)
 }
 
-impl<'a, R: Net + Clock + AllocGlobal> Sink for TcpDoor<'a, R> {
-    ghost told = { λ _. None };
+impl<'a, R: Net + Clock> Sink for TcpDoor<'a, R> {
+    ghost use Rattle.tcp_door.specs.DoorOfTcp.{told_of, beside_of};
+
+    ghost told = { told_of };
 
     ghost faults = { λ d. d.faults };
-
-    ghost use Rattle.tcp_door.specs.DoorOfTcp.{beside_of};
 
     ghost beside = { beside_of };
 
     /// Takes the whole piece. What can't leave is a fault; the connection is then closed, and each later call on it is a fault too.
-    fn write(&mut self, piece: &[u8]) -> Result<usize, Failed> {
+    fn write(&mut self, piece: &[u8]) -> Result<usize, Failed>
+        requires { 0 < length piece.now }
+        ensures some { IfOk result (λ n. (0 < n) × (n ≤ length piece.now)) }
+        ensures appended { IfOk result (λ n. told_of self.new ≡ with_bytes (told_of self.old) (take n piece.now)) }
+        ensures failed { OnErr result (told_of self.new ≡ told_of self.old) }
+        ensures counts { Counts (IsErr result) self.old.faults self.new.faults }
+        ensures others { beside_of self.new ≡ beside_of self.old }
+        ensures port { self.new.port ≡ self.old.port }
+    {
         let put = match &mut self.connection {
             Some(connection) => connection.put(&mut self.held, piece),
             None => Err(no_connection()),
@@ -166,8 +176,18 @@ impl<'a, R: Net + Clock + AllocGlobal> Sink for TcpDoor<'a, R> {
     }
 }
 
-impl<'a, R: Net + Clock + AllocGlobal> Door for TcpDoor<'a, R> {
-    fn next(&mut self) -> Result<bool, Failed> {
+impl<'a, R: Net + Clock> Door for TcpDoor<'a, R> {
+    fn next(&mut self) -> Result<bool, Failed>
+        requires { self.old.present ≡ false }
+        ensures came { result ≡ Ok true → Arrives (beside_of self.old) (beside_of self.new) }
+        ensures none { result ≡ Ok false → NoneComes (beside_of self.old) (beside_of self.new) }
+        ensures failed { OnErr result (beside_of self.new ≡ beside_of self.old) }
+        ensures counts { Counts (IsErr result) self.old.faults self.new.faults }
+        // It never tells that none is to come.
+        ensures always { IfOk result (λ comes. comes ≡ true) }
+        ensures bound { OnOk result (IsSome self.new.port) }
+        ensures port { IsSome self.old.port → self.new.port ≡ self.old.port }
+    {
         self.bind()?;
         match self.accept() {
             Ok(connection) => {
@@ -180,7 +200,15 @@ impl<'a, R: Net + Clock + AllocGlobal> Door for TcpDoor<'a, R> {
         }
     }
 
-    fn read(&mut self, buf: &mut [u8]) -> Result<usize, Failed> {
+    fn read(&mut self, buf: &mut [u8]) -> Result<usize, Failed>
+        requires present { self.old.present ≡ true }
+        requires room { 0 < length buf.old }
+        ensures count { IfOk result (λ n. n ≤ length buf.old) }
+        ensures taken { IfOk result (λ n. Takes (beside_of self.old) (beside_of self.new) (take n buf.new)) }
+        ensures failed { OnErr result (beside_of self.new ≡ beside_of self.old) }
+        ensures counts { Counts (IsErr result) self.old.faults self.new.faults }
+        ensures port { self.new.port ≡ self.old.port }
+    {
         let read = match &mut self.connection {
             Some(connection) => connection.read(buf),
             None => Err(no_connection()),
@@ -191,7 +219,12 @@ impl<'a, R: Net + Clock + AllocGlobal> Door for TcpDoor<'a, R> {
         }
     }
 
-    fn finish(&mut self, mark: Mark, _moment: Option<Moment>) {
+    fn finish(&mut self, mark: Mark, moment: Option<Moment>)
+        requires { self.old.present ≡ true }
+        ensures logged { Logs (beside_of self.old) (beside_of self.new) None mark moment }
+        ensures counts { Counts ⊥ self.old.faults self.new.faults }
+        ensures port { self.new.port ≡ self.old.port }
+    {
         self.present = false;
         let Some(connection) = self.connection.take() else {
             return;

@@ -55,7 +55,7 @@ fn rest(alloc: Global, client: &mut TcpStream) -> io::Result<Vec<u8>> {
 
 #[test]
 fn an_answer_comes_whole(rt: HostRuntime) -> Result<(), Fail> {
-    let mut door = TcpDoor::new(&rt, "127.0.0.1:0", Limits::usual());
+    let mut door = TcpDoor::new(&rt, rt.alloc(), "127.0.0.1:0", Limits::usual());
     assert_eq!(rt; door.port(), None);
     assert_eq!(rt; door.bind(), Ok(()));
     for size in [3usize, 65_536, 200_000] {
@@ -78,11 +78,17 @@ fn an_answer_comes_whole(rt: HostRuntime) -> Result<(), Fail> {
 fn a_silent_client_is_left(rt: HostRuntime) -> Result<(), Fail> {
     let (short, usual) = (Duration::from_millis(500), Limits::usual());
     let rows = [
-        Limits { wait: short, ..usual },
-        Limits { whole: short, ..usual },
+        Limits {
+            wait: short,
+            ..usual
+        },
+        Limits {
+            whole: short,
+            ..usual
+        },
     ];
     for limits in rows {
-        let mut door = TcpDoor::new(&rt, "127.0.0.1:0", limits);
+        let mut door = TcpDoor::new(&rt, rt.alloc(), "127.0.0.1:0", limits);
         assert_eq!(rt; door.bind(), Ok(()));
         let mut buf = [0u8; 1024];
         let mut silent = client(&rt, door.port())?;
@@ -118,12 +124,17 @@ fn send_much(client: &mut TcpStream) -> io::Result<usize> {
 
 #[test]
 fn the_answer_of_a_refused_post_comes_whole(rt: HostRuntime) -> Result<(), Fail> {
-    let mut door = TcpDoor::new(&rt, "127.0.0.1:0", Limits::usual());
+    let mut door = TcpDoor::new(&rt, rt.alloc(), "127.0.0.1:0", Limits::usual());
     assert_eq!(rt; door.bind(), Ok(()));
     let mut client = client(&rt, door.port())?;
     assert!(rt; 1_000_000 < send_much(&mut client)?);
     let mut buf = [0u8; 1024];
-    let read = serve(&mut door, &mut buf, (REFUSAL, b"too large"), Mark::Refused(413));
+    let read = serve(
+        &mut door,
+        &mut buf,
+        (REFUSAL, b"too large"),
+        Mark::Refused(413),
+    );
     assert_eq!(rt; read, Ok(1024));
     let answer = rest(rt.alloc(), &mut client)?;
     assert!(rt; answer.starts_with(REFUSAL) && answer.ends_with(b"too large"));
