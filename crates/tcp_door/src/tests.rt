@@ -55,10 +55,10 @@ fn rest(alloc: Global, client: &mut TcpStream) -> io::Result<Vec<u8>> {
 
 #[test]
 fn an_answer_comes_whole(rt: HostRuntime) -> Result<(), Fail> {
-    let mut door = TcpDoor::new(&rt, rt.alloc(), "127.0.0.1:0", Limits::usual());
-    assert_eq!(rt; door.port(), None);
-    assert_eq!(rt; door.bind(), Ok(()));
     for size in [3usize, 65_536, 200_000] {
+        let mut door = TcpDoor::new(&rt, rt.alloc(), "127.0.0.1:0", Limits::usual());
+        assert_eq!(rt; door.port(), None);
+        assert_eq!(rt; door.bind(), Ok(()));
         let mut body = Vec::new(rt.alloc());
         body.resize(size, b'b')?;
         let mut client = client(&rt, door.port())?;
