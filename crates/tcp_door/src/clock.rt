@@ -41,7 +41,8 @@ impl<'a, R: Clock> gw_base::Clock for SystemClock<'a, R> {
 
     ghost faults = { λ faults. faults };
 
-    /// The whole seconds since 1970 that the system tells. A time that it doesn't tell, or that is no moment, is a fault.
+    /// The whole seconds since 1970 that the system tells. A time that it doesn't tell, or that is no moment,
+    /// is a fault.
     fn now(&mut self) -> Result<Moment, Failed> {
         match self.moment() {
             Some(moment) => Ok(moment),

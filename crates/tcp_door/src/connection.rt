@@ -51,8 +51,7 @@ impl<'a, R: Net + Clock> Connection<'a, R> {
         self.write_all(rest)
     }
 
-    /// Sends what is held and closes the connection, where the client may still send after its input was read on. An error is one
-    /// of the output alone.
+    /// Sends what is held, reads on where it `drains`, and closes the connection. An error is one of the output alone.
     pub fn finish(mut self, held: &[u8], drains: bool) -> io::Result<()> {
         self.write_all(held)?;
         if drains {
@@ -61,7 +60,8 @@ impl<'a, R: Net + Clock> Connection<'a, R> {
         Ok(())
     }
 
-    // Ends the output, and reads and drops what the client still sends, so that no reset takes the answer away from it.
+    // Ends the output, and reads and drops what the client still sends, so that no reset takes the answer away
+    // from it.
     fn drain(&mut self) -> io::Result<()> {
         self.stream.shutdown(Shutdown::Write)?;
         self.end = time_after(self.rt, self.limits.drain)?;

@@ -14,9 +14,9 @@ use std::marker::Model;
 use std::net::{Net, OpenListener, TcpListener};
 use std::time::Clock;
 
-/// A door of connections over TCP, one present at a time. What is written is gathered and leaves in large pieces, at the latest
-/// in `finish`, and bytes that can't leave are a fault then. A contract sees the port, whether a connection is present, and
-/// the count of faults.
+/// A door of connections over TCP, one present at a time. What is written is gathered and leaves in large
+/// pieces, at the latest in `finish`, and bytes that can't leave are a fault then. A contract sees the port,
+/// whether a connection is present, and the count of faults.
 #[derive(Drop)]
 pub struct TcpDoor<'a, R: Net + Clock> {
     rt: &'a R,
@@ -43,7 +43,8 @@ impl<'a, R: Net + Clock> Model for TcpDoor<'a, R> {
 }
 
 impl<'a, R: Net + Clock> TcpDoor<'a, R> {
-    /// A door at that address, an IP address or host and a port as `127.0.0.1:8080`, which isn't bound yet. Takes no memory.
+    /// A door at that address, an IP address or host and a port as `127.0.0.1:8080`, which isn't bound yet.
+    /// Takes no memory.
     pub fn new(rt: &'a R, alloc: Global, address: &'a str, limits: Limits) -> TcpDoor<'a, R>
         ensures { result ≡ new_door }
     {
@@ -154,7 +155,8 @@ impl<'a, R: Net + Clock> Sink for TcpDoor<'a, R> {
 
     ghost beside = { beside_of };
 
-    /// Takes the whole piece. What can't leave is a fault; the connection is then closed, and each later call on it is a fault too.
+    /// Takes the whole piece. What can't leave is a fault; the connection is then closed, and each later call
+    /// on it is a fault too.
     fn write(&mut self, piece: &[u8]) -> Result<usize, Failed>
         requires { 0 < length piece.now }
         ensures some { IfOk result (λ n. (0 < n) × (n ≤ length piece.now)) }

@@ -1,5 +1,5 @@
-//! The door and the clock of the machine: connections over TCP, each with an end to its waits, and the moments of the system's
-//! clock. Both count their faults and tell nothing of content.
+//! The door and the clock of the machine: connections over TCP, each with an end to its waits, and the moments
+//! of the system's clock. Both count their faults and tell nothing of content.
 #![tactic(auto)]
 
 mod clock;

@@ -16,8 +16,8 @@ pub struct Limits {
 }
 
 impl Limits {
-    /// The limits of the program: 30 s for a read or write, 300 s for a connection, and 200 ms and 32 MiB behind the answer of
-    /// a refused request.
+    /// The limits of the program: 30 s for a read or write, 300 s for a connection, and 200 ms and 32 MiB
+    /// behind the answer of a refused request.
     pub fn usual() -> Limits {
         Limits {
             wait: Duration::from_secs(30),
