@@ -1,5 +1,5 @@
-//! Deliveries and feeds over a small folder. What the tests share: a gateway that took nothing, deliveries of items, and
-//! what is served.
+//! Deliveries and feeds over a small folder. What the tests share: a gateway that took nothing, deliveries of items,
+//! and what is served.
 mod feeds;
 mod journeys;
 mod serving;
