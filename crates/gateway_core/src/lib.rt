@@ -4,11 +4,7 @@
 
 mod accepted;
 mod arrival_laws;
-#[cfg(test)]
-mod arrival_tests;
 mod estimated;
-#[cfg(test)]
-mod estimated_tests;
 mod feed_law;
 mod gateway;
 mod journeys;

@@ -1,0 +1,83 @@
+//! Feeds that arrive: what is answered, and the SIRI text that is served then.
+use super::{AT, siri_of, started};
+use crate::{FeedRefusal, Gateway};
+use feed_messages::FeedFault;
+use gw_base::{MemorySink, Moment};
+use std::alloc::Global;
+
+// What is answered to a feed.
+#[derive(Clone, Copy, Debug, PartialEq, Eq)]
+enum Answer {
+    Taken,
+    Broken,
+    NoHeader,
+    Differential,
+    Other,
+}
+
+// The trip T1 is cancelled on 2024-05-01.
+const CANCELLED_FEED: &[u8] =
+    b"\x0a\x0d\x0a\x032.0\x10\x00\x18\xe0\xb4\xc7\xb1\x06\x12\x27\x0a\x0b20240501:T1\x1a\x18\x0a\x10\x0a\x02T1\x1a\x0820240501\x20\x03\x20\xe0\xb4\xc7\xb1\x06";
+
+// Bytes that are refused, with what is answered: a tag alone, no bytes, and a differential feed.
+static REFUSED: [(&[u8], Answer); 3] = [
+    (b"\x0a", Answer::Broken),
+    (b"", Answer::NoHeader),
+    (b"\x0a\x07\x0a\x032.0\x10\x01", Answer::Differential),
+];
+
+// The answer of a fault.
+fn of_fault(fault: &FeedFault) -> Answer {
+    match fault {
+        FeedFault::Wire(_) => Answer::Broken,
+        FeedFault::MissingField(0, _) => Answer::NoHeader,
+        _ => Answer::Other,
+    }
+}
+
+// The answer of a refusal.
+fn of_refusal(refusal: &FeedRefusal) -> Answer {
+    match refusal {
+        FeedRefusal::Feed(fault) => of_fault(fault),
+        FeedRefusal::Differential => Answer::Differential,
+        _ => Answer::Other,
+    }
+}
+
+// What is answered to bytes.
+fn answer_to(alloc: Global, gate: &mut Gateway, body: &[u8]) -> Answer {
+    let Some(moment) = Moment::new(AT) else {
+        return Answer::Other;
+    };
+    match gate.take_feed(alloc, body, moment) {
+        Ok(_) => Answer::Taken,
+        Err(refusal) => of_refusal(&refusal),
+    }
+}
+
+// Whether bytes are answered so, and leave the SIRI text as it was.
+fn leaves(alloc: Global, gate: &mut Gateway, row: &(&[u8], Answer), siri: &MemorySink) -> bool {
+    if answer_to(alloc, gate, row.0) != row.1 {
+        return false;
+    }
+    match siri_of(alloc, gate) {
+        Some(now) => now.written() == siri.written(),
+        None => false,
+    }
+}
+
+#[test]
+fn a_refused_feed_leaves_the_siri_text(rt: HostRuntime) {
+    let alloc = rt.alloc();
+    let mut gate = started(alloc, None).expect(&rt, "a gateway");
+    let first = answer_to(alloc, &mut gate, b"\x0a\x05\x0a\x032.0");
+    assert_eq!(rt; first, Answer::Taken);
+    let nothing = gate.siri_len();
+    let second = answer_to(alloc, &mut gate, CANCELLED_FEED);
+    assert_eq!(rt; second, Answer::Taken);
+    assert!(rt; gate.siri_len() > nothing);
+    let siri = siri_of(alloc, &gate).expect(&rt, "a SIRI text");
+    for (i, row) in REFUSED.iter().enumerate() {
+        assert!(rt; leaves(alloc, &mut gate, row, &siri), "feed {i}");
+    }
+}

@@ -1,0 +1,119 @@
+//! Deliveries of situations that are taken one after the other, and one of more than are kept: what is answered, and
+//! what is served then.
+use super::{SITUATIONS, add_item, delivery, entity_bytes, situations_report, started};
+use crate::Gateway;
+use gw_base::Bytes;
+use std::alloc::{AllocError, Global};
+
+// A version of the situation S1, and how many bytes of alerts are served then.
+struct Step {
+    version: &'static str,
+    rest: &'static str,
+    bytes: u64,
+}
+
+// The entity of the alert has 24 bytes, and 34 with a text.
+static VERSIONS: [Step; 5] = [
+    Step {
+        version: "1",
+        rest: "",
+        bytes: 24,
+    },
+    // one of the same version counts
+    Step {
+        version: "1",
+        rest: ",\"Summary\":\"Late\"",
+        bytes: 34,
+    },
+    // a closed one is kept, and isn't served
+    Step {
+        version: "2",
+        rest: ",\"Progress\":\"closed\"",
+        bytes: 0,
+    },
+    // and the older one again changes nothing
+    Step {
+        version: "1",
+        rest: ",\"Summary\":\"Late\"",
+        bytes: 0,
+    },
+    Step {
+        version: "3",
+        rest: "",
+        bytes: 24,
+    },
+];
+
+const TAKEN: &[u8] = b"{\"aside\":[],\"passed\":0,\"taken\":1}";
+
+// Whether a version is taken, and leaves what it says.
+fn goes(alloc: Global, gate: &mut Gateway, step: &Step) -> bool {
+    let item: &[&str] = &["S1", step.version, step.rest];
+    let Ok(body) = delivery(alloc, &SITUATIONS, &[item]) else {
+        return false;
+    };
+    match situations_report(alloc, gate, body.as_slice()) {
+        Some(text) => text.as_slice() == TAKEN && entity_bytes(gate) == Some(step.bytes),
+        None => false,
+    }
+}
+
+#[test]
+fn the_newest_version_is_kept(rt: HostRuntime) {
+    let alloc = rt.alloc();
+    let mut gate = started(alloc, None).expect(&rt, "a gateway");
+    for (i, step) in VERSIONS.iter().enumerate() {
+        assert!(rt; goes(alloc, &mut gate, step), "version {i}");
+    }
+}
+
+// The situations that are kept, one that is too long, and one more that has no room.
+const MOST: u32 = 5_000;
+
+const BEYOND: &[u8] =
+    b"{\"aside\":[{\"fault\":\"EntityTooLong 70035\",\"index\":5000},{\"fault\":\"Full\",\"index\":5001}],\"passed\":0,\"taken\":5000}";
+
+// Adds as many situations as are kept, a comma behind each.
+fn add_most(alloc: Global, body: &mut Bytes) -> Result<(), AllocError> {
+    for number in 0..MOST {
+        let name = format!(in alloc; "N{number}")?;
+        add_item(body, &SITUATIONS, &[name.as_str(), "1"])?;
+        body.extend(b",")?;
+    }
+    Ok(())
+}
+
+// A summary of 70,000 bytes.
+fn long_text(alloc: Global) -> Result<String, AllocError> {
+    let mut text = String::from_str(alloc, ",\"Summary\":\"")?;
+    for _ in 0..7_000 {
+        text.push_str("0123456789")?;
+    }
+    text.push_str("\"")?;
+    Ok(text)
+}
+
+// A delivery of as many situations as are kept, a new one with that said of it, and another new one.
+fn one_beyond(alloc: Global, long: &str) -> Result<Bytes, AllocError> {
+    let mut body = Bytes::copied(alloc, SITUATIONS.head.as_bytes())?;
+    add_most(alloc, &mut body)?;
+    add_item(&mut body, &SITUATIONS, &["L", "1", long])?;
+    body.extend(b",")?;
+    add_item(&mut body, &SITUATIONS, &["M", "1"])?;
+    body.extend(SITUATIONS.tail.as_bytes())?;
+    Ok(body)
+}
+
+// The report on that delivery.
+fn report_beyond(alloc: Global) -> Option<Bytes> {
+    let mut gate = started(alloc, None)?;
+    let long = long_text(alloc).ok()?;
+    let body = one_beyond(alloc, long.as_str()).ok()?;
+    situations_report(alloc, &mut gate, body.as_slice())
+}
+
+#[test]
+fn too_long_an_alert_comes_before_want_of_room(rt: HostRuntime) {
+    let report = report_beyond(rt.alloc()).expect(&rt, "a report");
+    assert_eq!(rt; report.as_slice(), BEYOND);
+}
