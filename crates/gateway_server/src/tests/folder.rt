@@ -35,26 +35,25 @@ fn table(rt: &impl Abort, alloc: Global) -> Timetable {
         .expect(rt, "a timetable")
 }
 
-// The window of the first two days of May 2024.
-fn window(zone: &Zone) -> Option<Window> {
+// The timetable over the first two days of May 2024.
+fn over(table: Timetable) -> Option<Setting> {
+    let zone = Zone::from_rule("CET-1CEST,M3.5.0,M10.5.0/3").ok()?;
     let first = read_day("20240501", DayForm::Compact)?;
     if first.number() < 365 || first.number() > 2_932_000 {
         return None;
     }
-    Window::make(zone, first, 2).ok()
+    match Window::make(&zone, first, 2) {
+        Ok(window) => Some(Setting {
+            table,
+            zone,
+            window,
+            keep: None,
+        }),
+        Err(_) => None,
+    }
 }
 
 /// The folder's timetable over the first two days of May 2024.
 pub fn setting(rt: &impl Abort, alloc: Global) -> Setting {
-    let table = table(rt, alloc);
-    let zone = Zone::from_rule("CET-1CEST,M3.5.0,M10.5.0/3")
-        .ok()
-        .expect(rt, "a zone");
-    let window = window(&zone).expect(rt, "a window");
-    Setting {
-        table,
-        zone,
-        window,
-        keep: None,
-    }
+    over(table(rt, alloc)).expect(rt, "a setting")
 }

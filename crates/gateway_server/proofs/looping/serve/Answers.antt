@@ -85,14 +85,14 @@ returns-in-Ok-false-clause-serves g c = λ told tells arrivals stands. (
   c.args.connections - c.loop-left.left,
   at_most c.args.connections c.loop-left.left,
   serves_end (Rose (g.D.Sink.faults c.args.door.now) (g.D.Sink.faults c.loop-left.door)) (Rose (g.D.Sink.faults c.args.door.now) (g.D.Sink.faults c.next.new.self)) c.args.gate.now c.loop-left.gate arrivals told
-  (change g.C.Clock.told g.C.Clock.faults c.args.clock.now c.loop-left.clock) (g.D.Sink.told c.loop-left.door) (g.D.Sink.told c.next.new.self) (g.D.Sink.beside c.loop-left.door) (g.D.Sink.beside c.next.new.self)
-  (c.args.connections - c.loop-left.left)
-  (λ rose. rose-before (g.D.Sink.faults c.args.door.now) (g.D.Sink.faults c.loop-left.door) (g.D.Sink.faults c.next.new.self) rose c.next.ensures.counts.never_falls)
-  (c.in-Ok-false.ensures.stays (not_true c.in-Ok-false.field-0 c.in-Ok-false.field-0-test))
-  (c.in-Ok-false.ensures.none (ap Ok c.in-Ok-false.field-0-test)).0 (c.loop-left.invariant.serves told tells arrivals stands),
+      (change g.C.Clock.told g.C.Clock.faults c.args.clock.now c.loop-left.clock) (g.D.Sink.told c.loop-left.door) (g.D.Sink.told c.next.new.self) (g.D.Sink.beside c.loop-left.door) (g.D.Sink.beside c.next.new.self)
+      (c.args.connections - c.loop-left.left)
+      (λ rose. rose-before (g.D.Sink.faults c.args.door.now) (g.D.Sink.faults c.loop-left.door) (g.D.Sink.faults c.next.new.self) rose c.next.ensures.counts.never_falls)
+      (c.in-Ok-false.ensures.stays (not_true c.in-Ok-false.field-0 c.in-Ok-false.field-0-test))
+      (c.in-Ok-false.ensures.none (ap Ok c.in-Ok-false.field-0-test)).0 (c.loop-left.invariant.serves told tells arrivals stands),
   inr (is_end (Rose (g.D.Sink.faults c.args.door.now) (g.D.Sink.faults c.loop-left.door)) c.args.gate.now c.loop-left.gate arrivals told
-  (change g.C.Clock.told g.C.Clock.faults c.args.clock.now c.loop-left.clock) (g.D.Sink.told c.loop-left.door) (g.D.Sink.beside c.loop-left.door) (g.D.Sink.beside c.next.new.self)
-  (c.args.connections - c.loop-left.left) (c.in-Ok-false.ensures.none (ap Ok c.in-Ok-false.field-0-test)) (c.loop-left.invariant.serves told tells arrivals stands)),
+      (change g.C.Clock.told g.C.Clock.faults c.args.clock.now c.loop-left.clock) (g.D.Sink.told c.loop-left.door) (g.D.Sink.beside c.loop-left.door) (g.D.Sink.beside c.next.new.self)
+      (c.args.connections - c.loop-left.left) (c.in-Ok-false.ensures.none (ap Ok c.in-Ok-false.field-0-test)) (c.loop-left.invariant.serves told tells arrivals stands)),
 )
 
 pub returns-in-Err-clause-serves : goal.returns-in-Err-clause-serves
@@ -100,10 +100,10 @@ returns-in-Err-clause-serves g c = λ told tells arrivals stands. (
   c.args.connections - c.loop-left.left,
   at_most c.args.connections c.loop-left.left,
   serves_end (Rose (g.D.Sink.faults c.args.door.now) (g.D.Sink.faults c.loop-left.door)) (Rose (g.D.Sink.faults c.args.door.now) (g.D.Sink.faults c.next.new.self)) c.args.gate.now c.loop-left.gate arrivals told
-  (change g.C.Clock.told g.C.Clock.faults c.args.clock.now c.loop-left.clock) (g.D.Sink.told c.loop-left.door) (g.D.Sink.told c.next.new.self) (g.D.Sink.beside c.loop-left.door) (g.D.Sink.beside c.next.new.self)
-  (c.args.connections - c.loop-left.left)
-  (λ rose. rose-before (g.D.Sink.faults c.args.door.now) (g.D.Sink.faults c.loop-left.door) (g.D.Sink.faults c.next.new.self) rose c.next.ensures.counts.never_falls)
-  (c.in-Err.ensures.stays (not_ok c.in-Err.field-0)) c.in-Err.ensures.failed (c.loop-left.invariant.serves told tells arrivals stands),
+      (change g.C.Clock.told g.C.Clock.faults c.args.clock.now c.loop-left.clock) (g.D.Sink.told c.loop-left.door) (g.D.Sink.told c.next.new.self) (g.D.Sink.beside c.loop-left.door) (g.D.Sink.beside c.next.new.self)
+      (c.args.connections - c.loop-left.left)
+      (λ rose. rose-before (g.D.Sink.faults c.args.door.now) (g.D.Sink.faults c.loop-left.door) (g.D.Sink.faults c.next.new.self) rose c.next.ensures.counts.never_falls)
+      (c.in-Err.ensures.stays (not_ok c.in-Err.field-0)) c.in-Err.ensures.failed (c.loop-left.invariant.serves told tells arrivals stands),
   tt,
 )
 
