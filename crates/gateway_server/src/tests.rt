@@ -277,7 +277,7 @@ fn a_failed_call_costs_its_connection_alone(rt: HostRuntime) {
         &THREE,
         &[3],
         &[],
-        &[(Mark::Taken, 0), (Mark::Shown, 157), (Mark::Shown, 363)],
+        &[(Mark::Taken, 0), (Mark::Shown, 152), (Mark::Shown, 360)],
     );
     // A read fails.
     marks(
@@ -286,7 +286,7 @@ fn a_failed_call_costs_its_connection_alone(rt: HostRuntime) {
         &THREE,
         &[2],
         &[],
-        &[(Mark::Lost, 0), (Mark::Shown, 116), (Mark::Shown, 363)],
+        &[(Mark::Lost, 0), (Mark::Shown, 111), (Mark::Shown, 360)],
     );
     // The clock fails.
     marks(
@@ -296,9 +296,9 @@ fn a_failed_call_costs_its_connection_alone(rt: HostRuntime) {
         &[],
         &[1],
         &[
-            (Mark::ClockFault, 134),
-            (Mark::Shown, 116),
-            (Mark::Shown, 363),
+            (Mark::ClockFault, 129),
+            (Mark::Shown, 111),
+            (Mark::Shown, 360),
         ],
     );
 }
