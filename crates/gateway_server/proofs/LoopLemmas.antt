@@ -1,12 +1,14 @@
 -- One connection more.
-use Rattle.std.proofs.Common.{◌≡◌, ◌∙◌, ◌+◌, ◌++◌, ◌∷◌, [], ℕ, ℤ, List, Option, Some, None, length, map, ap, sym, refl, subst, append_assoc, length-append, append-nil, arith}
+use Rattle.std.proofs.Common.{◌≡◌, ◌∙◌, ◌≤◌, ◌<◌, ◌+◌, ◌++◌, ◌∷◌, [], ℕ, ℤ, List, Option, Some, None, length, map, ap, sym, refl, subst, append_assoc, length-append, append-nil, arith}
 use Rattle.std.proofs.lemmas.Grind.{flat_map-append}
 use Rattle.std.proofs.lemmas.List.{map-append}
 use Rattle.std.specs.List.{flat_map}
 use Rattle.std.specs.Prelude.{IfSome, MatchOption, option_map}
 use Rattle.gw_base.specs.Changes.{Change}
 use Rattle.gw_base.specs.Connections.{Arrives, Beside, Connections, NoneComes}
+use Rattle.gw_base.specs.Count.{Rose}
 use Rattle.gw_base.specs.declared.door.Entry.{Entry}
+use Rattle.gw_base.proofs.CountLemmas.{rose-after}
 use Rattle.gateway_core.specs.Arrivals.{Arrival}
 use Rattle.gateway_core.specs.Standing.{Kept, Stands}
 use Rattle.gateway_core.specs.declared.setting.Setting.{Setting}
@@ -42,11 +44,15 @@ serves_none P gate arrivals told moments before now output beside tells stands =
   inputs = refl;
   count_is = refl;
   moments = same moments;
+  timed = λ less. absurd (none less);
   arrived = arrivals;
   lawful = refl;
   stands = stands;
 }
   where
+    none : 0 < 0 → ⊥
+    none less = omega arith
+
     same : (m : Option (List ℤ)) → m ≡ option_map (λ later. [] ++ later) m
     same None = refl
     same (Some list) = refl
@@ -63,6 +69,7 @@ serves_end P Q gate now arrivals told clock output last beside after count wider
   inputs = so_far.inputs;
   count_is = so_far.count_is;
   moments = so_far.moments;
+  timed = so_far.timed;
   arrived = so_far.arrived;
   lawful = log_wider P Q gate.setting arrivals so_far.entries so_far.arrived wider so_far.lawful;
   stands = so_far.stands;
@@ -98,14 +105,21 @@ moments_more before mid now fb fm fn given (Some moment) is asks = is ∙ ap (op
     some None = refl
     some (Some list) = ap Some (sym (append_assoc given (moment ∷ []) list))
 
+-- fewer moments than connections only where the clock's count rose
+timed_more : (mid now : Option (List ℤ)) (fa fb fc many given : ℕ) (moment : Option ℤ) → fa ≤ fb → (given < many → Rose fa fb)
+    → AsksClock (record { before = mid; now = now; faults_before = fb; faults_now = fc }) moment
+    → given + length (with_moment moment) < many + 1 → Rose fa fc
+timed_more mid now fa fb fc many given None le so_far asks less = rose-after fa fb fc le asks.1
+timed_more mid now fa fb fc many given (Some moment) le so_far asks less = subst (Rose fa) (sym asks.1) (so_far (omega arith))
+
 -- one connection more
 pub serves_more : (P Q R : Type 0) (gate mid now : Kept) (arrivals : List Arrival) (told : Connections) (moments between later : Option (List ℤ)) (fa fb fc : ℕ) (old came new : Beside) (count : ℕ) (held output last : Option (List ℕ))
     → (so_far : ServesAll P gate arrivals told (record { before = moments; now = between; faults_before = fa; faults_now = fb }) held old mid count)
-    → (P → R) → (Q → R) → mid.setting ≡ gate.setting → Arrives old came → output ≡ option_map (λ _. []) held
+    → (P → R) → (Q → R) → mid.setting ≡ gate.setting → fa ≤ fb → Arrives old came → output ≡ option_map (λ _. []) held
     → ((one : Connections) → IsFresh output came one → (before : List Arrival) → Stands mid before
     → Serves Q mid before one (record { before = between; now = later; faults_before = fb; faults_now = fc }) last new now)
     → ServesAll R gate arrivals told (record { before = moments; now = later; faults_before = fa; faults_now = fc }) last new now (count + 1)
-serves_more P Q R gate mid now arrivals told moments between later fa fb fc old came new count held output last so_far wider also setting arrives fresh serves =
+serves_more P Q R gate mid now arrivals told moments between later fa fb fc old came new count held output last so_far wider also setting calm arrives fresh serves =
     let next : (input : List ℕ) × (rest : List (List ℕ)) × (so_far.left.coming ≡ input ∷ rest) × IsFresh output came (record { coming = rest; input = input; unread = input; log = so_far.left.log }) =
     arrives_fresh old came output so_far.left so_far.tells.tells arrives (fresh ∙ ap (option_map (λ _. [])) so_far.tells.written.1) in
     let one : Serves Q mid so_far.arrived (record { coming = next.1; input = next.0; unread = next.0; log = so_far.left.log }) (record { before = between; now = later; faults_before = fb; faults_now = fc }) last new now =
@@ -120,6 +134,8 @@ serves_more P Q R gate mid now arrivals told moments between later fa fb fc old 
       count_is = length-append so_far.entries (one.entry ∷ []) ∙ ap (λ (n : ℕ). n + 1) so_far.count_is;
       moments = moments_more moments between later fa fb fc (moments_given so_far.entries) one.entry.moment so_far.moments one.asked
           ∙ ap (λ (given : List ℤ). option_map (λ later. given ++ later) later) (given_more so_far.entries one.entry);
+      timed = λ less. timed_more between later fa fb fc (length so_far.entries) (length (moments_given so_far.entries)) one.entry.moment calm so_far.timed one.asked
+          (fewer so_far.entries one.entry less);
       arrived = one.arrived;
       lawful = log_more R gate.setting arrivals so_far.entries so_far.arrived one.entry one.arrived
           (log_wider P R gate.setting arrivals so_far.entries so_far.arrived wider so_far.lawful)
@@ -132,3 +148,8 @@ serves_more P Q R gate mid now arrivals told moments between later fa fb fc old 
     given_more entries entry =
         ap (λ (last : List ℤ). moments_given entries ++ last) (sym (append-nil (with_moment entry.moment)))
         ∙ sym (flat_map-append (λ (entry : Entry). with_moment entry.moment) entries (entry ∷ []))
+
+    fewer : (entries : List Entry) (entry : Entry) → length (moments_given (entries ++ entry ∷ [])) < length (entries ++ entry ∷ [])
+        → length (moments_given entries) + length (with_moment entry.moment) < length entries + 1
+    fewer entries entry less =
+        omega (arith, less, ap length (given_more entries entry), length-append (moments_given entries) (with_moment entry.moment), length-append entries (entry ∷ []))

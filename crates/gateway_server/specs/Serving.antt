@@ -1,5 +1,5 @@
 -- What one connection is at its end: an entry of the log, and what a gateway stands for then.
-use Rattle.std.specs.Prelude.{◌≡◌, ℕ, ℤ, List, [], ◌∷◌, ◌++◌, length, map, Option, Some, None, IfSome, option_map}
+use Rattle.std.specs.Prelude.{◌≡◌, ◌<◌, ℕ, ℤ, List, [], ◌∷◌, ◌++◌, length, map, Option, Some, None, IfSome, option_map}
 use Rattle.gw_base.specs.Changes.{Change}
 use Rattle.gw_base.specs.Connections.{Beside, Connections}
 use Rattle.gw_base.specs.Count.{Rose}
@@ -43,8 +43,8 @@ pub record Tells (output : Option (List ℕ)) (beside : Beside) (told : Connecti
   pub written : (held : List ℕ) × (output ≡ Some held)
 
 -- connections one after the other: the log got so many entries more, which are the next inputs of the door in order and lawful
--- behind what arrived before them; their moments are those that the clock gave; and a gateway that stood for these arrivals stands
--- for what arrived by the end
+-- behind what arrived before them; their moments are those that the clock gave, and there are fewer only where its count rose;
+-- and a gateway that stood for these arrivals stands for what arrived by the end
 pub record ServesAll (Cause : Type 0) (before : Kept) (arrivals : List Arrival) (told : Connections) (clock : Change (List ℤ)) (output : Option (List ℕ)) (beside : Beside) (now : Kept) (count : ℕ) : Type 0 where
   pub entries : List Entry
   pub left : Connections
@@ -53,6 +53,7 @@ pub record ServesAll (Cause : Type 0) (before : Kept) (arrivals : List Arrival) 
   pub inputs : told.coming ≡ map (λ entry. entry.input) entries ++ left.coming
   pub count_is : length entries ≡ count
   pub moments : clock.before ≡ option_map (λ later. moments_given entries ++ later) clock.now
+  pub timed : length (moments_given entries) < length entries → Rose clock.faults_before clock.faults_now
   pub arrived : List Arrival
   pub lawful : IsLawfulLog Cause before.setting arrivals entries arrived
   pub stands : Stands now arrived

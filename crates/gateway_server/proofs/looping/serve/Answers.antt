@@ -73,7 +73,7 @@ loop-left-preserved g c = record {
       (λ rose. rose-before (g.D.Sink.faults c.args.door.now) (g.D.Sink.faults c.loop-left.door) (g.D.Sink.faults c.serve_one.new.door) rose
       (le_both (g.D.Sink.faults c.loop-left.door) (g.D.Sink.faults c.next.new.self) (g.D.Sink.faults c.serve_one.new.door) c.next.ensures.counts.never_falls c.serve_one.ensures.counts))
       (λ rose. rose-after (g.D.Sink.faults c.args.door.now) (g.D.Sink.faults c.next.new.self) (g.D.Sink.faults c.serve_one.new.door) came rose)
-      c.loop-left.invariant.setting (c.in-Ok-true.ensures.came (ap Ok c.in-Ok-true.field-0-test)) (c.in-Ok-true.ensures.fresh (ap Ok c.in-Ok-true.field-0-test))
+      c.loop-left.invariant.setting c.loop-left.invariant.clock (c.in-Ok-true.ensures.came (ap Ok c.in-Ok-true.field-0-test)) (c.in-Ok-true.ensures.fresh (ap Ok c.in-Ok-true.field-0-test))
       c.serve_one.ensures.serves);
 }
   where
