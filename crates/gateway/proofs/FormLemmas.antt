@@ -8,7 +8,7 @@ use Rattle.std.specs.List.{list_all, AllByRecursion}
 use Rattle.std.specs.Str.Parse.{ParsesUnsigned}
 use Rattle.std.proofs.lemmas.Option.{none-some, same_Some, option_and_then_some}
 use Rattle.std.proofs.lemmas.Str.Parse.{IsNumeralModel, numerals_by_fold, parse_gives, digits_value_short}
-use Rattle.gateway.specs.Forms.{is_filled, is_day, is_day_count, is_moment, beginning, is_number, going_on, ends_in_time, first_day, last_day}
+use Rattle.gateway.specs.Forms.{is_connection_count, is_day, is_day_count, is_filled, is_kept_count, is_moment, beginning, day_count, decimal_number, is_number, going_on, ends_in_time, first_day, keeps_fewer, last_day, most_days}
 use Rattle.gateway.specs.Rows.{form_of, pair_of, row_of, have_flags}
 use Rattle.gateway.specs.Tables.{CanBeMet, CanStand, IsSatisfiable}
 use Rattle.gateway.proofs.TableLemmas.{AreSatisfiable}
@@ -70,6 +70,24 @@ day_count_met before = (codes "1", by (beginning before) refl)
     by None e = refl
     by (Some first) e = rw +ℤ-neg_ℤ_cancel (beginning_range before first e).1
 
+-- a number of days of a window is at least one
+day_count_some : (word : List ℕ) (days : ℕ) → day_count word ≡ Some days → nat_lt 0 days ≡ true
+day_count_some word days h =
+    option_and_then_some _ (decimal_number word) days h (λ number found within.
+    let kept = cond_then (nat_le 1 number && nat_le number most_days) _ days within in
+    let some : nat_le 1 number ≡ true = (both _ _ kept.0).0 in
+    subst (λ d. nat_lt 0 d ≡ true) (same_Some number days kept.1) (grind (arith, nat_tests, some)))
+
+kept_count_met : CanBeMet is_kept_count
+kept_count_met before = (codes "0", by (day_count before) refl)
+  where
+    by : (days : Option ℕ) → day_count before ≡ days → IsTrue (keeps_fewer days (Some 0))
+    by None e = refl
+    by (Some days) e = day_count_some before days e
+
+connection_count_met : CanBeMet is_connection_count
+connection_count_met before = (codes "1", refl)
+
 moment_met : CanBeMet is_moment
 moment_met before = (moment_text (pos 0), rw (utc_of-moment_text (pos 0) (omega arith, omega arith)) refl)
 
@@ -77,6 +95,8 @@ form_met : (form : declared.Form) → CanBeMet (form_of form)
 form_met form.Filled = filled_met
 form_met form.Day = day_met
 form_met form.DayCount = day_count_met
+form_met form.KeptCount = kept_count_met
+form_met form.ConnectionCount = connection_count_met
 form_met form.Moment = moment_met
 
 pairs_met : (pairs : List Pair) → list_all (λ pair. nat_lt 0 (length pair.flags.now)) pairs ≡ true → AllByRecursion CanStand (map pair_of pairs)

@@ -1,6 +1,7 @@
 mod DeliveryLemmas
 mod FeedSteps
 mod FormLemmas
+mod HeadlineLemmas
 mod MomentLemmas
 mod PublishedLemmas
 pub mod StepLemmas

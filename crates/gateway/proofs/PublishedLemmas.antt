@@ -18,9 +18,9 @@ use Rattle.feed_messages.specs.Tables.{MeansFeed}
 use Rattle.gateway_core.specs.Deliveries.{schedule_in}
 use Rattle.gateway.specs.Bodies.{differential_end}
 use Rattle.gateway.specs.Done.{Done}
-use Rattle.gateway.specs.Published.{IsFullFeed, IsSetting, IsZone, Publishes, PublishesFeed, PublishesLines, PublishesOf, PublishesSiri}
-use Rattle.gateway.specs.Words.{IsJob, Job, NamedZone, Scope, Show, ToGtfsrt, ToSiri, by_rule, by_file, gtfsrt_job, show_job, siri_job}
-use Rattle.gateway.specs.Work.{Directory, FileFeed, JobWork, SettingOf, ShowWork, ToGtfsrtWork, ToSiriWork, Zone, body_limit, folder, full, further, zone_limit}
+use Rattle.gateway.specs.Published.{IsFullFeed, IsSetting, IsZone, PublishesFeed, PublishesLines, PublishesSiri, PublishesTask}
+use Rattle.gateway.specs.Words.{NamedZone, Scope, Show, Task, ToGtfsrt, ToSiri, by_rule, by_file, gtfsrt_task, show_task, siri_task}
+use Rattle.gateway.specs.Work.{Directory, FileFeed, SettingOf, ShowWork, TaskWork, ToGtfsrtWork, ToSiriWork, Zone, body_limit, folder, full, further, zone_limit}
 use Rattle.gateway.specs.declared.exit.Exit.{Exit}
 use Rattle.gateway.specs.declared.exit.Exit.TheVariants.{Refused}
 use Rattle.gateway_core.specs.declared.setting.Setting.{Setting}
@@ -46,12 +46,12 @@ found_zone : (named : NamedZone) (files : Directory) (zone : Rules) → Zone nam
 found_zone (by_rule text) files zone is = is
 found_zone (by_file path) files zone (bytes, read, is) = (bytes, found_body zone_limit path (bytes_of files path) bytes read, is)
 
-is_setting : (over : Scope) (files : Directory) (setting : Setting) → SettingOf over files (Ok setting) → IsSetting over files setting
-is_setting over files setting (table, folder_is, (zone, zone_is, (table_same, zone_same, window_is, stays))) = record {
+pub is_setting : (over : Scope) (keep : Option ℕ) (files : Directory) (setting : Setting) → SettingOf over keep files (Ok setting) → IsSetting over keep files setting
+is_setting over keep files setting (table, folder_is, (zone, zone_is, (table_same, zone_same, window_is, keeps))) = record {
   folder = subst (λ (t : Timetable). timetable files over.gtfs ≡ Ok (seen t)) (sym table_same) (found_table over.gtfs (timetable files over.gtfs) (seen table) folder_is);
   zone = subst (λ (z : Rules). IsZone over.zone files z) (sym zone_same) (found_zone over.zone files zone zone_is);
   window = subst (λ (z : Rules). IsWindow z over.from over.days setting.window) (sym zone_same) window_is;
-  stays = stays;
+  keeps = keeps;
 }
 
 -- a feed that was read of a file is a full dataset
@@ -82,7 +82,7 @@ feed_published : (files : Directory) (command : ToGtfsrt) (done : Done) (before 
 feed_published files command done before now (setting, setting_is, (arrived, read, converted)) written =
     record {
       setting = setting;
-      over = is_setting command.over files setting setting_is;
+      over = is_setting command.over None files setting setting_is;
       arrived = arrived;
       read = read;
       bytes = done.out;
@@ -97,7 +97,7 @@ siri_published : (files : Directory) (command : ToSiri) (done : Done) (before no
 siri_published files command done before now (setting, setting_is, (feed, read, (report, says, reported))) written =
     record {
       setting = setting;
-      over = is_setting command.over files setting setting_is;
+      over = is_setting command.over None files setting setting_is;
       feed = feed;
       read = is_full_feed command.feed files feed read;
       text = done.out;
@@ -112,7 +112,7 @@ lines_published : (files : Directory) (command : Show) (done : Done) (before now
 lines_published files command done before now (setting, setting_is, (feed, read, (reading, is_reading, lines, none))) written =
     record {
       setting = setting;
-      over = is_setting command.over files setting setting_is;
+      over = is_setting command.over None files setting setting_is;
       feed = feed;
       read = is_full_feed command.feed files feed read;
       reading = reading;
@@ -120,16 +120,15 @@ lines_published files command done before now (setting, setting_is, (feed, read,
       written = written ∙ ap (with_bytes before) lines;
     }
 
-of_job : (files : Directory) (job : Job) (done : Done) (before now : Option (List ℕ)) → JobWork job files (Ok done) → now ≡ with_bytes before done.out
-    → PublishesOf job files before now
-of_job files (gtfsrt_job command) done before now work written = feed_published files command done before now work written
-of_job files (siri_job command) done before now work written = siri_published files command done before now work written
-of_job files (show_job command) done before now work written = lines_published files command done before now work written
-
 -- what is done publishes
-pub publishes : (words : List (List ℕ)) (files : Option Directory) (job : Job) (done : Done) (before now : Option (List ℕ)) → IsJob words job
-    → IfSome files (λ told. JobWork job told (Ok done)) → now ≡ with_bytes before done.out
-    → IfSome files (λ told. Publishes words told before now)
-publishes words None job done before now accepted work written = tt
-publishes words (Some told) job done before now accepted work written =
-    record { job = job; accepted = accepted; published = of_job told job done before now work written }
+pub publishes_task : (files : Directory) (task : Task) (done : Done) (before now : Option (List ℕ)) → TaskWork task files (Ok done) → now ≡ with_bytes before done.out
+    → PublishesTask task files before now
+publishes_task files (gtfsrt_task command) done before now work written = feed_published files command done before now work written
+publishes_task files (siri_task command) done before now work written = siri_published files command done before now work written
+publishes_task files (show_task command) done before now work written = lines_published files command done before now work written
+
+pub publishes : (files : Option Directory) (task : Task) (done : Done) (before now : Option (List ℕ))
+    → IfSome files (λ told. TaskWork task told (Ok done)) → now ≡ with_bytes before done.out
+    → IfSome files (λ told. PublishesTask task told before now)
+publishes None task done before now work written = tt
+publishes (Some told) task done before now work written = publishes_task told task done before now work written

@@ -7,10 +7,10 @@ use Rattle.std.proofs.lemmas.Bool.Decides.{nat_tests}
 use Rattle.std.proofs.lemmas.Cmp.{nat_list_eq_equiv}
 use Rattle.std.proofs.lemmas.Int.{ints}
 use Rattle.std.proofs.lemmas.Option.{none-some, option_and_then_some, same_Some, slice_get_read, slice_get_within}
-use Rattle.gateway.specs.Forms.{beginning, day_count, decimal_number, ends_in_time, first_day, last_day, most_days}
+use Rattle.gateway.specs.Forms.{beginning, connection_count, day_count, decimal_number, ends_in_time, first_day, keeps_fewer, kept_count, last_day, most_days}
 use Rattle.gateway.specs.Tables.{Command, Pair, with_name, ArePairs, IsAccepted}
 use Rattle.gateway.specs.Windowed.{HasWindow}
-use Rattle.gateway.specs.Words.{IsJob, Job, SaysScope, SaysShow, SaysToGtfsrt, SaysToSiri, Scope, Show, ToGtfsrt, ToSiri, at_pair, commands, feed_pair, gtfsrt_job, no_pair, over_a_folder, scope_in, show, show_job, siri_job, to_gtfsrt, to_siri, zone_by}
+use Rattle.gateway.specs.Words.{IsJob, Job, SaysScope, SaysServe, SaysShow, SaysToGtfsrt, SaysToSiri, Scope, Serve, Show, Task, ToGtfsrt, ToSiri, at_pair, commands, connections_pair, feed_pair, gtfsrt_task, keep_pair, listen_pair, no_pair, over_a_folder, scope_in, serve, serve_job, show, show_task, siri_task, task_job, to_gtfsrt, to_siri, zone_by}
 use Rattle.gateway.proofs.FormLemmas.{beginning_range, cond_then}
 use Rattle.gateway.proofs.TableLemmas.{HasPair, pair_of, double}
 use Rattle.service_day.specs.Utc.{utc_of}
@@ -24,6 +24,11 @@ some_of (Some x) h = (x, refl)
 counted : (first : Option ℤ) (days : Option ℕ) → ends_in_time first days ≡ true → (n : ℕ) × (days ≡ Some n)
 counted first None h = absurd cc
 counted first (Some n) h = (n, refl)
+
+kept : (days kept_days : Option ℕ) → keeps_fewer days kept_days ≡ true → (n : ℕ) × (kept_days ≡ Some n)
+kept days None h = absurd cc
+kept None (Some n) h = (n, refl)
+kept (Some m) (Some n) h = (n, refl)
 
 -- a command that works over a folder
 abbrev over_by : List ℕ → List Pair → Pair → Command
@@ -50,6 +55,27 @@ scoped title further repeated name words pairs =
         zone = (zone.1, zone.2, zone.4, zone.5, refl);
         from = ap (option_and_then beginning) from.5 ∙ first.1;
         days = ap (option_and_then day_count) days.5 ∙ count.1;
+      },
+    )
+
+serve_read : (name : List ℕ) (words : List (List ℕ)) → name ≡ codes "serve" → ArePairs serve 0 name words
+    → (command : Serve) × SaysServe (name ∷ words) command
+unfolding serve
+serve_read name words named pairs =
+    let over = scoped (codes "serve") (keep_pair ∷ listen_pair ∷ connections_pair ∷ []) no_pair name words pairs in
+    let pair = pair_in (codes "serve") (keep_pair ∷ listen_pair ∷ connections_pair ∷ []) no_pair name words pairs in
+    let keep = pair 4 (omega arith) in
+    let listen = pair 5 (omega arith) in
+    let connections = pair 6 (omega arith) in
+    let days = kept (day_count keep.0) (kept_count keep.2) keep.7 in
+    let count = some_of (connection_count connections.2) connections.7 in (
+      record { over = over.0; keep = days.0; listen = listen.2; connections = count.0 },
+      record {
+        name = ap Some named;
+        over = over.1;
+        keep = ap (option_and_then kept_count) keep.5 ∙ days.1;
+        listen = listen.5;
+        connections = ap (option_and_then connection_count) connections.5 ∙ count.1;
       },
     )
 
@@ -89,24 +115,29 @@ show_read name words named pairs =
 
 -- an accepted list can be read
 pub read : (words : List (List ℕ)) → IsAccepted commands words → (job : Job) × IsJob words job
-unfolding commands to_gtfsrt to_siri show
+unfolding commands serve to_gtfsrt to_siri show
 read [] is = absurd is
 read (name ∷ words) is =
-    by (pointwise nat_eq (codes "to-gtfsrt") name) (pointwise nat_eq (codes "to-siri") name) (pointwise nat_eq (codes "show") name) refl refl refl is
+    by (pointwise nat_eq (codes "serve") name) (pointwise nat_eq (codes "to-gtfsrt") name) (pointwise nat_eq (codes "to-siri") name)
+    (pointwise nat_eq (codes "show") name) refl refl refl refl is
   where
-    by : (a b c : Bool) → pointwise nat_eq (codes "to-gtfsrt") name ≡ a → pointwise nat_eq (codes "to-siri") name ≡ b → pointwise nat_eq (codes "show") name ≡ c
-        → IsSomeAnd (cond a (Some to_gtfsrt) (cond b (Some to_siri) (cond c (Some show) None))) (λ command. ArePairs command 0 name words)
+    by : (s a b c : Bool) → pointwise nat_eq (codes "serve") name ≡ s → pointwise nat_eq (codes "to-gtfsrt") name ≡ a
+        → pointwise nat_eq (codes "to-siri") name ≡ b → pointwise nat_eq (codes "show") name ≡ c
+        → IsSomeAnd (cond s (Some serve) (cond a (Some to_gtfsrt) (cond b (Some to_siri) (cond c (Some show) None)))) (λ command. ArePairs command 0 name words)
         → (job : Job) × IsJob (name ∷ words) job
-    by true b c ea eb ec pairs =
+    by true a b c es ea eb ec pairs =
+        let found = serve_read name words (sym (same_text _ _ (sym es))) pairs in
+        (serve_job found.0, record { accepted = is; says = found.1 })
+    by false true b c es ea eb ec pairs =
         let found = gtfsrt_read name words (sym (same_text _ _ (sym ea))) pairs in
-        (gtfsrt_job found.0, record { accepted = is; says = found.1 })
-    by false true c ea eb ec pairs =
+        (task_job (gtfsrt_task found.0), record { accepted = is; says = found.1 })
+    by false false true c es ea eb ec pairs =
         let found = siri_read name words (sym (same_text _ _ (sym eb))) pairs in
-        (siri_job found.0, record { accepted = is; says = found.1 })
-    by false false true ea eb ec pairs =
+        (task_job (siri_task found.0), record { accepted = is; says = found.1 })
+    by false false false true es ea eb ec pairs =
         let found = show_read name words (sym (same_text _ _ (sym ec))) pairs in
-        (show_job found.0, record { accepted = is; says = found.1 })
-    by false false false ea eb ec pairs = absurd pairs
+        (task_job (show_task found.0), record { accepted = is; says = found.1 })
+    by false false false false es ea eb ec pairs = absurd pairs
 
 -- ---- which command a list is by its name
 
@@ -115,23 +146,40 @@ name_differs {a} {b} name here there differ =
     let same : a ≡ b = same_Some a b (sym here ∙ there) in
     true≢false (sym (nat_list_eq_equiv.refl a) ∙ ap (pointwise nat_eq a) same ∙ differ)
 
+pub serve_of : (words : List (List ℕ)) (job : Job) → IsJob words job → slice_get words 0 ≡ Some (codes "serve")
+    → (command : Serve) × SaysServe words command
+serve_of words (serve_job command) is named = (command, is.says)
+serve_of words (task_job (gtfsrt_task command)) is named = absurd (name_differs (slice_get words 0) named is.says.name refl)
+serve_of words (task_job (siri_task command)) is named = absurd (name_differs (slice_get words 0) named is.says.name refl)
+serve_of words (task_job (show_task command)) is named = absurd (name_differs (slice_get words 0) named is.says.name refl)
+
 pub gtfsrt_of : (words : List (List ℕ)) (job : Job) → IsJob words job → slice_get words 0 ≡ Some (codes "to-gtfsrt")
     → (command : ToGtfsrt) × SaysToGtfsrt words command
-gtfsrt_of words (gtfsrt_job command) is named = (command, is.says)
-gtfsrt_of words (siri_job command) is named = absurd (name_differs (slice_get words 0) named is.says.name refl)
-gtfsrt_of words (show_job command) is named = absurd (name_differs (slice_get words 0) named is.says.name refl)
+gtfsrt_of words (serve_job command) is named = absurd (name_differs (slice_get words 0) named is.says.name refl)
+gtfsrt_of words (task_job (gtfsrt_task command)) is named = (command, is.says)
+gtfsrt_of words (task_job (siri_task command)) is named = absurd (name_differs (slice_get words 0) named is.says.name refl)
+gtfsrt_of words (task_job (show_task command)) is named = absurd (name_differs (slice_get words 0) named is.says.name refl)
 
 pub siri_of : (words : List (List ℕ)) (job : Job) → IsJob words job → slice_get words 0 ≡ Some (codes "to-siri")
     → (command : ToSiri) × SaysToSiri words command
-siri_of words (gtfsrt_job command) is named = absurd (name_differs (slice_get words 0) named is.says.name refl)
-siri_of words (siri_job command) is named = (command, is.says)
-siri_of words (show_job command) is named = absurd (name_differs (slice_get words 0) named is.says.name refl)
+siri_of words (serve_job command) is named = absurd (name_differs (slice_get words 0) named is.says.name refl)
+siri_of words (task_job (gtfsrt_task command)) is named = absurd (name_differs (slice_get words 0) named is.says.name refl)
+siri_of words (task_job (siri_task command)) is named = (command, is.says)
+siri_of words (task_job (show_task command)) is named = absurd (name_differs (slice_get words 0) named is.says.name refl)
 
-pub show_of : (words : List (List ℕ)) (job : Job) → IsJob words job → slice_get words 0 ≢ Some (codes "to-gtfsrt") → slice_get words 0 ≢ Some (codes "to-siri")
+pub show_of : (words : List (List ℕ)) (job : Job) → IsJob words job → slice_get words 0 ≢ Some (codes "serve")
+    → slice_get words 0 ≢ Some (codes "to-gtfsrt") → slice_get words 0 ≢ Some (codes "to-siri")
     → (command : Show) × SaysShow words command
-show_of words (gtfsrt_job command) is first other = absurd (first is.says.name)
-show_of words (siri_job command) is first other = absurd (other is.says.name)
-show_of words (show_job command) is first other = (command, is.says)
+show_of words (serve_job command) is server first other = absurd (server is.says.name)
+show_of words (task_job (gtfsrt_task command)) is server first other = absurd (first is.says.name)
+show_of words (task_job (siri_task command)) is server first other = absurd (other is.says.name)
+show_of words (task_job (show_task command)) is server first other = (command, is.says)
+
+-- words of `serve` are those of no other command
+pub not_both : (words : List (List ℕ)) (command : Serve) (task : Task) → IsJob words (serve_job command) → IsJob words (task_job task) → ⊥
+not_both words command (gtfsrt_task other) is and = name_differs (slice_get words 0) is.says.name and.says.name refl
+not_both words command (siri_task other) is and = name_differs (slice_get words 0) is.says.name and.says.name refl
+not_both words command (show_task other) is and = name_differs (slice_get words 0) is.says.name and.says.name refl
 
 -- what is read at a place where a value is known to be is the value
 pub read_at : {A : Type 0} (f : List ℕ → Option A) (words : List (List ℕ)) (k : ℕ) (known value : A) (word : List ℕ)
@@ -164,22 +212,26 @@ named_pairs known command name words found is e =
 
 job_windowed : (words : List (List ℕ)) (job : Job) → IsJob words job
     → (int_le first_day (scope_in job).from ≡ true) × (int_le ((scope_in job).from +ℤ pos (scope_in job).days -ℤ pos 1) last_day ≡ true)
-unfolding commands to_gtfsrt to_siri show
+unfolding commands serve to_gtfsrt to_siri show
 job_windowed [] job is = absurd is.accepted
-job_windowed (name ∷ words) (gtfsrt_job command) is =
+job_windowed (name ∷ words) (serve_job command) is =
+    windowed (codes "serve") (keep_pair ∷ listen_pair ∷ connections_pair ∷ []) no_pair name words command.over
+    (named_pairs (codes "serve") serve name words refl is.accepted is.says.name) is.says.over
+job_windowed (name ∷ words) (task_job (gtfsrt_task command)) is =
     windowed (codes "to-gtfsrt") (at_pair ∷ []) to_gtfsrt.repeated name words command.over
     (named_pairs (codes "to-gtfsrt") to_gtfsrt name words refl is.accepted is.says.name) is.says.over
-job_windowed (name ∷ words) (siri_job command) is =
+job_windowed (name ∷ words) (task_job (siri_task command)) is =
     windowed (codes "to-siri") (at_pair ∷ feed_pair ∷ []) no_pair name words command.over
     (named_pairs (codes "to-siri") to_siri name words refl is.accepted is.says.name) is.says.over
-job_windowed (name ∷ words) (show_job command) is =
+job_windowed (name ∷ words) (task_job (show_task command)) is =
     windowed (codes "show") (feed_pair ∷ []) no_pair name words command.over
     (named_pairs (codes "show") show name words refl is.accepted is.says.name) is.says.over
 
 job_days : (words : List (List ℕ)) (job : Job) → IsJob words job → option_and_then day_count (slice_get words 8) ≡ Some (scope_in job).days
-job_days words (gtfsrt_job command) is = is.says.over.days
-job_days words (siri_job command) is = is.says.over.days
-job_days words (show_job command) is = is.says.over.days
+job_days words (serve_job command) is = is.says.over.days
+job_days words (task_job (gtfsrt_task command)) is = is.says.over.days
+job_days words (task_job (siri_task command)) is = is.says.over.days
+job_days words (task_job (show_task command)) is = is.says.over.days
 
 -- and it can be made
 pub has_window : (words : List (List ℕ)) (job : Job) → IsJob words job → HasWindow (scope_in job).from (scope_in job).days

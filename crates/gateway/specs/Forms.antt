@@ -1,5 +1,5 @@
 -- The forms of values, and what a value of a form is read as.
-use Rattle.std.specs.Prelude.{◌&&◌, ◌+◌, ◌-◌, ◌*◌, ℕ, ℤ, Bool, true, false, pos, ◌+ℤ◌, ◌-ℤ◌, int_le, nat_le, List, [], ◌∷◌, length, Option, Some, None, is_some, option_and_then, if◌then◌else◌}
+use Rattle.std.specs.Prelude.{◌&&◌, ◌+◌, ◌-◌, ◌*◌, ℕ, ℤ, Bool, true, false, pos, ◌+ℤ◌, ◌-ℤ◌, int_le, nat_le, nat_lt, List, [], ◌∷◌, length, Option, Some, None, is_some, option_and_then, if◌then◌else◌}
 use Rattle.std.specs.Char.{is_ascii_digit}
 use Rattle.std.specs.List.{list_all}
 use Rattle.gateway.specs.Tables.{Form}
@@ -16,6 +16,13 @@ last_day = pos 2932166
 
 abbrev pub most_days : ℕ
 most_days = 32
+
+-- the most days that are kept before the local one, and the most connections
+abbrev pub most_kept : ℕ
+most_kept = 31
+
+abbrev pub most_connections : ℕ
+most_connections = 4294967295
 
 -- the most digits of a number
 abbrev pub most_digits : ℕ
@@ -36,9 +43,21 @@ decimal_number text = if is_number text then Some (going_on 0 text) else None
 abbrev pub beginning : List ℕ → Option ℤ
 beginning word = option_and_then (λ day. if int_le first_day day && int_le day last_day then Some day else None) (day_of Dashed word)
 
+-- such a number that is in a range
+abbrev pub number_in : ℕ → ℕ → List ℕ → Option ℕ
+number_in least most word = option_and_then (λ number. if nat_le least number && nat_le number most then Some number else None) (decimal_number word)
+
 -- a number of days of a window
 abbrev pub day_count : List ℕ → Option ℕ
-day_count word = option_and_then (λ days. if nat_le 1 days && nat_le days most_days then Some days else None) (decimal_number word)
+day_count word = number_in 1 most_days word
+
+-- a number of days that are kept
+abbrev pub kept_count : List ℕ → Option ℕ
+kept_count word = number_in 0 most_kept word
+
+-- a number of connections
+abbrev pub connection_count : List ℕ → Option ℕ
+connection_count word = number_in 1 most_connections word
 
 -- that many days from the first one on, if there is a first one, end in time
 abbrev pub ends_in_time : Option ℤ → Option ℕ → Bool
@@ -46,7 +65,14 @@ ends_in_time first None = false
 ends_in_time None (Some days) = true
 ends_in_time (Some first) (Some days) = int_le (first +ℤ pos days -ℤ pos 1) last_day
 
--- the forms: a text that isn't empty, a day, a number of days from the day before on, and a moment
+-- fewer days are kept than the window has, if it has any
+abbrev pub keeps_fewer : Option ℕ → Option ℕ → Bool
+keeps_fewer days None = false
+keeps_fewer None (Some kept) = true
+keeps_fewer (Some days) (Some kept) = nat_lt kept days
+
+-- the forms: a text that isn't empty, a day, a number of days from the day before on, a number of days that are kept of the window
+-- before, a number of connections, and a moment
 abbrev pub is_filled : Form
 is_filled before [] = false
 is_filled before (_ ∷ _) = true
@@ -56,6 +82,12 @@ is_day before word = is_some (beginning word)
 
 abbrev pub is_day_count : Form
 is_day_count before word = ends_in_time (beginning before) (day_count word)
+
+abbrev pub is_kept_count : Form
+is_kept_count before word = keeps_fewer (day_count before) (kept_count word)
+
+abbrev pub is_connection_count : Form
+is_connection_count before word = is_some (connection_count word)
 
 abbrev pub is_moment : Form
 is_moment before word = is_some (utc_of word)

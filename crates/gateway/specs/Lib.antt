@@ -4,12 +4,14 @@ pub mod Done
 pub mod Exits
 pub mod FolderTexts
 pub mod Forms
+pub mod Headline
 pub mod Outputs
 pub mod Pairs
 pub mod Published
 pub mod Rows
 pub mod Runs
 pub mod Served
+pub mod Serving
 pub mod Tables
 pub mod Windowed
 pub mod Words

@@ -19,7 +19,7 @@ use Rattle.gateway_core.specs.Arrivals.{moments_of, present, schedule_at}
 use Rattle.gateway_core.specs.Deliveries.{schedule_in}
 use Rattle.gateway_core.specs.Gives.{GivesEach}
 use Rattle.gateway_core.specs.Recording.{IsRebuiltOf}
-use Rattle.gateway.specs.Words.{IsJob, Job, NamedZone, Scope, Show, ToGtfsrt, ToSiri, by_rule, by_file, gtfsrt_job, siri_job, show_job}
+use Rattle.gateway.specs.Words.{IsJob, Job, NamedZone, Scope, Show, Task, ToGtfsrt, ToSiri, by_rule, by_file, gtfsrt_task, serve_job, show_task, siri_task, task_job}
 use Rattle.gateway.specs.Work.{Arrived, Arrives, Directory, nothing}
 use Rattle.gateway_core.specs.declared.setting.Setting.{Setting}
 
@@ -28,13 +28,13 @@ abbrev pub IsZone : NamedZone → Directory → Rules → Type 0
 IsZone (by_rule text) files zone = IsRuleZone text zone
 IsZone (by_file path) files zone = (bytes : List ℕ) × (bytes_of files path ≡ Some bytes) × IsTableZone bytes zone
 
--- the folder has a timetable, and the days make a window in the zone that is named, which stays: together they are
--- the setting
-pub record IsSetting (over : Scope) (files : Directory) (setting : Setting) : Type 0 where
+-- the folder has a timetable, and the days make a window in the zone that is named, of which so many days are kept as it rolls,
+-- or which stays: together they are the setting
+pub record IsSetting (over : Scope) (keep : Option ℕ) (files : Directory) (setting : Setting) : Type 0 where
   pub folder : timetable files over.gtfs ≡ Ok (seen setting.table)
   pub zone : IsZone over.zone files setting.zone
   pub window : IsWindow setting.zone over.from over.days setting.window
-  pub stays : setting.keep ≡ None
+  pub keeps : setting.keep ≡ keep
 
 -- standard output got the feed that is rebuilt of what arrived of the files' deliveries, in order, each taken behind those
 -- before. Read as protobuf, its bytes mean a full dataset of version 2.0, made at the moment of the command; and this feed,
@@ -42,7 +42,7 @@ pub record IsSetting (over : Scope) (files : Directory) (setting : Setting) : Ty
 -- last-recorded SIRI journey
 pub record PublishesFeed (command : ToGtfsrt) (files : Directory) (before now : Option (List ℕ)) : Type 0 where
   pub setting : Setting
-  pub over : IsSetting command.over files setting
+  pub over : IsSetting command.over None files setting
   pub arrived : Arrived
   pub read : Arrives setting command.at files command.more nothing (Ok arrived)
   pub bytes : List ℕ
@@ -62,7 +62,7 @@ pub record IsFullFeed (name : List ℕ) (files : Directory) (feed : Feed) : Type
 -- again it gives just the journeys of the feed with their readings
 pub record PublishesSiri (command : ToSiri) (files : Directory) (before now : Option (List ℕ)) : Type 0 where
   pub setting : Setting
-  pub over : IsSetting command.over files setting
+  pub over : IsSetting command.over None files setting
   pub feed : Feed
   pub read : IsFullFeed command.feed files feed
   pub text : List ℕ
@@ -73,17 +73,22 @@ pub record PublishesSiri (command : ToSiri) (files : Directory) (before now : Op
 -- standard output got the lines of what the file's feed says of each journey
 pub record PublishesLines (command : Show) (files : Directory) (before now : Option (List ℕ)) : Type 0 where
   pub setting : Setting
-  pub over : IsSetting command.over files setting
+  pub over : IsSetting command.over None files setting
   pub feed : Feed
   pub read : IsFullFeed command.feed files feed
   pub reading : FeedReading
   pub is_reading : IsReading (schedule_in setting) feed reading
   pub written : now ≡ with_bytes before (shown (schedule_in setting) reading)
 
+abbrev pub PublishesTask : Task → Directory → Option (List ℕ) → Option (List ℕ) → Type 0
+PublishesTask (gtfsrt_task command) = PublishesFeed command
+PublishesTask (siri_task command) = PublishesSiri command
+PublishesTask (show_task command) = PublishesLines command
+
+-- a server shows what it has to whoever connects, and writes nothing to standard output
 abbrev pub PublishesOf : Job → Directory → Option (List ℕ) → Option (List ℕ) → Type 0
-PublishesOf (gtfsrt_job command) = PublishesFeed command
-PublishesOf (siri_job command) = PublishesSiri command
-PublishesOf (show_job command) = PublishesLines command
+PublishesOf (serve_job command) files before now = now ≡ before
+PublishesOf (task_job task) files before now = PublishesTask task files before now
 
 -- what a run of these words published
 pub record Publishes (words : List (List ℕ)) (files : Directory) (before now : Option (List ℕ)) : Type 0 where

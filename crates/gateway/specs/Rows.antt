@@ -1,7 +1,7 @@
 -- What the tables of the code say.
 use Rattle.std.specs.Prelude.{◌&&◌, Bool, List, length, map, nat_lt}
 use Rattle.std.specs.List.{list_all}
-use Rattle.gateway.specs.Forms.{is_filled, is_day, is_day_count, is_moment}
+use Rattle.gateway.specs.Forms.{is_connection_count, is_day, is_day_count, is_filled, is_kept_count, is_moment}
 use Rattle.gateway.specs.Tables as table
 use Rattle.gateway.specs.Tables.{Form}
 use Rattle.gateway.specs.declared.words.forms.Form as declared
@@ -13,6 +13,8 @@ abbrev pub form_of : declared.Form → Form
 form_of form.Filled = is_filled
 form_of form.Day = is_day
 form_of form.DayCount = is_day_count
+form_of form.KeptCount = is_kept_count
+form_of form.ConnectionCount = is_connection_count
 form_of form.Moment = is_moment
 
 abbrev pub pair_of : Pair → table.Pair

@@ -1,7 +1,7 @@
 -- The words of the commands: their table, and what the words of each say.
 use Rattle.std.specs.Prelude.{◌≡◌, ℕ, ℤ, List, [], ◌∷◌, drop, codes, Some, option_and_then, slice_get, nat_eq, if◌then◌else◌}
 use Rattle.std.specs.Cmp.Lexicographic.{pointwise}
-use Rattle.gateway.specs.Forms.{is_filled, is_day, is_day_count, is_moment, beginning, day_count}
+use Rattle.gateway.specs.Forms.{is_connection_count, is_day, is_day_count, is_filled, is_kept_count, is_moment, beginning, connection_count, day_count, kept_count}
 use Rattle.gateway.specs.Tables.{Command, Pair, IsAccepted, StopsAt}
 use Rattle.service_day.specs.Utc.{utc_of}
 
@@ -20,9 +20,25 @@ at_pair = record { flags = codes "--at" ∷ []; form = is_moment }
 abbrev pub feed_pair : Pair
 feed_pair = record { flags = codes "--feed" ∷ []; form = is_filled }
 
+abbrev pub keep_pair : Pair
+keep_pair = record { flags = codes "--keep" ∷ []; form = is_kept_count }
+
+abbrev pub listen_pair : Pair
+listen_pair = record { flags = codes "--listen" ∷ []; form = is_filled }
+
+abbrev pub connections_pair : Pair
+connections_pair = record { flags = codes "--connections" ∷ []; form = is_connection_count }
+
 -- no further pair: it has no flag
 abbrev pub no_pair : Pair
 no_pair = record { flags = []; form = is_filled }
+
+unfoldable pub serve : Command
+serve = record {
+  name = codes "serve";
+  pairs = over_a_folder (keep_pair ∷ listen_pair ∷ connections_pair ∷ []);
+  repeated = no_pair;
+}
 
 unfoldable pub to_gtfsrt : Command
 to_gtfsrt = record {
@@ -46,7 +62,7 @@ show = record {
 }
 
 unfoldable pub commands : List Command
-commands = to_gtfsrt ∷ to_siri ∷ show ∷ []
+commands = serve ∷ to_gtfsrt ∷ to_siri ∷ show ∷ []
 
 -- a zone by a POSIX rule, or by a TZif file of that path
 pub data NamedZone : Type 0 where
@@ -63,6 +79,14 @@ pub record Scope : Type 0 where
   pub zone : NamedZone
   pub from : ℤ
   pub days : ℕ
+
+-- what the words of `serve` say: what it works over, how many days before the local one are kept, the address, and how many
+-- connections are served
+pub record Serve : Type 0 where
+  pub over : Scope
+  pub keep : ℕ
+  pub listen : List ℕ
+  pub connections : ℕ
 
 -- what the words of `to-gtfsrt` say: what it works over, the second since 1970 at which the feed is made, and the words of the
 -- deliveries, for each a flag and a file
@@ -82,16 +106,25 @@ pub record Show : Type 0 where
   pub over : Scope
   pub feed : List ℕ
 
+-- a command that reads files, writes its result and ends
+pub data Task : Type 0 where
+  gtfsrt_task : ToGtfsrt → Task
+  siri_task : ToSiri → Task
+  show_task : Show → Task
+
 -- a command with what its words say
 pub data Job : Type 0 where
-  gtfsrt_job : ToGtfsrt → Job
-  siri_job : ToSiri → Job
-  show_job : Show → Job
+  serve_job : Serve → Job
+  task_job : Task → Job
+
+abbrev pub task_scope : Task → Scope
+task_scope (gtfsrt_task command) = command.over
+task_scope (siri_task command) = command.over
+task_scope (show_task command) = command.over
 
 abbrev pub scope_in : Job → Scope
-scope_in (gtfsrt_job command) = command.over
-scope_in (siri_job command) = command.over
-scope_in (show_job command) = command.over
+scope_in (serve_job command) = command.over
+scope_in (task_job task) = task_scope task
 
 -- the words say this: the value of the pair of number n, from 0 on, is the word of number 2n + 2
 pub record SaysScope (words : List (List ℕ)) (scope : Scope) : Type 0 where
@@ -99,6 +132,13 @@ pub record SaysScope (words : List (List ℕ)) (scope : Scope) : Type 0 where
   pub zone : (flag value : List ℕ) × (slice_get words 3 ≡ Some flag) × (slice_get words 4 ≡ Some value) × (scope.zone ≡ zone_by flag value)
   pub from : option_and_then beginning (slice_get words 6) ≡ Some scope.from
   pub days : option_and_then day_count (slice_get words 8) ≡ Some scope.days
+
+pub record SaysServe (words : List (List ℕ)) (command : Serve) : Type 0 where
+  pub name : slice_get words 0 ≡ Some (codes "serve")
+  pub over : SaysScope words command.over
+  pub keep : option_and_then kept_count (slice_get words 10) ≡ Some command.keep
+  pub listen : slice_get words 12 ≡ Some command.listen
+  pub connections : option_and_then connection_count (slice_get words 14) ≡ Some command.connections
 
 pub record SaysToGtfsrt (words : List (List ℕ)) (command : ToGtfsrt) : Type 0 where
   pub name : slice_get words 0 ≡ Some (codes "to-gtfsrt")
@@ -117,10 +157,14 @@ pub record SaysShow (words : List (List ℕ)) (command : Show) : Type 0 where
   pub over : SaysScope words command.over
   pub feed : slice_get words 10 ≡ Some command.feed
 
+abbrev pub SaysTask : List (List ℕ) → Task → Type 0
+SaysTask words (gtfsrt_task command) = SaysToGtfsrt words command
+SaysTask words (siri_task command) = SaysToSiri words command
+SaysTask words (show_task command) = SaysShow words command
+
 abbrev pub Says : List (List ℕ) → Job → Type 0
-Says words (gtfsrt_job command) = SaysToGtfsrt words command
-Says words (siri_job command) = SaysToSiri words command
-Says words (show_job command) = SaysShow words command
+Says words (serve_job command) = SaysServe words command
+Says words (task_job task) = SaysTask words task
 
 -- the list of words is accepted, as the command that says this
 pub record IsJob (words : List (List ℕ)) (job : Job) : Type 0 where

@@ -39,7 +39,7 @@ use Rattle.siri_calls.specs.declared.delivery.DeliveryFault.{DeliveryFault}
 use Rattle.siri_situations.specs.Deliveries.{ReadsSituations}
 use Rattle.gateway.specs.Bodies.{body_end, differential_end, feed_end, many_calls_end}
 use Rattle.gateway.specs.Done.{Done}
-use Rattle.gateway.specs.Words.{Job, NamedZone, Scope, Show, ToGtfsrt, ToSiri, by_rule, by_file, gtfsrt_job, siri_job, show_job}
+use Rattle.gateway.specs.Words.{NamedZone, Scope, Show, Task, ToGtfsrt, ToSiri, by_rule, by_file, gtfsrt_task, show_task, siri_task}
 use Rattle.gateway.specs.declared.exit.Exit.{Exit}
 use Rattle.gateway.specs.declared.exit.Exit.TheVariants.{Refused}
 
@@ -96,22 +96,23 @@ Zone (by_file path) files = do
 abbrev pub Found : {A : Type 0} → A → Result A Exit → Type 0
 Found found answer = answer ≡ Ok found
 
--- the timetable and the zone, with the window of so many days from the first on in that zone, which stays
-abbrev pub Windowed : Timetable → Rules → ℤ → ℕ → Result Setting Exit → Type 0
-Windowed table zone first days (Ok setting) = (setting.table ≡ table) × (setting.zone ≡ zone) × IsWindow zone first days setting.window × (setting.keep ≡ None)
-Windowed table zone first days (Err end) = ⊥
+-- the timetable and the zone, with the window of so many days from the first on in that zone, and how many days are kept of it as
+-- it rolls: without a number it stays
+abbrev pub Windowed : Timetable → Rules → ℤ → ℕ → Option ℕ → Result Setting Exit → Type 0
+Windowed table zone first days keep (Ok setting) = (setting.table ≡ table) × (setting.zone ≡ zone) × IsWindow zone first days setting.window × (setting.keep ≡ keep)
+Windowed table zone first days keep (Err end) = ⊥
 
 -- the zone and the window behind a timetable
-abbrev pub Over : Timetable → NamedZone → ℤ → ℕ → Directory → Result Setting Exit → Type 0
-Over table named first days files = do
+abbrev pub Over : Timetable → NamedZone → ℤ → ℕ → Option ℕ → Directory → Result Setting Exit → Type 0
+Over table named first days keep files = do
   zone ← Zone named files
-  Windowed table zone first days
+  Windowed table zone first days keep
 
--- what a command works over
-abbrev pub SettingOf : Scope → Directory → Result Setting Exit → Type 0
-SettingOf over files = do
+-- what a command works over, and how many days it keeps
+abbrev pub SettingOf : Scope → Option ℕ → Directory → Result Setting Exit → Type 0
+SettingOf over keep files = do
   table ← Folder over.gtfs files
-  Over table over.zone over.from over.days files
+  Over table over.zone over.from over.days keep files
 
 -- what a delivery's body gives at that moment behind some arrivals, with the report on it; or the end that its fault is
 abbrev pub JourneysGiven : Setting → ℤ → List ℕ → List ℕ → List Arrival → Result (Given × Report) Exit → Type 0
@@ -182,7 +183,7 @@ Conversion at setting words files = do
 -- the work of `to-gtfsrt`
 abbrev pub ToGtfsrtWork : ToGtfsrt → Directory → Result Done Exit → Type 0
 ToGtfsrtWork command files = do
-  setting ← SettingOf command.over files
+  setting ← SettingOf command.over None files
   Conversion command.at setting command.more files
 
 -- the feed that bytes mean, or the end that their fault is
@@ -223,7 +224,7 @@ SiriOfFile at setting name files = do
 -- the work of `to-siri`
 abbrev pub ToSiriWork : ToSiri → Directory → Result Done Exit → Type 0
 ToSiriWork command files = do
-  setting ← SettingOf command.over files
+  setting ← SettingOf command.over None files
   SiriOfFile command.at setting command.feed files
 
 -- the lines of what a feed says
@@ -240,11 +241,11 @@ LinesOfFile setting name files = do
 -- the work of `show`
 abbrev pub ShowWork : Show → Directory → Result Done Exit → Type 0
 ShowWork command files = do
-  setting ← SettingOf command.over files
+  setting ← SettingOf command.over None files
   LinesOfFile setting command.feed files
 
 -- the work of a command
-abbrev pub JobWork : Job → Directory → Result Done Exit → Type 0
-JobWork (gtfsrt_job command) = ToGtfsrtWork command
-JobWork (siri_job command) = ToSiriWork command
-JobWork (show_job command) = ShowWork command
+abbrev pub TaskWork : Task → Directory → Result Done Exit → Type 0
+TaskWork (gtfsrt_task command) = ToGtfsrtWork command
+TaskWork (siri_task command) = ToSiriWork command
+TaskWork (show_task command) = ShowWork command

@@ -1,8 +1,11 @@
 -- What a command that was read says.
-use Rattle.gateway.specs.Words.{Job, NamedZone, Scope as Said, by_rule, by_file, gtfsrt_job, siri_job, show_job}
+use Rattle.gateway.specs.Words.{Job, NamedZone, Scope as Said, Serve, Task as SaidTask, by_rule, by_file, gtfsrt_task, serve_job, show_task, siri_task, task_job}
 use Rattle.gateway.specs.declared.words.Scope.{Scope}
+use Rattle.gateway.specs.declared.words.Server.{Server}
+use Rattle.gateway.specs.declared.words.Task.{Task}
+use Rattle.gateway.specs.declared.words.Task.TheVariants.{ToGtfsrt, ToSiri, Show}
 use Rattle.gateway.specs.declared.words.Work.{Work}
-use Rattle.gateway.specs.declared.words.Work.TheVariants.{ToGtfsrt, ToSiri, Show}
+use Rattle.gateway.specs.declared.words.Work.TheVariants as work
 use Rattle.gateway.specs.declared.words.ZoneWord.{ZoneWord}
 use Rattle.gateway.specs.declared.words.ZoneWord.TheVariants.{Rule, File}
 
@@ -15,8 +18,17 @@ zone_of (File path) = by_file path.now
 abbrev pub scope_of : Scope → Said
 scope_of over = record { gtfs = over.gtfs.now; zone = zone_of over.zone; from = over.from; days = over.days }
 
+-- what `serve` says
+abbrev pub server_of : Server → Serve
+server_of server = record { over = scope_of server.over; keep = server.keep; listen = server.listen.now; connections = server.connections }
+
+-- what a command says that writes its result and ends
+abbrev pub task_of : Task → SaidTask
+task_of (ToGtfsrt over at more) = gtfsrt_task (record { over = scope_of over; at = at; more = more.now })
+task_of (ToSiri over at feed) = siri_task (record { over = scope_of over; at = at; feed = feed.now })
+task_of (Show over feed) = show_task (record { over = scope_of over; feed = feed.now })
+
 -- what the command says
 abbrev pub job_of : Work → Job
-job_of (ToGtfsrt over at more) = gtfsrt_job (record { over = scope_of over; at = at; more = more.now })
-job_of (ToSiri over at feed) = siri_job (record { over = scope_of over; at = at; feed = feed.now })
-job_of (Show over feed) = show_job (record { over = scope_of over; feed = feed.now })
+job_of (work.Serve server) = serve_job (server_of server)
+job_of (work.Task task) = task_job (task_of task)

@@ -5,6 +5,8 @@ ghost use Rattle.gateway.specs.Exits.{status_of, text_of};
 use gw_base::Text;
 use std::alloc::AllocError;
 
+/// The work was done.
+pub const DONE: u8 = 0;
 /// The input is refused.
 const REFUSED: u8 = 65;
 /// A file is missing.

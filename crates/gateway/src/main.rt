@@ -1,15 +1,19 @@
 //! The program `gateway`: deliveries of SIRI 2.0 over one GTFS Schedule folder become a GTFS Realtime 2.0
-//! feed, and a feed becomes a delivery or lines. `main` hands the real words and devices to the top call.
+//! feed, and a feed becomes a delivery or lines; a server takes both and answers both. `main` hands the real words and devices to
+//! the top call.
 #![tactic(auto)]
 
 mod command_line;
 mod deliveries;
 mod devices;
 mod done;
+mod ending;
 mod exit;
 mod feeds;
 mod folder_end;
 mod reading;
+mod server_run;
+mod task_run;
 #[cfg(test)]
 mod tests;
 mod top;
@@ -18,8 +22,9 @@ mod work;
 
 use command_line::{USAGE, words_of};
 use devices::{DirFiles, StdSink};
-use gw_base::{NoClock, NoDoor};
 use std::process::ExitCode;
+use tcp_door::{Limits, SystemClock, TcpDoor};
+use words::address;
 
 const VERSION: &str = concat!("gateway ", "0.1.0", "\n");
 
@@ -35,8 +40,8 @@ fn main(rt: HostRuntime) -> ExitCode {
                 alloc,
                 words,
                 &mut DirFiles::new(&rt),
-                &mut NoDoor::new(),
-                &mut NoClock::new(),
+                &mut TcpDoor::new(&rt, alloc, address(words), Limits::usual()),
+                &mut SystemClock::new(&rt),
                 &mut out,
                 &mut err,
             ),

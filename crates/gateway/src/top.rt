@@ -1,78 +1,22 @@
 //! The top call: a list of words is carried out over the devices, and a status comes back.
-ghost use Rattle.std.specs.Prelude.{◌≡◌, ◌≤◌, ◌⊎◌, ◌++◌, ℕ, false, codes, decimal, length, take, IfSome, OnOk, IsErr};
+ghost use Rattle.std.specs.Prelude.{◌≡◌, ◌≤◌, ◌⊎◌, ◌++◌, false, codes, IfSome};
 ghost use Rattle.gw_base.specs.Changes.{change};
-ghost use Rattle.gw_base.specs.Count.{Rose, Counts};
+ghost use Rattle.gw_base.specs.Connections.{Connections};
+ghost use Rattle.gw_base.specs.Count.{Rose};
 ghost use Rattle.gw_base.specs.Told.{with_bytes, PutsUnless};
+ghost use Rattle.gateway_server.specs.Serving.{Tells};
+ghost use Rattle.gateway.specs.Headline.{Headline};
 ghost use Rattle.gateway.specs.Published.{Publishes};
-ghost use Rattle.gateway.specs.Exits.{status_of, text_of};
 ghost use Rattle.gateway.specs.Runs.{IsRun, line};
+ghost use Rattle.gateway.specs.Words.{IsJob, Task, task_job};
 
-use crate::done::Done;
-use crate::exit::{Exit, FAILED};
-use crate::words::job;
-use crate::work::carried_out;
-use arrayvec::ArrayString;
+use crate::ending::{ended, turned_away};
+use crate::exit::{DONE, Exit, FAILED};
+use crate::server_run::run_server;
+use crate::task_run::run_task;
+use crate::words::{Work, job};
 use gw_base::{Clock, Door, Failed, Files, Sink, Text, put_all};
-use itoa::Buffer;
 use std::alloc::Global;
-
-/// The work was done.
-const DONE: u8 = 0;
-/// The words are no command's.
-const BAD_WORDS: u8 = 2;
-
-// Room for the text of a bad word: nine letters and at most 20 digits.
-const BAD_WORD_ROOM: usize = 32;
-
-// Writes a text as the program's line on standard error.
-fn put_line<E: Sink>(err: &mut E, text: &str) -> Result<(), Failed>
-    ensures front { PutsUnless (Rose (E.faults err.old) (E.faults err.new)) (E.told err.old) (E.told err.new) (line text.now) }
-    ensures counts { Counts (IsErr result) (E.faults err.old) (E.faults err.new) }
-    ensures others { E.beside err.new ≡ E.beside err.old }
-{
-    put_all(err, b"gateway: ")?;
-    put_all(err, text.as_bytes())?;
-    put_all(err, b"\n")
-}
-
-// Ends a run with an exit's line and status. The status stays where the line can't be written.
-fn ended<E: Sink>(err: &mut E, exit: &Exit) -> u8
-    ensures status { result ≡ status_of exit.now }
-    ensures front { PutsUnless (Rose (E.faults err.old) (E.faults err.new)) (E.told err.old) (E.told err.new) (line (text_of exit.now)) }
-    ensures counts { E.faults err.old ≤ E.faults err.new }
-    ensures others { E.beside err.new ≡ E.beside err.old }
-{
-    let _ = put_line(err, exit.text());
-    exit.status()
-}
-
-// Ends a run of words that are no command's from that word on. Takes no memory.
-fn turned_away<E: Sink>(err: &mut E, at: u64) -> u8
-    ensures status { result ≡ 2 }
-    ensures front { PutsUnless (Rose (E.faults err.old) (E.faults err.new)) (E.told err.old) (E.told err.new) (line (codes "bad word " ++ decimal at)) }
-    ensures counts { E.faults err.old ≤ E.faults err.new }
-    ensures others { E.beside err.new ≡ E.beside err.old }
-{
-    let mut digits = Buffer::new();
-    let mut text = ArrayString::<BAD_WORD_ROOM>::new();
-    text.push_str("bad word ");
-    text.push_str(digits.format(at));
-    let _ = put_line(err, text.as_str());
-    BAD_WORDS
-}
-
-// Writes what a command writes: all to `out`, then all to `err`.
-fn written<S: Sink, E: Sink>(out: &mut S, err: &mut E, done: &Done) -> Result<(), Failed>
-    ensures all { OnOk result ((S.told out.new ≡ with_bytes (S.told out.old) done.now.out) × (E.told err.new ≡ with_bytes (E.told err.old) done.now.err)) }
-    ensures out { PutsUnless (Rose (S.faults out.old) (S.faults out.new)) (S.told out.old) (S.told out.new) done.now.out }
-    ensures err { (n : ℕ) × (n ≤ length done.now.err) × (E.told err.new ≡ with_bytes (E.told err.old) (take n done.now.err)) }
-    ensures cause { IsErr result → Rose (S.faults out.old) (S.faults out.new) ⊎ Rose (E.faults err.old) (E.faults err.new) }
-    ensures counts { (S.faults out.old ≤ S.faults out.new) × (E.faults err.old ≤ E.faults err.new) }
-    ensures others { (S.beside out.new ≡ S.beside out.old) × (E.beside err.new ≡ E.beside err.old) }
-{
-    done.write_out(out)?;
-    put_all(err, done.err())
-}
 
 /// Carries out the words over the devices, and answers the status: 0 where the work was done, 2 for
 /// words of no command, 65 for input that is refused, 66 for a missing file, 71 for want of memory,
@@ -81,46 +25,53 @@ pub fn gateway<F: Files, D: Door, C: Clock, S: Sink, E: Sink>(
     alloc: Global,
     words: &[Text],
     files: &mut F,
-    _door: &mut D,
-    _clock: &mut C,
+    door: &mut D,
+    clock: &mut C,
     out: &mut S,
     err: &mut E,
 ) -> u8
-    requires { (D.beside _door.old).present ≡ false }
+    requires { (D.beside door.old).present ≡ false }
+
+    // The headline, over the log of this call, where the files are told and the door tells its connections. Over any connections,
+    // each feed served, read as protobuf and propagated by GTFS Realtime's rules, gives every stop of every dated journey in the
+    // window exactly the time, skip or absence of the last-recorded SIRI journey taken before it; each SIRI text served gives every
+    // call the propagated time of the last accepted feed; the feed's bytes are those rebuilt from all deliveries taken.
+    ensures headline { IfSome (F.told files.old) (λ folder. (told : Connections) → Tells (D.told door.old) (D.beside door.old) told
+        → Headline (Rose (D.faults door.old) (D.faults door.new)) words.now folder told (D.beside door.new)) }
 
     // The status, and what the devices show before and after: how the run ended, by its words.
     ensures run { IsRun words.now result (record {
       files = change F.told F.faults files.old files.new;
       out = change S.told S.faults out.old out.new;
       err = change E.told E.faults err.old err.new;
+      doorway = record {
+        output = change D.told D.faults door.old door.new;
+        before = D.beside door.old;
+        now = D.beside door.new;
+        clock = change C.told C.faults clock.old clock.new;
+      };
     }) }
 
-    // With status 0 and files that are told, `out` got a feed that publishes just the journeys taken.
+    // With status 0 and files that are told, `out` got a feed that publishes just the journeys taken, or what else the words ask for.
     ensures publishes { result ≡ 0 → IfSome (F.told files.old) (λ told.
         Publishes words.now told (S.told out.old) (S.told out.new)) }
 
-    // With words of no command no device but `err` is called.
-    ensures uncalled { result ≡ 2 → (files.new ≡ files.old) × (out.new ≡ out.old) }
+    // With words of no command no device but `err` is called, and other commands than `serve` call neither door nor clock.
+    ensures uncalled { result ≡ 2 → (files.new ≡ files.old) × (out.new ≡ out.old) × (door.new ≡ door.old) × (clock.new ≡ clock.old) }
+    ensures idle { (task : Task) → IsJob words.now (task_job task) → (door.new ≡ door.old) × (clock.new ≡ clock.old) }
 
-    // What stays: the files, the door, the clock, and what the streams show beside. No count falls.
+    // What stays: the files, that no connection is present, and what the streams show beside. No count falls.
     ensures files { F.told files.new ≡ F.told files.old }
-    ensures door { _door.new ≡ _door.old }
-    ensures clock { _clock.new ≡ _clock.old }
+    ensures absent { (D.beside door.new).present ≡ false }
     ensures beside { (S.beside out.new ≡ S.beside out.old) × (E.beside err.new ≡ E.beside err.old) }
     ensures counts { (F.faults files.old ≤ F.faults files.new)
-        × (S.faults out.old ≤ S.faults out.new) × (E.faults err.old ≤ E.faults err.new) }
+        × (S.faults out.old ≤ S.faults out.new) × (E.faults err.old ≤ E.faults err.new)
+        × (D.faults door.old ≤ D.faults door.new) × (C.faults clock.old ≤ C.faults clock.new) }
 {
-    let work = match job(words) {
-        Ok(work) => work,
-        Err(bad) => return turned_away(err, bad.at),
-    };
-    let done = match carried_out(alloc, &work, files) {
-        Ok(done) => done,
-        Err(exit) => return ended(err, &exit),
-    };
-    match written(out, err, &done) {
-        Ok(()) => DONE,
-        Err(Failed) => ended(err, &Exit::Failed),
+    match job(words) {
+        Ok(Work::Serve(server)) => run_server(alloc, &server, files, door, clock, err),
+        Ok(Work::Task(task)) => run_task(alloc, &task, files, out, err),
+        Err(bad) => turned_away(err, bad.at),
     }
 }
 

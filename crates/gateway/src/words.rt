@@ -1,13 +1,13 @@
 //! The words of a command line. Only exactly the lists of words of a command are accepted.
 ghost use Rattle.std.specs.Prelude.{◌≡◌, length, IfOk, IfErr};
 ghost use Rattle.gateway.specs.Words as said;
-ghost use Rattle.gateway.specs.Words.{IsJob, IsRefusedAt, Says, SaysScope, SaysShow, SaysToGtfsrt, SaysToSiri, zone_by};
-ghost use Rattle.gateway.specs.Works.{job_of, scope_of, zone_of};
+ghost use Rattle.gateway.specs.Words.{IsJob, IsRefusedAt, Says, SaysScope, SaysServe, SaysShow, SaysTask, SaysToGtfsrt, SaysToSiri, zone_by};
+ghost use Rattle.gateway.specs.Works.{job_of, scope_of, server_of, task_of, zone_of};
 
 mod forms;
 mod table;
 
-use forms::{Form, day_count, first_day, moment};
+use forms::{Form, connection_count, day_count, first_day, kept_count, moment};
 use gw_base::{Moment, Text};
 use service_day::Day;
 use table::{Command, Pair, check};
@@ -41,9 +41,22 @@ pub struct Scope<'a> {
     pub days: u8,
 }
 
-/// A command with its words read.
+/// What the words of `serve` say: deliveries and feeds are taken, and a feed and a SIRI text served, over HTTP.
 #[derive(Clone, Copy, Debug)]
-pub enum Work<'a> {
+pub struct Server<'a> {
+    /// What it works over.
+    pub over: Scope<'a>,
+    /// How many days before the local one are kept as the window rolls, fewer than it has.
+    pub keep: u8,
+    /// The address at which connections are taken.
+    pub listen: &'a Text,
+    /// How many connections are served.
+    pub connections: u32,
+}
+
+/// A command that reads files, writes its result and ends.
+#[derive(Clone, Copy, Debug)]
+pub enum Task<'a> {
     /// `to-gtfsrt`: deliveries become a feed.
     ToGtfsrt {
         /// What it works over.
@@ -71,6 +84,15 @@ pub enum Work<'a> {
     },
 }
 
+/// A command with its words read.
+#[derive(Clone, Copy, Debug)]
+pub enum Work<'a> {
+    /// `serve`.
+    Serve(Server<'a>),
+    /// Any other command.
+    Task(Task<'a>),
+}
+
 const GTFS: Pair = Pair {
     flags: &["--gtfs"],
     form: Form::Filled,
@@ -91,6 +113,21 @@ const DAYS: Pair = Pair {
     form: Form::DayCount,
 };
 
+const KEEP: Pair = Pair {
+    flags: &["--keep"],
+    form: Form::KeptCount,
+};
+
+const LISTEN: Pair = Pair {
+    flags: &["--listen"],
+    form: Form::Filled,
+};
+
+const CONNECTIONS: Pair = Pair {
+    flags: &["--connections"],
+    form: Form::ConnectionCount,
+};
+
 const AT: Pair = Pair {
     flags: &["--at"],
     form: Form::Moment,
@@ -108,7 +145,12 @@ const NONE: Pair = Pair {
 };
 
 // The commands. In a list of words the value of the pair of number n, from 0 on, is the word of number 2n + 2.
-static COMMANDS: [Command; 3] = [
+static COMMANDS: [Command; 4] = [
+    Command {
+        name: "serve",
+        pairs: &[GTFS, ZONE, FROM, DAYS, KEEP, LISTEN, CONNECTIONS],
+        repeated: NONE,
+    },
     Command {
         name: "to-gtfsrt",
         pairs: &[GTFS, ZONE, FROM, DAYS, AT],
@@ -153,12 +195,25 @@ fn over(words: &[Text]) -> Scope<'_>
     }
 }
 
-// What the words of `to-gtfsrt` say.
-fn to_gtfsrt(words: &[Text]) -> Work<'_>
-    requires { (command : said.ToGtfsrt) × SaysToGtfsrt words.now command }
-    ensures { Says words.now (job_of result) }
+// What the words of `serve` say.
+fn serve(words: &[Text]) -> Server<'_>
+    requires { (command : said.Serve) × SaysServe words.now command }
+    ensures { SaysServe words.now (server_of result) }
 {
-    Work::ToGtfsrt {
+    Server {
+        over: over(words),
+        keep: kept_count(&words[10]).unwrap(),
+        listen: &words[12],
+        connections: connection_count(&words[14]).unwrap(),
+    }
+}
+
+// What the words of `to-gtfsrt` say.
+fn to_gtfsrt(words: &[Text]) -> Task<'_>
+    requires { (command : said.ToGtfsrt) × SaysToGtfsrt words.now command }
+    ensures { SaysTask words.now (task_of result) }
+{
+    Task::ToGtfsrt {
         over: over(words),
         at: moment(&words[10]).unwrap(),
         more: &words[11..],
@@ -166,11 +221,11 @@ fn to_gtfsrt(words: &[Text]) -> Work<'_>
 }
 
 // What the words of `to-siri` say.
-fn to_siri(words: &[Text]) -> Work<'_>
+fn to_siri(words: &[Text]) -> Task<'_>
     requires { (command : said.ToSiri) × SaysToSiri words.now command }
-    ensures { Says words.now (job_of result) }
+    ensures { SaysTask words.now (task_of result) }
 {
-    Work::ToSiri {
+    Task::ToSiri {
         over: over(words),
         at: moment(&words[10]).unwrap(),
         feed: &words[12],
@@ -178,11 +233,11 @@ fn to_siri(words: &[Text]) -> Work<'_>
 }
 
 // What the words of `show` say.
-fn show(words: &[Text]) -> Work<'_>
+fn show(words: &[Text]) -> Task<'_>
     requires { (command : said.Show) × SaysShow words.now command }
-    ensures { Says words.now (job_of result) }
+    ensures { SaysTask words.now (task_of result) }
 {
-    Work::Show {
+    Task::Show {
         over: over(words),
         feed: &words[10],
     }
@@ -194,9 +249,20 @@ fn read(words: &[Text]) -> Work<'_>
     ensures { Says words.now (job_of result) }
 {
     match words[0].as_str() {
-        "to-gtfsrt" => to_gtfsrt(words),
-        "to-siri" => to_siri(words),
-        _ => show(words),
+        "serve" => Work::Serve(serve(words)),
+        "to-gtfsrt" => Work::Task(to_gtfsrt(words)),
+        "to-siri" => Work::Task(to_siri(words)),
+        _ => Work::Task(show(words)),
+    }
+}
+
+/// The address at which connections are to be taken, which is empty for other commands than `serve`. Takes no memory.
+pub fn address(words: &[Text]) -> &str
+    ensures listens { (command : said.Serve) → IsJob words.now (said.serve_job command) → result.now ≡ command.listen }
+{
+    match job(words) {
+        Ok(Work::Serve(server)) => server.listen.as_str(),
+        _ => "",
     }
 }
 

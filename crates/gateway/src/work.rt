@@ -1,13 +1,13 @@
 //! The work of the commands, step by step in the order of `specs/Work.antt`. Nothing is written here.
-ghost use Rattle.std.specs.Prelude.{◌≡◌, ◌++◌, ◌<◌, IfOk, IfSome, IsErrOf, length, Ok, Err};
+ghost use Rattle.std.specs.Prelude.{◌≡◌, ◌++◌, ◌<◌, IfOk, IfSome, IsErrOf, length, None, Ok, Err};
 ghost use Rattle.gw_base.specs.Answers.{UnlessFree};
 ghost use Rattle.gw_base.specs.Count.{Counts};
 ghost use Rattle.gateway.specs.Exits.{is_free};
 ghost use Rattle.gateway.specs.Work as steps;
 ghost use Rattle.gateway.specs.Windowed.{HasWindow};
 ghost use Rattle.gateway.specs.Words as said;
-ghost use Rattle.gateway.specs.Words.{by_file, scope_in};
-ghost use Rattle.gateway.specs.Works.{job_of, scope_of, zone_of};
+ghost use Rattle.gateway.specs.Words.{by_file, task_scope};
+ghost use Rattle.gateway.specs.Works.{scope_of, task_of, zone_of};
 
 use crate::deliveries::deliveries;
 use crate::done::Done;
@@ -15,7 +15,7 @@ use crate::exit::Exit;
 use crate::feeds::{feed_file, lines_of, siri_of};
 use crate::folder_end::folder_end;
 use crate::reading::{ZONE_LIMIT, further_file};
-use crate::words::{Scope, Work, ZoneWord};
+use crate::words::{Scope, Task, ZoneWord};
 use gateway_core::{Gateway, Setting};
 use gw_base::{Files, Moment, Text};
 use service_day::{Window, Zone, ZoneFault};
@@ -85,11 +85,12 @@ fn over<F: Files>(
     alloc: Global,
     files: &mut F,
     scope: &Scope<'_>,
+    keep: Option<u8>,
     table: Timetable,
 ) -> Result<Setting, Exit>
     requires { HasWindow scope.now.from scope.now.days }
     ensures told { IfSome (F.told files.old) (λ told. UnlessFree is_free result
-        (steps.Over table (zone_of scope.now.zone) scope.now.from scope.now.days told)) }
+        (steps.Over table (zone_of scope.now.zone) scope.now.from scope.now.days keep told)) }
     ensures counts { Counts (IsErrOf result Exit.Failed) (F.faults files.old) (F.faults files.new) }
     ensures same { F.told files.new ≡ F.told files.old }
 {
@@ -99,20 +100,25 @@ fn over<F: Files>(
         table,
         zone,
         window,
-        keep: None,
+        keep,
     })
 }
 
-// What a command works over.
-fn setting<F: Files>(alloc: Global, files: &mut F, scope: &Scope<'_>) -> Result<Setting, Exit>
+/// What a command works over, and how many days it keeps.
+pub fn setting<F: Files>(
+    alloc: Global,
+    files: &mut F,
+    scope: &Scope<'_>,
+    keep: Option<u8>,
+) -> Result<Setting, Exit>
     requires { HasWindow scope.now.from scope.now.days }
     ensures told { IfSome (F.told files.old) (λ told. UnlessFree is_free result
-        (steps.SettingOf (scope_of scope.now) told)) }
+        (steps.SettingOf (scope_of scope.now) keep told)) }
     ensures counts { Counts (IsErrOf result Exit.Failed) (F.faults files.old) (F.faults files.new) }
     ensures same { F.told files.new ≡ F.told files.old }
 {
     match folder(alloc, files, scope.gtfs.as_str()) {
-        Ok(table) => over(alloc, files, scope, table),
+        Ok(table) => over(alloc, files, scope, keep, table),
         Err(end) => Err(end),
     }
 }
@@ -152,7 +158,7 @@ fn to_gtfsrt<F: Files>(
     ensures counts { Counts (IsErrOf result Exit.Failed) (F.faults files.old) (F.faults files.new) }
     ensures same { F.told files.new ≡ F.told files.old }
 {
-    match setting(alloc, files, scope) {
+    match setting(alloc, files, scope, None) {
         Ok(setting) => conversion(alloc, files, at, setting, more),
         Err(end) => Err(end),
     }
@@ -192,7 +198,7 @@ fn to_siri<F: Files>(
     ensures counts { Counts (IsErrOf result Exit.Failed) (F.faults files.old) (F.faults files.new) }
     ensures same { F.told files.new ≡ F.told files.old }
 {
-    match setting(alloc, files, scope) {
+    match setting(alloc, files, scope, None) {
         Ok(setting) => siri_of_file(alloc, files, at, &setting, feed),
         Err(end) => Err(end),
     }
@@ -224,23 +230,23 @@ fn show<F: Files>(alloc: Global, files: &mut F, scope: &Scope<'_>, feed: &str) -
     ensures counts { Counts (IsErrOf result Exit.Failed) (F.faults files.old) (F.faults files.new) }
     ensures same { F.told files.new ≡ F.told files.old }
 {
-    match setting(alloc, files, scope) {
+    match setting(alloc, files, scope, None) {
         Ok(setting) => lines_of_file(alloc, files, &setting, feed),
         Err(end) => Err(end),
     }
 }
 
 /// The work of a command over the files: what it writes, or how it ends.
-pub fn carried_out<F: Files>(alloc: Global, work: &Work<'_>, files: &mut F) -> Result<Done, Exit>
-    requires { HasWindow (scope_in (job_of work.now)).from (scope_in (job_of work.now)).days }
+pub fn carried_out<F: Files>(alloc: Global, task: &Task<'_>, files: &mut F) -> Result<Done, Exit>
+    requires { HasWindow (task_scope (task_of task.now)).from (task_scope (task_of task.now)).days }
     ensures told { IfSome (F.told files.old) (λ told. UnlessFree is_free result
-        (steps.JobWork (job_of work.now) told)) }
+        (steps.TaskWork (task_of task.now) told)) }
     ensures counts { Counts (IsErrOf result Exit.Failed) (F.faults files.old) (F.faults files.new) }
     ensures same { F.told files.new ≡ F.told files.old }
 {
-    match work {
-        Work::ToGtfsrt { over, at, more } => to_gtfsrt(alloc, files, over, *at, more),
-        Work::ToSiri { over, at, feed } => to_siri(alloc, files, over, *at, feed.as_str()),
-        Work::Show { over, feed } => show(alloc, files, over, feed.as_str()),
+    match task {
+        Task::ToGtfsrt { over, at, more } => to_gtfsrt(alloc, files, over, *at, more),
+        Task::ToSiri { over, at, feed } => to_siri(alloc, files, over, *at, feed.as_str()),
+        Task::Show { over, feed } => show(alloc, files, over, feed.as_str()),
     }
 }

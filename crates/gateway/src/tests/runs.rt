@@ -1,6 +1,6 @@
 //! What the tests of the top call share: words, files and sinks in memory, and runs over them.
 use crate::top::gateway;
-use gw_base::{Bytes, List, MemoryFiles, MemorySink, NoClock, NoDoor, Text};
+use gw_base::{Bytes, List, MemoryClock, MemoryDoor, MemoryFiles, MemorySink, Moment, Text};
 use std::alloc::{AllocError, Global};
 use std::process::Abort;
 
@@ -132,8 +132,8 @@ pub fn json(alloc: Global, short: &str) -> Result<String, AllocError> {
     Ok(json)
 }
 
-// These numbers as a list.
-fn numbers(alloc: Global, values: &[u64]) -> Result<List<u64>, AllocError> {
+/// These numbers as a list.
+pub fn numbers(alloc: Global, values: &[u64]) -> Result<List<u64>, AllocError> {
     let mut list = List::new(alloc);
     for value in values {
         list.push(*value)?;
@@ -193,23 +193,28 @@ pub fn sink(alloc: Global, room: u64, fails: &[u64]) -> Result<MemorySink, Alloc
     MemorySink::make(alloc, room, numbers(alloc, fails)?)
 }
 
-/// The top call, with a door and a clock that are not there.
+/// A clock that gives these moments, of which these calls fail.
+pub fn clock_of(alloc: Global, seconds: &[i64], fails: &[u64]) -> Result<MemoryClock, AllocError> {
+    let mut moments = List::new(alloc);
+    for second in seconds {
+        if let Some(moment) = Moment::new(*second) {
+            moments.push(moment)?;
+        }
+    }
+    Ok(MemoryClock::make(moments, numbers(alloc, fails)?))
+}
+
+/// The top call, with a door to which no connection comes and a clock that gives no moment.
 pub fn run(
     alloc: Global,
     words: &[Text],
     files: &mut MemoryFiles,
     out: &mut MemorySink,
     err: &mut MemorySink,
-) -> u8 {
-    gateway(
-        alloc,
-        words,
-        files,
-        &mut NoDoor::new(),
-        &mut NoClock::new(),
-        out,
-        err,
-    )
+) -> Result<u8, AllocError> {
+    let mut door = MemoryDoor::make(alloc, List::new(alloc), 0, 1, List::new(alloc))?;
+    let mut clock = clock_of(alloc, &[], &[])?;
+    Ok(gateway(alloc, words, files, &mut door, &mut clock, out, err))
 }
 
 /// What a run is given: the words as a text, the files in place of the sample's, and the reads that fail.
@@ -229,7 +234,7 @@ pub fn run_given(
 ) -> Result<u8, AllocError> {
     let words = words_of(alloc, given.words)?;
     let mut files = files_with(alloc, given.others, given.fails)?;
-    Ok(run(alloc, words.as_slice(), &mut files, out, err))
+    run(alloc, words.as_slice(), &mut files, out, err)
 }
 
 /// What a run left: its status, standard output and standard error.

@@ -7,7 +7,7 @@ use std::process::Abort;
 // Words that are wrong where they stand in the accepted list.
 static WRONG: [(usize, &str); 41] = [
     (0, ""),
-    (0, "serve"),
+    (0, "Serve"),
     (0, "To-gtfsrt"),
     (0, "--help"),
     (1, "--feed"),
@@ -53,7 +53,41 @@ static WRONG: [(usize, &str); 41] = [
 ];
 
 // Lists of words, each with where it stops being the start of an accepted one.
-static LISTS: [(&str, usize); 16] = [
+static LISTS: [(&str, usize); 25] = [
+    // A server's words, which keeps fewer days than it has.
+    ("serve --gtfs g", 3),
+    (
+        "serve --gtfs g --zone-rule x --from 2024-05-01 --days 2 --at 2024-05-01T06:00:00Z",
+        9,
+    ),
+    (
+        "serve --gtfs g --zone-rule x --from 2024-05-01 --days 2 --keep 2 --listen a --connections 1",
+        10,
+    ),
+    (
+        "serve --gtfs g --zone-rule x --from 2024-05-01 --days 32 --keep 32 --listen a --connections 1",
+        10,
+    ),
+    (
+        "serve --gtfs g --zone-rule x --from 2024-05-01 --days 2 --keep -1 --listen a --connections 1",
+        10,
+    ),
+    (
+        "serve --gtfs g --zone-rule x --from 2024-05-01 --days 2 --keep 0 --listen  --connections 1",
+        12,
+    ),
+    (
+        "serve --gtfs g --zone-rule x --from 2024-05-01 --days 2 --keep 0 --listen a --connections 0",
+        14,
+    ),
+    (
+        "serve --gtfs g --zone-rule x --from 2024-05-01 --days 2 --keep 0 --listen a --connections 4294967296",
+        14,
+    ),
+    (
+        "serve --gtfs g --zone-rule x --from 2024-05-01 --days 2 --keep 0 --listen a --connections 1 --et",
+        15,
+    ),
     (
         "to-siri --gtfs g --zone-rule x --from 2024-05-01 --days 2 --at 2024-05-01T06:00:00Z --et f",
         11,
@@ -112,7 +146,10 @@ static LISTS: [(&str, usize); 16] = [
 ];
 
 // Lists of words that are accepted.
-static RIGHT: [&str; 15] = [
+static RIGHT: [&str; 17] = [
+    // The fewest and the most of a server.
+    "serve --gtfs g --zone-rule x --from 2024-05-01 --days 1 --keep 0 --listen a --connections 0000000001",
+    "serve --gtfs g --zone-rule x --from 2024-05-01 --days 32 --keep 31 --listen 127.0.0.1:8080 --connections 4294967295",
     // Each rule, each number of days.
     "to-gtfsrt --gtfs g --zone-rule CET-1CEST,M3.5.0,M10.5.0/3 --from 2024-05-01 --days 2 --at 2024-05-01T06:00:00Z --et f",
     "to-gtfsrt --gtfs g --zone-rule x --from 2024-05-01 --days 2 --at 2024-05-01T06:00:00Z --et f",
@@ -143,7 +180,7 @@ fn run_uncalled(
 ) -> Result<u8, AllocError> {
     let mut files = files_with(alloc, &[], &[1])?;
     let mut out = sink(alloc, 100, &[1])?;
-    let status = run(alloc, words, &mut files, &mut out, err);
+    let status = run(alloc, words, &mut files, &mut out, err)?;
     let mut into = Bytes::new(alloc);
     assert!(rt;
         files.read_file("f", 9, &mut into).is_err(),

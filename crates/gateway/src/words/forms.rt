@@ -19,6 +19,12 @@ pub const LAST_DAY: i32 = 2_932_166;
 /// The most days that a window may have.
 pub const MOST_DAYS: u64 = 32;
 
+/// The most days that are kept before the local one.
+pub const MOST_KEPT: u64 = 31;
+
+/// The most connections that a server serves.
+pub const MOST_CONNECTIONS: u64 = 4_294_967_295;
+
 /// The most digits of a number.
 pub const MOST_DIGITS: usize = 10;
 
@@ -31,6 +37,10 @@ pub enum Form {
     Day,
     /// A number of days from 1 to 32, of which the last is still in 9997 when the first is the value before.
     DayCount,
+    /// A number of days from 0 to 31, which is less than the number of days before.
+    KeptCount,
+    /// A number of connections from 1 to 4,294,967,295.
+    ConnectionCount,
     /// `YYYY-MM-DDThh:mm:ssZ`, from 1970 to 9998.
     Moment,
 }
@@ -73,16 +83,37 @@ fn number(word: &Text) -> Option<u64>
     }
 }
 
+// The value of a word that is a number in that range.
+fn number_in(least: u64, most: u64, word: &Text) -> Option<u64>
+    ensures { result ≡ spec.number_in least most word.now }
+{
+    let value = number(word)?;
+    if least <= value && value <= most {
+        Some(value)
+    } else {
+        None
+    }
+}
+
 /// The value of a word that is a number of days from 1 to 32.
 pub fn day_count(word: &Text) -> Option<u8>
     ensures { result ≡ spec.day_count word.now }
 {
-    let days = number(word)?;
-    if 1 <= days && days <= MOST_DAYS {
-        Some(days as u8)
-    } else {
-        None
-    }
+    Some(number_in(1, MOST_DAYS, word)? as u8)
+}
+
+/// The value of a word that is a number of days from 0 to 31.
+pub fn kept_count(word: &Text) -> Option<u8>
+    ensures { result ≡ spec.kept_count word.now }
+{
+    Some(number_in(0, MOST_KEPT, word)? as u8)
+}
+
+/// The value of a word that is a number of connections.
+pub fn connection_count(word: &Text) -> Option<u32>
+    ensures { result ≡ spec.connection_count word.now }
+{
+    Some(number_in(1, MOST_CONNECTIONS, word)? as u32)
 }
 
 // That many days from the first one on, if there is a first one, end in 9997 at the latest.
@@ -91,6 +122,16 @@ fn ends_in_time(first: Option<Day>, days: u8) -> bool
 {
     match first {
         Some(day) => day.number() + (days as i32 - 1) <= LAST_DAY,
+        None => true,
+    }
+}
+
+// So many days are fewer than a window has, if there is one.
+fn keeps_fewer(days: Option<u8>, kept: u8) -> bool
+    ensures { result ≡ spec.keeps_fewer days (Some kept) }
+{
+    match days {
+        Some(days) => kept < days,
         None => true,
     }
 }
@@ -113,6 +154,11 @@ pub fn has_form(form: Form, before: &Text, word: &Text) -> bool
             Some(days) => ends_in_time(first_day(before), days),
             None => false,
         },
+        Form::KeptCount => match kept_count(word) {
+            Some(kept) => keeps_fewer(day_count(before), kept),
+            None => false,
+        },
+        Form::ConnectionCount => connection_count(word).is_some(),
         Form::Moment => moment(word).is_some(),
     }
 }

@@ -12,11 +12,11 @@ returns-in-Ok-clause-told g c =
     let first = rw c.as_str.ensures.same at c.in-Ok.ensures.told in
     let second = rw c.folder.ensures.same at c.over.ensures.told in
     went_on (g.F.Files.told c.args.files.now) is_free (λ files. Folder scope.gtfs.now files)
-    (λ files table. Over table (zone_of scope.zone) scope.from scope.days files) c.in-Ok.table c.over.result first second
+    (λ files table. Over table (zone_of scope.zone) scope.from scope.days c.args.keep files) c.in-Ok.table c.over.result first second
 
 pub returns-in-Err-clause-told : goal.returns-in-Err-clause-told
 returns-in-Err-clause-told g c =
     let scope = c.args.scope.now in
     let first = rw c.as_str.ensures.same at c.in-Err.ensures.told in
     ended (g.F.Files.told c.args.files.now) is_free (λ files. Folder scope.gtfs.now files)
-    (λ files table. Over table (zone_of scope.zone) scope.from scope.days files) c.in-Err.end first
+    (λ files table. Over table (zone_of scope.zone) scope.from scope.days c.args.keep files) c.in-Err.end first

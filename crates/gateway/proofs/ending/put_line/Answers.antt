@@ -3,7 +3,7 @@ use Rattle.std.proofs.Common.{◌++◌, ◌∙◌, ap, refl, codes, Option, List
 use Rattle.gw_base.specs.Told.{with_bytes}
 use Rattle.gw_base.proofs.CountLemmas.{rose-after}
 use Rattle.gw_base.proofs.ToldLemmas.{puts_front, puts_more, puts_wider, with_bytes-with_bytes}
-use Rattle.gateway.proofs.top.put_line.Goals as goal
+use Rattle.gateway.proofs.ending.put_line.Goals as goal
 
 pub returns-in_err-put_all-clause-front : goal.returns-in_err-put_all-clause-front
 returns-in_err-put_all-clause-front g c =

@@ -1,0 +1,29 @@
+-- What a server does with the connections of its door (RFC 9112).
+use Rattle.std.specs.Prelude.{◌≡◌, ◌≤◌, ◌<◌, ◌⊎◌, ℕ, ℤ, List, [], ◌++◌, length, map, Some, option_map}
+use Rattle.gw_base.specs.Changes.{Change}
+use Rattle.gw_base.specs.Connections.{Beside, Connections}
+use Rattle.gw_base.specs.Count.{Rose}
+use Rattle.gw_base.specs.declared.door.Entry.{Entry}
+use Rattle.gateway_core.specs.Arrivals.{Arrival}
+use Rattle.gateway_core.specs.declared.setting.Setting.{Setting}
+use Rattle.gateway_server.specs.Log.{IsLawfulLog, moments_given}
+
+-- a log got these entries more
+pub record HasLogged (told : Connections) (now : Beside) (entries : List Entry) (left : Connections) : Type 0 where
+  pub tells : now.told ≡ Some left
+  pub log : left.log ≡ told.log ++ entries
+
+-- the connections that were served: their entries are the door's next inputs in order, at most so many, and where that came to its
+-- end so many or all that were to come; their moments are those that the clock gave, fewer only where its count rose; and each is
+-- lawful behind what arrived of those before it
+pub record Served (Cause End : Type 0) (most : ℕ) (setting : Setting) (told : Connections) (clock : Change (List ℤ)) (now : Beside) : Type 0 where
+  pub entries : List Entry
+  pub left : Connections
+  pub logged : HasLogged told now entries left
+  pub inputs : told.coming ≡ map (λ entry. entry.input) entries ++ left.coming
+  pub few : length entries ≤ most
+  pub all : End → (length entries ≡ most) ⊎ (left.coming ≡ [])
+  pub moments : clock.before ≡ option_map (λ later. moments_given entries ++ later) clock.now
+  pub timed : length (moments_given entries) < length entries → Rose clock.faults_before clock.faults_now
+  pub arrived : List Arrival
+  pub lawful : IsLawfulLog Cause setting [] entries arrived
