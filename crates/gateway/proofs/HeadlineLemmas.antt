@@ -11,9 +11,12 @@ use Rattle.gateway_core.specs.Standing.{Kept}
 use Rattle.gateway_core.specs.declared.setting.Setting.{Setting}
 use Rattle.gateway_server.specs.Answers.{IsAnswered, body_refused, feed_shown, mark_of, refused, taken, text_shown}
 use Rattle.gateway_server.specs.Log.{IsFront, IsLawful, IsLawfulLog, answered, lost, no_clock, no_memory}
-use Rattle.gateway_server.specs.Serving.{IsEnd, ServesAll}
+use Rattle.gateway_server.specs.Serving.{IsEnd, ServesAll, Tells}
+use Rattle.gw_base.specs.Answers.{UnlessFree}
+use Rattle.gateway.specs.Exits.{is_free}
 use Rattle.gateway.specs.Headline.{HasArrived, Headline, ServesFeed, ServesText, Shows, ShowsAsTold}
 use Rattle.gateway.specs.Published.{IsSetting}
+use Rattle.gateway.specs.Runs.{Doorway, EndsServer, HasFailed, RunsServer}
 use Rattle.gateway.specs.Serving.{HasLogged, Served}
 use Rattle.gateway.specs.Work.{Directory, SettingOf}
 use Rattle.gateway.specs.Words.{IsJob, Serve, serve_job}
@@ -102,6 +105,28 @@ no_headline Cause words files told before now tells same = record {
     none : {entry : Entry} {later : List Entry} (earlier : List Entry) → [] ≡ earlier ++ entry ∷ later → ⊥
     none [] is = cc
     none (one ∷ earlier) is = cc
+
+-- where neither door nor clock is called
+pub idle : (Cause : Type 0) (words : List (List ℕ)) (files : Option Directory) (output : Option (List ℕ)) (beside : Beside)
+    → IfSome files (λ folder. (told : Connections) → Tells output beside told → Headline Cause words folder told beside)
+idle Cause words None output beside = tt
+idle Cause words (Some folder) output beside = λ told tells. no_headline Cause words folder told beside beside tells.tells refl
+
+-- a run of a server
+pub of_run : (words : List (List ℕ)) (command : Serve) (ended : ℕ) (files : Change Directory) (err : Change (List ℕ)) (doorway : Doorway)
+    → IsJob words (serve_job command) → RunsServer command ended files err doorway
+    → IfSome files.before (λ folder. (told : Connections) → Tells doorway.output.before doorway.before told
+    → Headline (HasFailed doorway.output) words folder told doorway.now)
+of_run words command ended files err doorway accepted runs = by files.before runs.answer runs.work runs.ends
+  where
+    by : (before : Option Directory) (answer : Result Setting Exit)
+        → IfSome before (λ folder. UnlessFree is_free answer (SettingOf command.over (Some command.keep) folder)) → EndsServer command answer ended err doorway
+        → IfSome before (λ folder. (told : Connections) → Tells doorway.output.before doorway.before told → Headline (HasFailed doorway.output) words folder told doorway.now)
+    by None answer work ends = tt
+    by (Some folder) (Ok setting) work ends = λ told tells.
+        headline (HasFailed doorway.output) (ended ≡ 0) words folder command setting told doorway.clock doorway.now accepted work (ends.1 told tells)
+    by (Some folder) (Err exit) work ends = λ told tells.
+        no_headline (HasFailed doorway.output) words folder told doorway.before doorway.now tells.tells ends.1.connections
 
 -- ---- what a loop over connections served
 

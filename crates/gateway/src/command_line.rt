@@ -5,7 +5,8 @@ use std::env::{Env, FillError};
 
 /// What `--help` prints. The launcher shows it from here before the program is proved.
 pub const USAGE: &str = "\
-usage: gateway to-gtfsrt SCHEDULE --at MOMENT [--et FILE | --sx FILE]...
+usage: gateway serve     SCHEDULE --keep K --listen ADDRESS --connections C
+       gateway to-gtfsrt SCHEDULE --at MOMENT [--et FILE | --sx FILE]...
        gateway to-siri   SCHEDULE --at MOMENT --feed FILE
        gateway show      SCHEDULE --feed FILE
        gateway --help | --version
@@ -13,9 +14,19 @@ usage: gateway to-gtfsrt SCHEDULE --at MOMENT [--et FILE | --sx FILE]...
 SCHEDULE  --gtfs DIR ZONE --from DAY --days N: a GTFS Schedule folder, its zone,
           the first service day, and how many service days, from 1 to 32
 ZONE      --zone-rule RULE, a POSIX rule, or --zone-file FILE, a TZif file
+K         how many days before the present one stay, below N and at most 31
+ADDRESS   where connections are taken, such as 127.0.0.1:8080
+C         how many connections are served, from 1 to 4294967295
 MOMENT    when the result is made, in UTC
 FILE      a delivery in JSON (--et, --sx), or a feed in protobuf (--feed)
 
+serve takes deliveries and feeds by POST, and answers with a feed and a SIRI
+delivery by GET; its window of days rolls on with the clock:
+  ./gateway serve --gtfs examples/sample \\
+    --zone-rule CET-1CEST,M3.5.0,M10.5.0/3 --from 2024-05-01 --days 2 \\
+    --keep 0 --listen 127.0.0.1:8080 --connections 1000
+  curl --data-binary @examples/late.json http://127.0.0.1:8080/siri/et
+  curl http://127.0.0.1:8080/gtfs-rt > late.pb
 to-gtfsrt makes a GTFS Realtime feed of SIRI timetables and situations:
   ./gateway to-gtfsrt --gtfs examples/sample \\
     --zone-rule CET-1CEST,M3.5.0,M10.5.0/3 --from 2024-05-01 --days 2 \\
@@ -30,8 +41,9 @@ show prints how each stop of the journeys of a feed reads:
     --feed examples/late.pb
 
 Standard output gets the result, standard error a report on each file or why
-there is no result; of show, the report ends the result. Statuses: 0 done,
-2 bad words, 65 bad input, 66 a missing file, 71 no memory, 74 a failed device.
+there is no result; of show, the report ends the result; of serve, each answer
+has its own. Statuses: 0 done, 2 bad words, 65 bad input, 66 a missing file,
+71 no memory, 74 a failed device.
 ";
 
 // The most bytes of a word, which Linux takes no longer.

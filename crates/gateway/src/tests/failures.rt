@@ -133,7 +133,7 @@ fn a_failed_write_is_a_failure(rt: HostRuntime) {
 
 // What a run is given that is refused, with the status and the text of the refusal.
 static REFUSALS: [(&str, &[Other], &[u64], u8, &str); 6] = [
-    ("serve", &[], &[], 2, "gateway: bad word 0\n"),
+    ("server", &[], &[], 2, "gateway: bad word 0\n"),
     (
         WORDS,
         &[("g/trips.txt", None)],
