@@ -9,6 +9,8 @@ from .moments import read_utc
 FIRST_DAY = date(1971, 1, 1)
 LAST_DAY = date(9997, 12, 31)
 MOST_DAYS = 32
+MOST_KEPT = 31
+MOST_CONNECTIONS = 4_294_967_295
 
 
 class BadWord(Exception):
@@ -31,6 +33,9 @@ class Work:
     days: int = 0
     at: int = None
     feed: str = None
+    keep: int = None
+    listen: str = None
+    connections: int = None
     further: list = field(default_factory=list)  # pairs of "--et" or "--sx" and a file
 
 
@@ -45,11 +50,15 @@ def day_word(text):
     return day if FIRST_DAY <= day <= LAST_DAY else None
 
 
+def number_word(text, least, most):
+    """A number in 1 to 10 decimal digits."""
+    return int(text) if re.fullmatch(r"[0-9]{1,10}", text) and least <= int(text) <= most else None
+
+
 def days_word(text, first):
     """A number of days from the first one, all of which may be in a window."""
-    if not re.fullmatch(r"[0-9]{1,10}", text) or not 1 <= int(text) <= MOST_DAYS:
-        return None
-    return int(text) if (LAST_DAY - first).days >= int(text) - 1 else None
+    days = number_word(text, 1, MOST_DAYS)
+    return days if days is not None and (LAST_DAY - first).days >= days - 1 else None
 
 
 def read_words(raw):
@@ -71,7 +80,7 @@ def read_words(raw):
     def text():
         return take(lambda word: word or None)
 
-    work = Work(command=flag("to-gtfsrt", "to-siri", "show"))
+    work = Work(command=flag("serve", "to-gtfsrt", "to-siri", "show"))
     flag("--gtfs")
     work.gtfs = text()
     if flag("--zone-rule", "--zone-file") == "--zone-rule":
@@ -82,6 +91,16 @@ def read_words(raw):
     work.first = take(day_word)
     flag("--days")
     work.days = take(lambda word: days_word(word, work.first))
+    if work.command == "serve":
+        flag("--keep")
+        work.keep = take(lambda word: number_word(word, 0, min(MOST_KEPT, work.days - 1)))
+        flag("--listen")
+        work.listen = text()
+        flag("--connections")
+        work.connections = take(lambda word: number_word(word, 1, MOST_CONNECTIONS))
+        if place < len(words):
+            raise BadWord(place)
+        return work
     if work.command != "show":
         flag("--at")
         work.at = take(read_utc)

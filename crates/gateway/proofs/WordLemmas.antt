@@ -181,6 +181,10 @@ not_both words command (gtfsrt_task other) is and = name_differs (slice_get word
 not_both words command (siri_task other) is and = name_differs (slice_get words 0) is.says.name and.says.name refl
 not_both words command (show_task other) is and = name_differs (slice_get words 0) is.says.name and.says.name refl
 
+-- words name one address
+pub listens : (words : List (List ℕ)) (a b : Serve) → IsJob words (serve_job a) → IsJob words (serve_job b) → a.listen ≡ b.listen
+listens words a b is and = same_Some _ _ (sym is.says.listen ∙ and.says.listen)
+
 -- what is read at a place where a value is known to be is the value
 pub read_at : {A : Type 0} (f : List ℕ → Option A) (words : List (List ℕ)) (k : ℕ) (known value : A) (word : List ℕ)
     → option_and_then f (slice_get words k) ≡ Some known → word ≡ get_or words k word → f word ≡ Some value

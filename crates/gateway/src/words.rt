@@ -262,7 +262,8 @@ pub fn address(words: &[Text]) -> &str
 {
     match job(words) {
         Ok(Work::Serve(server)) => server.listen.as_str(),
-        _ => "",
+        Ok(Work::Task(_task)) => "",
+        Err(_bad) => "",
     }
 }
 
