@@ -13,7 +13,7 @@ use Rattle.gateway_server.specs.Answers.{IsAnswered, body_refused, feed_shown, m
 use Rattle.gateway_server.specs.Log.{IsFront, IsLawful, IsLawfulLog, answered, lost, no_clock, no_memory}
 use Rattle.gateway_server.specs.Serving.{IsEnd, ServesAll, Tells}
 use Rattle.gw_base.specs.Answers.{UnlessFree}
-use Rattle.gateway.specs.Exits.{is_free}
+use Rattle.gateway.specs.Exits.{is_free, status_of}
 use Rattle.gateway.specs.Headline.{HasArrived, Headline, ServesFeed, ServesText, Shows, ShowsAsTold}
 use Rattle.gateway.specs.Published.{IsSetting}
 use Rattle.gateway.specs.Runs.{Doorway, EndsServer, HasFailed, RunsServer}
@@ -22,6 +22,7 @@ use Rattle.gateway.specs.Work.{Directory, SettingOf}
 use Rattle.gateway.specs.Words.{IsJob, Serve, serve_job}
 use Rattle.gateway.proofs.PublishedLemmas.{is_setting}
 use Rattle.gateway.specs.declared.exit.Exit.{Exit}
+use Rattle.gateway.specs.declared.exit.Exit.TheVariants.{Failed, Memory, Missing, Refused}
 
 -- what an answer under the mark Shown shows
 answer_shows : (Cause : Type 0) (setting : Setting) (arrivals : List Arrival) (entry : Entry) (moment : ℤ) (bytes : List ℕ) → entry.moment ≡ Some moment
@@ -99,12 +100,12 @@ no_headline Cause words files told before now tells same = record {
   entries = [];
   left = told;
   logged = record { tells = rw same tells; log = search rules };
-  shown = λ earlier entry later is shown. absurd (none earlier is);
+  shown = λ earlier entry later is shown. absurd (none earlier entry later is);
 }
   where
-    none : {entry : Entry} {later : List Entry} (earlier : List Entry) → [] ≡ earlier ++ entry ∷ later → ⊥
-    none [] is = cc
-    none (one ∷ earlier) is = cc
+    none : (earlier : List Entry) (entry : Entry) (later : List Entry) → [] ≡ earlier ++ entry ∷ later → ⊥
+    none [] entry later is = cc
+    none (one ∷ earlier) entry later is = cc
 
 -- where neither door nor clock is called
 pub idle : (Cause : Type 0) (words : List (List ℕ)) (files : Option Directory) (output : Option (List ℕ)) (beside : Beside)
@@ -128,12 +129,19 @@ of_run words command ended files err doorway accepted runs = by files.before run
     by (Some folder) (Err exit) work ends = λ told tells.
         no_headline (HasFailed doorway.output) words folder told doorway.before doorway.now tells.tells ends.1.connections
 
+-- no early end has the status of words that are no command's
+pub not_turned_away : (exit : Exit) (ended : ℕ) → ended ≡ status_of exit → ended ≡ 2 → ⊥
+not_turned_away (Refused text) ended is turned = cc
+not_turned_away (Missing text) ended is turned = cc
+not_turned_away Failed ended is turned = cc
+not_turned_away Memory ended is turned = cc
+
 -- ---- what a loop over connections served
 
 pub served : {A E : Type 0} (Cause : Type 0) (before : Kept) (setting : Setting) (told : Connections) (clock : Change (List ℤ)) (output : Option (List ℕ)) (beside : Beside) (now : Kept) (count most : ℕ) (end : Result A E)
     → before.setting ≡ setting → count ≤ most → ServesAll Cause before [] told clock output beside now count → OnOk end ((count ≡ most) ⊎ IsEnd beside)
     → Served Cause (IsOk end) most setting told clock beside
-served Cause before setting told clock output beside now count most end same fits all whole = record {
+served {A} {E} Cause before setting told clock output beside now count most end same fits all whole = record {
   entries = all.entries;
   left = all.left;
   logged = record { tells = all.tells.tells; log = all.log };
@@ -149,7 +157,7 @@ served Cause before setting told clock output beside now count most end same fit
     by : (end : Result A E) → IsOk end → OnOk end ((count ≡ most) ⊎ IsEnd beside) → (length all.entries ≡ most) ⊎ (all.left.coming ≡ [])
     by (Ok value) ok (inl is) = inl (all.count_is ∙ is)
     by (Ok value) ok (inr is) = inr (rw all.tells.tells at is)
-    by (Err fault) ok is = absurd ok
+    by (Err fault) ok is = absurd cc
 
 -- the same, where it is known in another way whether it came to its end
 pub served_as : (Cause End Other : Type 0) (most : ℕ) (setting : Setting) (told : Connections) (clock : Change (List ℤ)) (now : Beside) → (Other → End)

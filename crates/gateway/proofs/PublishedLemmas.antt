@@ -18,8 +18,8 @@ use Rattle.feed_messages.specs.Tables.{MeansFeed}
 use Rattle.gateway_core.specs.Deliveries.{schedule_in}
 use Rattle.gateway.specs.Bodies.{differential_end}
 use Rattle.gateway.specs.Done.{Done}
-use Rattle.gateway.specs.Published.{IsFullFeed, IsSetting, IsZone, PublishesFeed, PublishesLines, PublishesSiri, PublishesTask}
-use Rattle.gateway.specs.Words.{NamedZone, Scope, Show, Task, ToGtfsrt, ToSiri, by_rule, by_file, gtfsrt_task, show_task, siri_task}
+use Rattle.gateway.specs.Published.{IsFullFeed, IsSetting, IsZone, Publishes, PublishesFeed, PublishesLines, PublishesSiri, PublishesTask}
+use Rattle.gateway.specs.Words.{IsJob, NamedZone, Scope, Serve, Show, Task, ToGtfsrt, ToSiri, by_rule, by_file, gtfsrt_task, serve_job, show_task, siri_task, task_job}
 use Rattle.gateway.specs.Work.{Directory, FileFeed, SettingOf, ShowWork, TaskWork, ToGtfsrtWork, ToSiriWork, Zone, body_limit, folder, full, further, zone_limit}
 use Rattle.gateway.specs.declared.exit.Exit.{Exit}
 use Rattle.gateway.specs.declared.exit.Exit.TheVariants.{Refused}
@@ -132,3 +132,16 @@ pub publishes : (files : Option Directory) (task : Task) (done : Done) (before n
     → IfSome files (λ told. PublishesTask task told before now)
 publishes None task done before now work written = tt
 publishes (Some told) task done before now work written = publishes_task told task done before now work written
+
+-- the same by the words
+pub by_task : (words : List (List ℕ)) (files : Option Directory) (task : Task) (before now : Option (List ℕ)) → IsJob words (task_job task)
+    → IfSome files (λ told. PublishesTask task told before now)
+    → IfSome files (λ told. Publishes words told before now)
+by_task words None task before now accepted published = tt
+by_task words (Some told) task before now accepted published = record { job = task_job task; accepted = accepted; published = published }
+
+-- a server writes nothing
+pub by_server : (words : List (List ℕ)) (files : Option Directory) (command : Serve) (told : Option (List ℕ)) → IsJob words (serve_job command)
+    → IfSome files (λ folder. Publishes words folder told told)
+by_server words None command told accepted = tt
+by_server words (Some folder) command told accepted = record { job = serve_job command; accepted = accepted; published = refl }

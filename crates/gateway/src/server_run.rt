@@ -53,6 +53,7 @@ fn served<D: Door, C: Clock>(
 
 /// Serves over the files, and answers the status: 0 where so many connections were served or none is to come, 74 where the files
 /// failed or the door, 71 for want of memory before the first connection.
+
 pub fn run_server<F: Files, D: Door, C: Clock, E: Sink>(
     alloc: Global,
     server: &Server<'_>,

@@ -32,6 +32,7 @@ fn written<S: Sink, E: Sink>(out: &mut S, err: &mut E, done: &Done) -> Result<()
 
 /// Carries out a command over the files, and answers the status. Nothing is written to `out` before all input was read and
 /// accepted.
+
 pub fn run_task<F: Files, S: Sink, E: Sink>(
     alloc: Global,
     task: &Task<'_>,

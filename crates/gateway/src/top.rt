@@ -21,6 +21,7 @@ use std::alloc::Global;
 /// Carries out the words over the devices, and answers the status: 0 where the work was done, 2 for
 /// words of no command, 65 for input that is refused, 66 for a missing file, 71 for want of memory,
 /// 74 where a device failed. Nothing is written to `out` before all input was read and accepted.
+
 pub fn gateway<F: Files, D: Door, C: Clock, S: Sink, E: Sink>(
     alloc: Global,
     words: &[Text],

@@ -1,36 +1,84 @@
--- The window of accepted words, what is published, and how a run ends whose streams failed.
-use Rattle.std.proofs.Common.{Ok, refl, inl, inr}
-use Rattle.gw_base.proofs.CountLemmas.{rose-before, rose-after}
-use Rattle.gw_base.proofs.ToldLemmas.{puts_wider}
-use Rattle.gateway.specs.Works.{job_of}
-use Rattle.gateway.proofs.PublishedLemmas.{publishes}
-use Rattle.gateway.proofs.WordLemmas.{has_window}
+-- What a run shows and publishes, by its words.
+use Rattle.std.proofs.Common.{inl, inr, refl}
+use Rattle.std.specs.Prelude.{ℕ, ◌≡◌}
+use Rattle.gw_base.specs.Changes.{change}
+use Rattle.gw_base.specs.Count.{Rose}
+use Rattle.gateway.specs.Words.{serve_job, task_job}
+use Rattle.gateway.specs.Works.{server_of, task_of}
+use Rattle.gateway.proofs.HeadlineLemmas.{idle, of_run}
+use Rattle.gateway.proofs.PublishedLemmas.{by_server, by_task}
+use Rattle.gateway.proofs.WordLemmas.{has_window, not_both}
 use Rattle.gateway.proofs.top.gateway.Goals as goal
 
-pub carried_out-requires : goal.carried_out-requires
-carried_out-requires g c = has_window c.args.words.now (job_of c.in-Ok.work) c.in-Ok.ensures.accepted
+-- ---- a server
 
-pub returns-in-Ok-written-clause-publishes : goal.returns-in-Ok-written-clause-publishes
-returns-in-Ok-written-clause-publishes g c = λ _.
-    publishes c.args.words.now (g.F.Files.told c.args.files.now) (job_of c.in-Ok.work) c.in-Ok-carried_out.done _ _ c.in-Ok.ensures.accepted
-    c.in-Ok-carried_out.ensures.told c.in-Ok-written.ensures.all.0
+pub run_server-requires-clause-window : goal.run_server-requires-clause-window
+run_server-requires-clause-window g c = has_window c.args.words.now (serve_job (server_of c.in-Ok-Serve.server)) (rw c.in-Ok-Serve.field-0-is at c.in-Ok-Serve.ensures.accepted)
 
-pub returns-clause-run : goal.returns-clause-run
-returns-clause-run g c = inr (record {
-  job = job_of c.in-Ok.work;
-  accepted = c.in-Ok.ensures.accepted;
-  answer = Ok c.in-Ok-carried_out.done;
-  work = c.in-Ok-carried_out.ensures.told;
-  cause = λ is. absurd cc;
-  ends = inr (record {
-    status_is = c.ended-in-Err-written.ensures.status;
-    cause = elim (c.in-Err-written.ensures.cause refl) [
-      | inl out ↦ inl out
-      | inr err ↦ inr (rose-before _ _ _ err c.ended-in-Err-written.ensures.counts)
-    ];
-    out = c.in-Err-written.ensures.out;
-    reported = c.in-Err-written.ensures.err.0;
-    within = c.in-Err-written.ensures.err.1;
-    err = rw (← c.in-Err-written.ensures.err.2) (puts_wider _ _ _ _ _ (rose-after _ _ _ c.written.ensures.counts.1) c.ended-in-Err-written.ensures.front);
-  });
-})
+pub returns-in-Ok-Serve-clause-headline : goal.returns-in-Ok-Serve-clause-headline
+returns-in-Ok-Serve-clause-headline g c =
+    of_run c.args.words.now (server_of c.in-Ok-Serve.server) c.run_server.result (change g.F.Files.told g.F.Files.faults c.args.files.now c.run_server.new.files)
+    (change g.E.Sink.told g.E.Sink.faults c.args.err.now c.run_server.new.err)
+    (record {
+      output = change g.D.Sink.told g.D.Sink.faults c.args.door.now c.run_server.new.door;
+      before = g.D.Sink.beside c.args.door.now;
+      now = g.D.Sink.beside c.run_server.new.door;
+      clock = change g.C.Clock.told g.C.Clock.faults c.args.clock.now c.run_server.new.clock;
+    })
+    (rw c.in-Ok-Serve.field-0-is at c.in-Ok-Serve.ensures.accepted) c.run_server.ensures.run
+
+pub returns-in-Ok-Serve-clause-run : goal.returns-in-Ok-Serve-clause-run
+returns-in-Ok-Serve-clause-run g c = inr (inr (record {
+  command = server_of c.in-Ok-Serve.server;
+  accepted = rw c.in-Ok-Serve.field-0-is at c.in-Ok-Serve.ensures.accepted;
+  runs = c.run_server.ensures.run;
+  nothing = refl;
+}))
+
+pub returns-in-Ok-Serve-clause-publishes : goal.returns-in-Ok-Serve-clause-publishes
+returns-in-Ok-Serve-clause-publishes g c = λ _.
+    by_server c.args.words.now (g.F.Files.told c.args.files.now) (server_of c.in-Ok-Serve.server) (g.S.Sink.told c.args.out.now) (rw c.in-Ok-Serve.field-0-is at c.in-Ok-Serve.ensures.accepted)
+
+pub returns-in-Ok-Serve-clause-uncalled : goal.returns-in-Ok-Serve-clause-uncalled
+returns-in-Ok-Serve-clause-uncalled g c = λ two. absurd (c.run_server.ensures.worded two)
+
+pub returns-in-Ok-Serve-clause-idle : goal.returns-in-Ok-Serve-clause-idle
+returns-in-Ok-Serve-clause-idle g c = λ task is.
+    absurd (not_both c.args.words.now (server_of c.in-Ok-Serve.server) task (rw c.in-Ok-Serve.field-0-is at c.in-Ok-Serve.ensures.accepted) is)
+
+-- ---- a command that ends
+
+pub run_task-requires : goal.run_task-requires
+run_task-requires g c = has_window c.args.words.now (task_job (task_of c.in-Ok-Task.task)) (rw c.in-Ok-Task.field-0-is at c.in-Ok-Task.ensures.accepted)
+
+pub returns-in-Ok-Task-clause-headline : goal.returns-in-Ok-Task-clause-headline
+returns-in-Ok-Task-clause-headline g c =
+    idle (Rose (g.D.Sink.faults c.args.door.now) (g.D.Sink.faults c.args.door.now)) c.args.words.now (g.F.Files.told c.args.files.now)
+    (g.D.Sink.told c.args.door.now) (g.D.Sink.beside c.args.door.now)
+
+pub returns-in-Ok-Task-clause-run : goal.returns-in-Ok-Task-clause-run
+returns-in-Ok-Task-clause-run g c = inr (inl (record {
+  task = task_of c.in-Ok-Task.task;
+  accepted = rw c.in-Ok-Task.field-0-is at c.in-Ok-Task.ensures.accepted;
+  runs = c.run_task.ensures.run;
+}))
+
+pub returns-in-Ok-Task-clause-publishes : goal.returns-in-Ok-Task-clause-publishes
+returns-in-Ok-Task-clause-publishes g c = λ zero.
+    by_task c.args.words.now (g.F.Files.told c.args.files.now) (task_of c.in-Ok-Task.task) _ _ (rw c.in-Ok-Task.field-0-is at c.in-Ok-Task.ensures.accepted) (c.run_task.ensures.publishes zero)
+
+pub returns-in-Ok-Task-clause-uncalled : goal.returns-in-Ok-Task-clause-uncalled
+returns-in-Ok-Task-clause-uncalled g c = λ two. absurd (c.run_task.ensures.worded two)
+
+-- ---- words of no command
+
+pub returns-in-Err-clause-headline : goal.returns-in-Err-clause-headline
+returns-in-Err-clause-headline g c =
+    idle (Rose (g.D.Sink.faults c.args.door.now) (g.D.Sink.faults c.args.door.now)) c.args.words.now (g.F.Files.told c.args.files.now)
+    (g.D.Sink.told c.args.door.now) (g.D.Sink.beside c.args.door.now)
+
+pub returns-in-Err-clause-publishes : goal.returns-in-Err-clause-publishes
+returns-in-Err-clause-publishes g c = λ zero. absurd (not_zero c.turned_away.result c.turned_away.ensures.status zero)
+  where
+    not_zero : (ended : ℕ) → ended ≡ 2 → ended ≡ 0 → ⊥
+    not_zero ended is zero = cc
