@@ -2,7 +2,6 @@
 //! outside (files, sinks, a door of connections, a clock) with objects in memory that keep them.
 #![tactic(auto)]
 
-mod absent;
 mod boxed;
 mod buffer;
 mod clock;
@@ -25,7 +24,6 @@ mod text;
 mod uses;
 mod wire_kind;
 
-pub use absent::{NoClock, NoDoor};
 pub use boxed::Boxed;
 pub use buffer::Buf;
 pub use clock::Clock;

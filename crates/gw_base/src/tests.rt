@@ -131,11 +131,3 @@ fn all_is_put_in_pieces(rt: HostRuntime) {
     assert_eq!(rt; put_all(&mut sink, b"abcde"), Ok(()));
     assert_eq!(rt; sink.pieces.as_slice(), b"abcde".as_slice());
 }
-
-#[test]
-fn what_is_not_there_fails(rt: HostRuntime) {
-    let mut door = NoDoor::new();
-    assert_eq!(rt; door.next(), Err(Failed));
-    assert_eq!(rt; door.write(b"a"), Err(Failed));
-    assert!(rt; NoClock::new().now().is_err());
-}
