@@ -1,4 +1,6 @@
+pub mod CompletenessLemmas
 mod EndLemmas
 mod LoopLemmas
 mod PutLemmas
+mod RoomLeft
 mod TookLemmas
