@@ -6,7 +6,6 @@ use Rattle.gw_base.specs.Count.{Rose}
 use Rattle.gw_base.specs.declared.door.Entry.{Entry}
 use Rattle.gateway_core.specs.Arrivals.{Arrival}
 use Rattle.gateway_core.specs.Standing.{Kept, Stands}
-use Rattle.gateway_core.specs.declared.setting.Setting.{Setting}
 use Rattle.gateway_server.specs.Log.{IsLawful, IsLawfulLog, Leaves, moments_given}
 
 -- a door tells its connections, and of the present one nothing was read or written

@@ -1,5 +1,5 @@
 -- No connection yet, one more, and the end.
-use Rattle.std.proofs.Common.{◌≡◌, ◌≤◌, ◌∙◌, ◌+◌, ◌-◌, Bool, true, false, ℕ, inl, inr, Result, Ok, Err, ap, arith, refl, subst, sym}
+use Rattle.std.proofs.Common.{◌≡◌, ◌≤◌, ◌∙◌, ◌+◌, ◌-◌, Bool, true, false, ℕ, inl, inr, Result, Ok, Err, ap, arith, refl, subst}
 use Rattle.gw_base.specs.Changes.{change}
 use Rattle.gw_base.specs.Count.{Rose}
 use Rattle.gw_base.specs.declared.sink.Failed.{Failed}
