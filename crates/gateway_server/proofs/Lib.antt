@@ -1,3 +1,4 @@
+mod CauseLemmas
 pub mod CompletenessLemmas
 mod EndLemmas
 mod LoopLemmas
