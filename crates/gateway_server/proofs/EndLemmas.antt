@@ -1,9 +1,8 @@
 -- How a connection ends.
-use Rattle.std.proofs.Common.{◌≡◌, ◌∙◌, ◌≤◌, ◌<◌, ◌++◌, ◌∷◌, [], ℕ, ℤ, Bool, true, false, List, Option, Some, None, Result, Ok, Err, length, take, ap, sym, refl, subst}
-use Rattle.std.specs.Prelude.{IfSome, MatchOption, ◌-◌, if◌then◌else◌, nat_le, option_map}
+use Rattle.std.proofs.Common.{◌≡◌, ◌∙◌, ◌++◌, ◌∷◌, [], ℕ, ℤ, Bool, true, false, List, Option, Some, None, Ok, Err, take, ap, sym, refl, subst}
+use Rattle.std.specs.Prelude.{IfSome, MatchOption, option_map}
 use Rattle.gw_base.specs.Changes.{Change}
 use Rattle.gw_base.specs.Connections.{Beside, Connections, IsOutput, Logs}
-use Rattle.gw_base.specs.Count.{Rose}
 use Rattle.gw_base.specs.Told.{PutsUnless, with_bytes}
 use Rattle.gw_base.specs.declared.door.Entry.{Entry}
 use Rattle.gw_base.specs.declared.door.Mark.{Mark}
@@ -11,11 +10,10 @@ use Rattle.gw_base.specs.declared.door.Mark.TheVariants as mark
 use Rattle.door_talk.specs.Requests.{AsksFor, HasRead}
 use Rattle.door_talk.specs.declared.asked.Asked.{Asked}
 use Rattle.http_talk.specs.Asked.{is_post}
-use Rattle.http_talk.specs.Request.{Get, IsHead, IsRequest, Post, Refused, Request, ended, headed, too_long, with_body}
+use Rattle.http_talk.specs.Request.{Get, IsRequest, Post, Refused, ended, headed, too_long}
 use Rattle.http_talk.specs.declared.answer.Answer.TheVariants as answer
 use Rattle.http_talk.specs.declared.refusal.Refusal.{Refusal}
 use Rattle.http_talk.specs.declared.refusal.Refusal.TheVariants as refusal
-use Rattle.http_talk.specs.declared.target.Head.{Head}
 use Rattle.http_talk.specs.declared.target.Target.{Target}
 use Rattle.gateway_core.specs.Arrivals.{Arrival}
 use Rattle.gateway_core.specs.Standing.{Kept, Stands}
@@ -23,7 +21,7 @@ use Rattle.gateway_core.specs.Taking.{report_json}
 use Rattle.gateway_core.specs.declared.setting.Setting.{Setting}
 use Rattle.gateway_server.specs.Answers as answers
 use Rattle.gateway_server.specs.Answers.{IsAnswered, answer_of, refused_with, status_of}
-use Rattle.gateway_server.specs.Log.{IsFront, IsLawful, IsPosted, Leaves, answered, brought, is_taken, lost, no_clock, no_memory, nothing}
+use Rattle.gateway_server.specs.Log.{IsFront, IsLawful, IsPosted, answered, brought, is_taken, lost, no_clock, no_memory, nothing}
 use Rattle.gateway_server.specs.Serving.{AsksClock, IsFresh, IsLogged, Serves}
 use Rattle.gateway_server.specs.Steps as steps
 use Rattle.gateway_server.specs.Steps.{Answers, PutsShown, PutsTaken, entry_at}

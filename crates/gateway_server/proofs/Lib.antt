@@ -1,4 +1,7 @@
+mod CauseLemmas
+pub mod CompletenessLemmas
 mod EndLemmas
 mod LoopLemmas
 mod PutLemmas
+mod RoomLeft
 mod TookLemmas

@@ -2,7 +2,6 @@
 use Rattle.std.proofs.Common.{◌≡◌, ◌∙◌, ◌≤◌, ◌<◌, ◌+◌, ◌++◌, ◌∷◌, [], ℕ, ℤ, List, Option, Some, None, length, map, ap, sym, refl, subst, append_assoc, length-append, append-nil, arith}
 use Rattle.std.proofs.lemmas.Grind.{flat_map-append}
 use Rattle.std.proofs.lemmas.List.{map-append}
-use Rattle.std.specs.List.{flat_map}
 use Rattle.std.specs.Prelude.{IfSome, MatchOption, option_map}
 use Rattle.gw_base.specs.Changes.{Change}
 use Rattle.gw_base.specs.Connections.{Arrives, Beside, Connections, NoneComes}

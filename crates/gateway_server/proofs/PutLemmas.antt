@@ -1,5 +1,5 @@
 -- An answer is its head and then its body.
-use Rattle.std.proofs.Common.{◌≡◌, ◌∙◌, ◌≤◌, ◌++◌, ℕ, List, Option, length, ap, sym, subst}
+use Rattle.std.proofs.Common.{◌≡◌, ◌∙◌, ◌≤◌, ℕ, List, Option, length, ap, subst}
 use Rattle.gw_base.specs.Count.{Rose}
 use Rattle.gw_base.specs.Told.{PutsUnless, with_bytes}
 use Rattle.gw_base.proofs.CountLemmas.{rose-after}

@@ -1,5 +1,5 @@
 -- What is answered to a connection (RFC 9112), over what arrived of those before it.
-use Rattle.std.specs.Prelude.{◌≡◌, ℕ, ℤ, Bool, true, false, List, ◌∷◌, ◌++◌, length}
+use Rattle.std.specs.Prelude.{◌≡◌, ℕ, ℤ, List, ◌∷◌, ◌++◌, length}
 use Rattle.gw_base.specs.declared.door.Mark.{Mark}
 use Rattle.gw_base.specs.declared.door.Mark.TheVariants as mark
 use Rattle.http_talk.specs.Answers.{answer_head}

@@ -6,10 +6,8 @@ use Rattle.feed_messages.specs.Faults.{HasFault}
 use Rattle.feed_messages.specs.Tables.{MeansFeed}
 use Rattle.feed_messages.specs.declared.fault.FeedFault.{FeedFault}
 use Rattle.feed_messages.specs.declared.fault.FeedFault.TheVariants as feed_fault
-use Rattle.journey_model.specs.Records.{Recorded}
 use Rattle.journey_model.specs.Schedules.{Schedule}
 use Rattle.journey_model.specs.declared.report.Report.{Report}
-use Rattle.journey_model.specs.declared.situation.Situation.{Situation}
 use Rattle.serde_json.specs.Data.{Data}
 use Rattle.siri_calls.specs.Verdicts as journey_items
 use Rattle.siri_calls.specs.Verdicts.{tree_of}

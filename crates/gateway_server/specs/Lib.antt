@@ -1,5 +1,6 @@
 pub mod Answers
 pub mod Bodies
+pub mod Completeness
 pub mod Log
 pub mod Serving
 pub mod Taking

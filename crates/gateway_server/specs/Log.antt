@@ -1,6 +1,7 @@
 -- The log of a server: each connection that was finished, and what arrived of them.
-use Rattle.std.specs.Prelude.{◌≡◌, ◌≤◌, ◌<◌, ℕ, ℤ, Bool, true, false, List, [], ◌∷◌, length, take, Option, Some, None, Ok}
+use Rattle.std.specs.Prelude.{◌≡◌, ◌≤◌, ◌<◌, ◌+◌, ◌⊎◌, ℕ, ℤ, Bool, true, false, List, [], ◌∷◌, length, take, Option, Some, None, Ok}
 use Rattle.std.specs.List.{flat_map}
+use Rattle.gw_base.specs.Count.{last_count}
 use Rattle.gw_base.specs.declared.door.Entry.{Entry}
 use Rattle.gw_base.specs.declared.door.Mark.{Mark}
 use Rattle.gw_base.specs.declared.door.Mark.TheVariants as mark
@@ -75,3 +76,28 @@ with_moment (Some moment) = moment ∷ []
 
 abbrev pub moments_given : List Entry → List ℤ
 moments_given entries = flat_map (λ entry. with_moment entry.moment) entries
+
+-- ---- the causes, one by one
+
+-- so many faults were counted between two values of a count, which stands still at its last value
+abbrev pub AreCounted : ℕ → ℕ → ℕ → Type 0
+AreCounted many before now = (before + many ≤ now) ⊎ (last_count ≤ now)
+
+-- connections one after the other, of which each has a cause of its own or none, as the list says
+abbrev pub IsCausedLog : Setting → List Arrival → List Entry → List Bool → List Arrival → Type 0
+IsCausedLog setting before [] [] now = now ≡ before
+IsCausedLog setting before [] (cause ∷ causes) now = ⊥
+IsCausedLog setting before (entry ∷ later) [] now = ⊥
+IsCausedLog setting before (entry ∷ later) (cause ∷ causes) now =
+    IsLawful (cause ≡ true) setting before entry
+    × (after : List Arrival) × Leaves setting before entry after × IsCausedLog setting after later causes now
+
+-- the clock failed for a connection
+abbrev pub is_clock_fault : Mark → Bool
+is_clock_fault mark.ClockFault = true
+is_clock_fault mark.Taken = false
+is_clock_fault mark.Fed = false
+is_clock_fault mark.Shown = false
+is_clock_fault (mark.Refused status) = false
+is_clock_fault mark.Memory = false
+is_clock_fault mark.Lost = false

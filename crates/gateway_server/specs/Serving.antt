@@ -1,5 +1,6 @@
 -- What one connection is at its end: an entry of the log, and what a gateway stands for then.
-use Rattle.std.specs.Prelude.{◌≡◌, ◌<◌, ℕ, ℤ, List, [], ◌∷◌, ◌++◌, length, map, Option, Some, None, IfSome, option_map}
+use Rattle.std.specs.Prelude.{◌≡◌, ◌<◌, ◌+◌, ℕ, ℤ, Bool, List, [], ◌∷◌, ◌++◌, length, map, Option, Some, None, IfSome, option_map, Result, Ok, Err}
+use Rattle.std.specs.List.{count_by}
 use Rattle.gw_base.specs.Changes.{Change}
 use Rattle.gw_base.specs.Connections.{Beside, Connections}
 use Rattle.gw_base.specs.Count.{Rose}
@@ -7,7 +8,7 @@ use Rattle.gw_base.specs.declared.door.Entry.{Entry}
 use Rattle.gateway_core.specs.Arrivals.{Arrival}
 use Rattle.gateway_core.specs.Standing.{Kept, Stands}
 use Rattle.gateway_core.specs.declared.setting.Setting.{Setting}
-use Rattle.gateway_server.specs.Log.{IsLawful, IsLawfulLog, Leaves, moments_given}
+use Rattle.gateway_server.specs.Log.{AreCounted, IsCausedLog, IsLawful, IsLawfulLog, Leaves, is_clock_fault, moments_given}
 
 -- a door tells its connections, and of the present one nothing was read or written
 pub record IsFresh (output : Option (List ℕ)) (beside : Beside) (told : Connections) : Type 0 where
@@ -61,3 +62,17 @@ pub record ServesAll (Cause : Type 0) (before : Kept) (arrivals : List Arrival) 
 -- no connection is to come
 abbrev pub IsEnd : Beside → Type 0
 IsEnd beside = IfSome beside.told (λ told. told.coming ≡ [])
+
+-- how many faults an answer tells
+abbrev pub failures : {A E : Type 0} → Result A E → ℕ
+failures (Ok value) = 0
+failures (Err fault) = 1
+
+-- the causes of entries, one by one: those that have one, for which alone an entry may be lost or its output shorter than its answer,
+-- are with so many further faults no more than the door counted, and those for which the clock failed no more than the clock counted
+pub record CountsCauses (setting : Setting) (arrivals : List Arrival) (entries : List Entry) (further door_before door_now clock_before clock_now : ℕ) : Type 0 where
+  pub causes : List Bool
+  pub arrived : List Arrival
+  pub lawful : IsCausedLog setting arrivals entries causes arrived
+  pub door : AreCounted (count_by (λ cause. cause) causes + further) door_before door_now
+  pub clock : AreCounted (count_by (λ entry. is_clock_fault entry.mark) entries) clock_before clock_now

@@ -3,11 +3,13 @@
 #![tactic(auto)]
 
 mod answering;
+mod completeness;
 mod looping;
 mod serving;
 #[cfg(test)]
 mod tests;
 mod took;
 
+pub use completeness::what_is_well_formed_is_taken;
 pub use looping::serve;
 pub use serving::serve_one;

@@ -1,5 +1,5 @@
 -- The head, and then the body.
-use Rattle.std.proofs.Common.{◌∙◌, refl, sym}
+use Rattle.std.proofs.Common.{◌∙◌, refl}
 use Rattle.gateway_server.proofs.PutLemmas.{puts_both, puts_head}
 use Rattle.gateway_server.proofs.answering.put_answer.Goals as goal
 

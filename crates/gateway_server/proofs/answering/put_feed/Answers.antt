@@ -1,5 +1,5 @@
 -- The head, and then the feed.
-use Rattle.std.proofs.Common.{◌∙◌, refl, sym}
+use Rattle.std.proofs.Common.{◌∙◌, refl}
 use Rattle.gateway_core.specs.Standing.{served}
 use Rattle.http_talk.specs.declared.answer.Answer.TheVariants as answer
 use Rattle.gateway_server.proofs.PutLemmas.{puts_both, puts_head}

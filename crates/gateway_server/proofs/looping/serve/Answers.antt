@@ -1,10 +1,11 @@
 -- No connection yet, one more, and the end.
-use Rattle.std.proofs.Common.{◌≡◌, ◌≤◌, ◌∙◌, ◌+◌, ◌-◌, Bool, true, false, ℕ, inl, inr, Result, Ok, Err, ap, arith, refl, subst, sym}
+use Rattle.std.proofs.Common.{◌≡◌, ◌≤◌, ◌∙◌, ◌+◌, ◌-◌, Bool, true, false, ℕ, inl, inr, Result, Ok, Err, ap, arith, refl, subst}
 use Rattle.gw_base.specs.Changes.{change}
 use Rattle.gw_base.specs.Count.{Rose}
 use Rattle.gw_base.specs.declared.sink.Failed.{Failed}
 use Rattle.gw_base.proofs.CountLemmas.{rose-after, rose-before}
 use Rattle.gateway_server.specs.Serving.{ServesAll}
+use Rattle.gateway_server.proofs.CauseLemmas.{counts_end, counts_more, counts_none, no_further, one_further}
 use Rattle.gateway_server.proofs.LoopLemmas.{is_end, serves_end, serves_more, serves_none}
 use Rattle.gateway_server.proofs.looping.serve.Goals as goal
 
@@ -53,6 +54,8 @@ loop-left-init g c = record {
       (g.D.Sink.told c.args.door.now) (g.D.Sink.beside c.args.door.now) c.args.gate.now count) (none_yet c.args.connections)
       (serves_none (Rose (g.D.Sink.faults c.args.door.now) (g.D.Sink.faults c.args.door.now)) c.args.gate.now arrivals told (g.C.Clock.told c.args.clock.now) (g.C.Clock.faults c.args.clock.now) (g.C.Clock.faults c.args.clock.now)
       (g.D.Sink.told c.args.door.now) (g.D.Sink.beside c.args.door.now) tells stands);
+  counted = λ told tells arrivals stands.
+      counts_none c.args.gate.now arrivals told (g.D.Sink.told c.args.door.now) (g.D.Sink.beside c.args.door.now) (g.D.Sink.faults c.args.door.now) (g.C.Clock.faults c.args.clock.now) tells stands;
 }
 
 pub loop-left-preserved : goal.loop-left-preserved
@@ -75,6 +78,14 @@ loop-left-preserved g c = record {
       (λ rose. rose-after (g.D.Sink.faults c.args.door.now) (g.D.Sink.faults c.next.new.self) (g.D.Sink.faults c.serve_one.new.door) came rose)
       c.loop-left.invariant.setting c.loop-left.invariant.clock (c.in-Ok-true.ensures.came (ap Ok c.in-Ok-true.field-0-test)) (c.in-Ok-true.ensures.fresh (ap Ok c.in-Ok-true.field-0-test))
       c.serve_one.ensures.serves);
+  counted = λ told tells arrivals stands.
+      counts_more c.args.gate.now.setting c.loop-left.gate c.serve_one.new.gate arrivals told (g.C.Clock.told c.loop-left.clock) (g.C.Clock.told c.serve_one.new.clock)
+      (g.D.Sink.faults c.args.door.now) (g.D.Sink.faults c.loop-left.door) (g.D.Sink.faults c.next.new.self) (g.D.Sink.faults c.serve_one.new.door)
+      (g.C.Clock.faults c.args.clock.now) (g.C.Clock.faults c.loop-left.clock) (g.C.Clock.faults c.serve_one.new.clock)
+      (g.D.Sink.beside c.loop-left.door) (g.D.Sink.beside c.next.new.self) (g.D.Sink.beside c.serve_one.new.door)
+      (g.D.Sink.told c.loop-left.door) (g.D.Sink.told c.next.new.self) (g.D.Sink.told c.serve_one.new.door) (c.loop-left.invariant.counted told tells arrivals stands)
+      c.loop-left.invariant.setting c.next.ensures.counts.never_falls c.serve_one.ensures.counts c.serve_one.ensures.clock
+      (c.in-Ok-true.ensures.came (ap Ok c.in-Ok-true.field-0-test)) (c.in-Ok-true.ensures.fresh (ap Ok c.in-Ok-true.field-0-test)) c.serve_one.ensures.serves;
 }
   where
     came : g.D.Sink.faults c.args.door.now ≤ g.D.Sink.faults c.next.new.self
@@ -114,3 +125,24 @@ returns-clause-serves g c = λ told tells arrivals stands. (
   c.loop-left.invariant.serves told tells arrivals stands,
   inl (all_served c.args.connections c.loop-left.left c.loop-left-test.false),
 )
+
+pub returns-in-Ok-false-clause-causes : goal.returns-in-Ok-false-clause-causes
+returns-in-Ok-false-clause-causes g c = λ told left tells ends arrivals stands logged log.
+    counts_end c.args.gate.now.setting arrivals told left (g.D.Sink.told c.loop-left.door) (g.D.Sink.beside c.loop-left.door) (g.D.Sink.beside c.next.new.self) c.loop-left.gate logged 0
+    (g.D.Sink.faults c.args.door.now) (g.D.Sink.faults c.loop-left.door) (g.D.Sink.faults c.next.new.self) (g.C.Clock.faults c.args.clock.now) (g.C.Clock.faults c.loop-left.clock)
+    (c.loop-left.invariant.counted told tells arrivals stands) (c.in-Ok-false.ensures.none (ap Ok c.in-Ok-false.field-0-test)).0 ends log
+    (no_further (g.D.Sink.faults c.args.door.now) (g.D.Sink.faults c.loop-left.door) (g.D.Sink.faults c.next.new.self) c.next.ensures.counts.never_falls)
+
+pub returns-in-Err-clause-causes : goal.returns-in-Err-clause-causes
+returns-in-Err-clause-causes g c = λ told left tells ends arrivals stands logged log.
+    counts_end c.args.gate.now.setting arrivals told left (g.D.Sink.told c.loop-left.door) (g.D.Sink.beside c.loop-left.door) (g.D.Sink.beside c.next.new.self) c.loop-left.gate logged 1
+    (g.D.Sink.faults c.args.door.now) (g.D.Sink.faults c.loop-left.door) (g.D.Sink.faults c.next.new.self) (g.C.Clock.faults c.args.clock.now) (g.C.Clock.faults c.loop-left.clock)
+    (c.loop-left.invariant.counted told tells arrivals stands) c.in-Err.ensures.failed ends log
+    (one_further (g.D.Sink.faults c.args.door.now) (g.D.Sink.faults c.loop-left.door) (g.D.Sink.faults c.next.new.self) (c.in-Err.ensures.counts.cause refl) c.next.ensures.counts.never_falls)
+
+pub returns-clause-causes : goal.returns-clause-causes
+returns-clause-causes g c = λ told left tells ends arrivals stands logged log.
+    counts_end c.args.gate.now.setting arrivals told left (g.D.Sink.told c.loop-left.door) (g.D.Sink.beside c.loop-left.door) (g.D.Sink.beside c.loop-left.door) c.loop-left.gate logged 0
+    (g.D.Sink.faults c.args.door.now) (g.D.Sink.faults c.loop-left.door) (g.D.Sink.faults c.loop-left.door) (g.C.Clock.faults c.args.clock.now) (g.C.Clock.faults c.loop-left.clock)
+    (c.loop-left.invariant.counted told tells arrivals stands) refl ends log
+    (no_further (g.D.Sink.faults c.args.door.now) (g.D.Sink.faults c.loop-left.door) (g.D.Sink.faults c.loop-left.door) (le_self (g.D.Sink.faults c.loop-left.door)))

@@ -6,6 +6,7 @@ use Rattle.gw_base.specs.Count.{Rose}
 use Rattle.gateway_core.specs.Arrivals.{Arrival}
 use Rattle.gateway_core.specs.Standing.{Stands}
 use Rattle.gateway_server.specs.Serving.{ServesAll, Tells}
+use Rattle.gateway_server.proofs.CauseLemmas.{CountsSoFar}
 use Rattle.gateway_server.proofs.looping.serve.Given as goal
 
 abbrev pub invariant-loop-left : goal.invariant-loop-left
@@ -18,6 +19,9 @@ invariant-loop-left g l = record {
   serves : (told : Connections) → Tells (g.D.Sink.told l.fn.door) (g.D.Sink.beside l.fn.door) told → (arrivals : List Arrival) → Stands l.fn.gate arrivals
       → ServesAll (Rose (g.D.Sink.faults l.fn.door) (g.D.Sink.faults l.door)) l.fn.gate arrivals told (change g.C.Clock.told g.C.Clock.faults l.fn.clock l.clock)
       (g.D.Sink.told l.door) (g.D.Sink.beside l.door) l.gate (l.connections - l.left);
+  counted : (told : Connections) → Tells (g.D.Sink.told l.fn.door) (g.D.Sink.beside l.fn.door) told → (arrivals : List Arrival) → Stands l.fn.gate arrivals
+      → CountsSoFar l.fn.gate.setting arrivals told (g.D.Sink.told l.door) (g.D.Sink.beside l.door) l.gate (g.D.Sink.faults l.fn.door) (g.D.Sink.faults l.door)
+      (g.C.Clock.faults l.fn.clock) (g.C.Clock.faults l.clock);
 }
 
 abbrev pub decreases-loop-left : goal.decreases-loop-left

@@ -1,5 +1,4 @@
 -- With a moment, and without.
-use Rattle.std.proofs.Common.{◌∙◌, refl}
 use Rattle.gw_base.specs.Changes.{change}
 use Rattle.gw_base.specs.Count.{Rose}
 use Rattle.gw_base.proofs.CountLemmas.{rose-before}

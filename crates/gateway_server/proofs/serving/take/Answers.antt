@@ -1,5 +1,5 @@
 -- By what the gateway did with the body.
-use Rattle.std.proofs.Common.{◌≡◌, ◌∙◌, List, ℕ, refl, subst}
+use Rattle.std.proofs.Common.{◌∙◌, List, ℕ, refl, subst}
 use Rattle.gw_base.specs.Count.{Rose}
 use Rattle.gw_base.specs.Told.{PutsUnless}
 use Rattle.http_talk.specs.declared.answer.Answer.TheVariants as answer
