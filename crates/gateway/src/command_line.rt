@@ -22,11 +22,11 @@ FILE      a delivery in JSON (--et, --sx), or a feed in protobuf (--feed)
 
 serve takes deliveries and feeds by POST, and answers with a feed and a SIRI
 delivery by GET; its window of days rolls on with the clock:
-  ./gateway serve --gtfs examples/sample \\
-    --zone-rule CET-1CEST,M3.5.0,M10.5.0/3 --from 2024-05-01 --days 2 \\
-    --keep 0 --listen 127.0.0.1:8080 --connections 1000
-  curl --data-binary @examples/late.json http://127.0.0.1:8080/siri/et
-  curl http://127.0.0.1:8080/gtfs-rt > late.pb
+  ./gateway serve --gtfs FOLDER --zone-rule CET-1CEST,M3.5.0,M10.5.0/3 \\
+    --from 2026-11-28 --days 3 --keep 1 --listen 127.0.0.1:8080 \\
+    --connections 1000000
+  curl --data-binary @timetables.json http://127.0.0.1:8080/siri/et
+  curl http://127.0.0.1:8080/gtfs-rt > feed.pb
 to-gtfsrt makes a GTFS Realtime feed of SIRI timetables and situations:
   ./gateway to-gtfsrt --gtfs examples/sample \\
     --zone-rule CET-1CEST,M3.5.0,M10.5.0/3 --from 2024-05-01 --days 2 \\

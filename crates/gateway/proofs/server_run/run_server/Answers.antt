@@ -30,9 +30,9 @@ returns-in-Ok-Ok-clause-run g c = record {
   ends = (
     inl (refl, refl),
     λ told tells.
-    served_as (Rose (g.D.Sink.faults c.args.door.now) (g.D.Sink.faults c.served.new.door)) (IsOk c.in-Ok-Ok.field-0) (◌≡◌ {A = ℕ} 0 0)
-    c.args.server.now.connections c.in-Ok.setting told (change g.C.Clock.told g.C.Clock.faults c.args.clock.now c.served.new.clock)
-    (g.D.Sink.beside c.served.new.door) (λ _. rw c.in-Ok-Ok.field-0-is refl) (c.in-Ok-Ok.ensures.served told tells),
+        served_as (Rose (g.D.Sink.faults c.args.door.now) (g.D.Sink.faults c.served.new.door)) (IsOk c.in-Ok-Ok.field-0) (◌≡◌ {A = ℕ} 0 0)
+        c.args.server.now.connections c.in-Ok.setting told (change g.C.Clock.told g.C.Clock.faults c.args.clock.now c.served.new.clock)
+        (g.D.Sink.beside c.served.new.door) (λ _. rw c.in-Ok-Ok.field-0-is refl) (c.in-Ok-Ok.ensures.served told tells),
   );
 }
 
@@ -44,10 +44,10 @@ returns-in-Ok-Err-clause-run g c = record {
   ends = (
     inr (c.in-Ok-Err.ensures.failed (rw c.in-Ok-Err.field-0-is refl), record { status_is = c.ended-in-Ok-Err.ensures.status; told = c.ended-in-Ok-Err.ensures.front }),
     λ told tells.
-    served_as (Rose (g.D.Sink.faults c.args.door.now) (g.D.Sink.faults c.served.new.door)) (IsOk c.in-Ok-Err.field-0) (c.ended-in-Ok-Err.result ≡ 0)
-    c.args.server.now.connections c.in-Ok.setting told (change g.C.Clock.told g.C.Clock.faults c.args.clock.now c.served.new.clock)
-    (g.D.Sink.beside c.served.new.door) (λ zero. absurd (not_zero c.ended-in-Ok-Err.result c.ended-in-Ok-Err.ensures.status zero))
-    (c.in-Ok-Err.ensures.served told tells),
+        served_as (Rose (g.D.Sink.faults c.args.door.now) (g.D.Sink.faults c.served.new.door)) (IsOk c.in-Ok-Err.field-0) (c.ended-in-Ok-Err.result ≡ 0)
+        c.args.server.now.connections c.in-Ok.setting told (change g.C.Clock.told g.C.Clock.faults c.args.clock.now c.served.new.clock)
+        (g.D.Sink.beside c.served.new.door) (λ zero. absurd (not_zero c.ended-in-Ok-Err.result c.ended-in-Ok-Err.ensures.status zero))
+        (c.in-Ok-Err.ensures.served told tells),
   );
 }
   where
