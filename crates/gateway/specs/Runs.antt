@@ -7,7 +7,7 @@ use Rattle.gw_base.specs.Count.{Rose}
 use Rattle.gw_base.specs.Told.{with_bytes, PutsUnless}
 use Rattle.gateway.specs.Done.{Done}
 use Rattle.gateway.specs.Exits.{is_free, status_of, text_of}
-use Rattle.gateway.specs.Serving.{Served}
+use Rattle.gateway.specs.Serving.{HasCounted, Served}
 use Rattle.gateway.specs.Work.{Directory, SettingOf, TaskWork}
 use Rattle.gateway.specs.Words.{IsJob, IsRefusedAt, Serve, Task, serve_job, task_job}
 use Rattle.gateway.specs.declared.exit.Exit.{Exit}
@@ -111,17 +111,25 @@ pub record IsUncalled (doorway : Doorway) : Type 0 where
   pub clock : doorway.clock.now ≡ doorway.clock.before
   pub clock_faults : doorway.clock.faults_now ≡ doorway.clock.faults_before
 
--- a server whose connections came to an end: with status 0 and nothing told, or with 74 where its door failed
-abbrev pub EndsServing : ℕ → Change (List ℕ) → Change (List ℕ) → Type 0
-EndsServing ended err output =
-    ((ended ≡ 0) × GotNothing err) ⊎ (HasFailed output × TellsEnd 74 (codes "failed") ended err)
+-- the faults at a door that tells its connections: those of its entries, and so many besides
+abbrev pub CountsFaults : Setting → ℕ → Doorway → Type 0
+CountsFaults setting besides doorway =
+    (told : Connections) → Tells doorway.output.before doorway.before told
+    → HasCounted setting told doorway.now besides doorway.output doorway.clock
+
+-- a server whose connections came to an end: with status 0 and nothing told; or with 74 where its door failed, which is one
+-- fault besides those of the connections
+abbrev pub EndsServing : Setting → ℕ → Change (List ℕ) → Doorway → Type 0
+EndsServing setting ended err doorway =
+    ((ended ≡ 0) × GotNothing err × CountsFaults setting 0 doorway)
+    ⊎ (HasFailed doorway.output × TellsEnd 74 (codes "failed") ended err × CountsFaults setting 1 doorway)
 
 -- a server ends as what it is to work over comes out: early, before its first connection, or behind its connections; and it
 -- served what came to a door that tells its connections
 abbrev pub EndsServer : Serve → Result Setting Exit → ℕ → Change (List ℕ) → Doorway → Type 0
 EndsServer command (Err exit) ended err doorway = TellsEnd (status_of exit) (text_of exit) ended err × IsUncalled doorway
 EndsServer command (Ok setting) ended err doorway =
-    EndsServing ended err doorway.output
+    EndsServing setting ended err doorway
     × ((told : Connections) → Tells doorway.output.before doorway.before told
     → Served (HasFailed doorway.output) (ended ≡ 0) command.connections setting told doorway.clock doorway.now)
 

@@ -7,6 +7,7 @@ use Rattle.gw_base.specs.declared.door.Entry.{Entry}
 use Rattle.gateway_core.specs.Arrivals.{Arrival}
 use Rattle.gateway_core.specs.declared.setting.Setting.{Setting}
 use Rattle.gateway_server.specs.Log.{IsLawfulLog, moments_given}
+use Rattle.gateway_server.specs.Serving.{CountsCauses}
 
 -- a log got these entries more
 pub record HasLogged (told : Connections) (now : Beside) (entries : List Entry) (left : Connections) : Type 0 where
@@ -27,3 +28,10 @@ pub record Served (Cause End : Type 0) (most : ℕ) (setting : Setting) (told : 
   pub timed : length (moments_given entries) < length entries → Rose clock.faults_before clock.faults_now
   pub arrived : List Arrival
   pub lawful : IsLawfulLog Cause setting [] entries arrived
+
+-- each entry that is lost or shorter than its answer, and so many faults besides, have a fault of their own in the count of the door, and
+-- each entry for which the clock failed has one in the clock's
+abbrev pub HasCounted : {Told Given : Type 0} → Setting → Connections → Beside → ℕ → Change Told → Change Given → Type 0
+HasCounted setting told now besides door clock =
+    (entries : List Entry) (left : Connections) → HasLogged told now entries left
+    → CountsCauses setting [] entries besides door.faults_before door.faults_now clock.faults_before clock.faults_now

@@ -3,9 +3,9 @@ ghost use Rattle.std.specs.Prelude.{◌≡◌, ◌≤◌, [], List, false, IfOk,
 ghost use Rattle.gw_base.specs.Changes.{change};
 ghost use Rattle.gw_base.specs.Connections.{Connections};
 ghost use Rattle.gw_base.specs.Count.{Counts, Rose};
-ghost use Rattle.gateway_server.specs.Serving.{Tells};
+ghost use Rattle.gateway_server.specs.Serving.{Tells, failures};
 ghost use Rattle.gateway.specs.Runs.{RunsServer};
-ghost use Rattle.gateway.specs.Serving.{Served};
+ghost use Rattle.gateway.specs.Serving.{HasCounted, Served};
 ghost use Rattle.gateway.specs.Windowed.{HasWindow};
 ghost use Rattle.gateway.specs.Works.{server_of};
 
@@ -33,6 +33,9 @@ fn served<D: Door, C: Clock>(
     ensures served { IfOk result (λ end. (told : Connections) → Tells (D.told door.old) (D.beside door.old) told
         → Served (Rose (D.faults door.old) (D.faults door.new)) (IsOk end) connections setting told
         (change C.told C.faults clock.old clock.new) (D.beside door.new)) }
+    ensures causes { IfOk result (λ end. (told : Connections) → Tells (D.told door.old) (D.beside door.old) told
+        → HasCounted setting told (D.beside door.new) (failures end) (change D.told D.faults door.old door.new)
+        (change C.told C.faults clock.old clock.new)) }
     ensures absent { (D.beside door.new).present ≡ false }
     ensures failed { IfOk result (λ end. IsErr end → Rose (D.faults door.old) (D.faults door.new)) }
     ensures counts { (D.faults door.old ≤ D.faults door.new) × (C.faults clock.old ≤ C.faults clock.new) }

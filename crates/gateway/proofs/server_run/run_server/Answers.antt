@@ -28,7 +28,7 @@ returns-in-Ok-Ok-clause-run g c = record {
   work = c.in-Ok.ensures.told;
   cause = λ is. absurd cc;
   ends = (
-    inl (refl, refl),
+    inl (refl, refl, λ told tells. rw c.in-Ok-Ok.field-0-is at c.in-Ok-Ok.ensures.causes told tells),
     λ told tells.
         served_as (Rose (g.D.Sink.faults c.args.door.now) (g.D.Sink.faults c.served.new.door)) (IsOk c.in-Ok-Ok.field-0) (◌≡◌ {A = ℕ} 0 0)
         c.args.server.now.connections c.in-Ok.setting told (change g.C.Clock.told g.C.Clock.faults c.args.clock.now c.served.new.clock)
@@ -42,7 +42,7 @@ returns-in-Ok-Err-clause-run g c = record {
   work = c.in-Ok.ensures.told;
   cause = λ is. absurd cc;
   ends = (
-    inr (c.in-Ok-Err.ensures.failed (rw c.in-Ok-Err.field-0-is refl), record { status_is = c.ended-in-Ok-Err.ensures.status; told = c.ended-in-Ok-Err.ensures.front }),
+    inr (c.in-Ok-Err.ensures.failed (rw c.in-Ok-Err.field-0-is refl), record { status_is = c.ended-in-Ok-Err.ensures.status; told = c.ended-in-Ok-Err.ensures.front }, λ told tells. rw c.in-Ok-Err.field-0-is at c.in-Ok-Err.ensures.causes told tells),
     λ told tells.
         served_as (Rose (g.D.Sink.faults c.args.door.now) (g.D.Sink.faults c.served.new.door)) (IsOk c.in-Ok-Err.field-0) (c.ended-in-Ok-Err.result ≡ 0)
         c.args.server.now.connections c.in-Ok.setting told (change g.C.Clock.told g.C.Clock.faults c.args.clock.now c.served.new.clock)

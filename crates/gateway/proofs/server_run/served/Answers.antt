@@ -1,7 +1,9 @@
 -- The loop over connections, over a gateway that nothing arrived at yet.
-use Rattle.std.proofs.Common.{[]}
+use Rattle.std.proofs.Common.{[], subst}
 use Rattle.gw_base.specs.Changes.{change}
 use Rattle.gw_base.specs.Count.{Rose}
+use Rattle.gateway_core.specs.declared.setting.Setting.{Setting}
+use Rattle.gateway_server.specs.Serving.{CountsCauses, failures}
 use Rattle.gateway.proofs.HeadlineLemmas as lemma
 use Rattle.gateway.proofs.server_run.served.Goals as goal
 
@@ -14,3 +16,9 @@ returns-clause-served g c = λ told tells.
 
 pub returns-clause-failed : goal.returns-clause-failed
 returns-clause-failed g c = c.serve.ensures.counts.cause
+
+pub returns-clause-causes : goal.returns-clause-causes
+returns-clause-causes g c = λ told tells entries left logged.
+    subst (λ (s : Setting). CountsCauses s [] entries (failures c.serve.result) (g.D.Sink.faults c.args.door.now) (g.D.Sink.faults c.serve.new.door)
+    (g.C.Clock.faults c.args.clock.now) (g.C.Clock.faults c.serve.new.clock)) c.in_ok-gate.ensures.setting
+    (c.serve.ensures.causes told left tells logged.tells [] c.in_ok-gate.ensures.stands entries logged.log)
