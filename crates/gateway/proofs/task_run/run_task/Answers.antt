@@ -1,10 +1,26 @@
--- What is published, and how a run ends whose streams failed.
-use Rattle.std.proofs.Common.{Ok, refl, inl, inr}
+-- How a run ends by its work, what is published, and how a run ends whose streams failed.
+use Rattle.std.proofs.Common.{◌≡◌, ℕ, Ok, Err, refl, inl, inr}
 use Rattle.gw_base.proofs.CountLemmas.{rose-before, rose-after}
 use Rattle.gw_base.proofs.ToldLemmas.{puts_wider}
 use Rattle.gateway.specs.Works.{task_of}
 use Rattle.gateway.proofs.PublishedLemmas.{publishes}
 use Rattle.gateway.proofs.task_run.run_task.Goals as goal
+
+pub returns-in-Err-clause-run : goal.returns-in-Err-clause-run
+returns-in-Err-clause-run g c = record {
+  answer = Err c.in-Err.exit;
+  work = c.in-Err.ensures.told;
+  cause = λ is. c.in-Err.ensures.counts.cause cc;
+  ends = (record { status_is = c.ended.ensures.status; told = c.ended.ensures.front }, refl);
+}
+
+pub returns-in-Ok-written-clause-run : goal.returns-in-Ok-written-clause-run
+returns-in-Ok-written-clause-run g c = record {
+  answer = Ok c.in-Ok.done;
+  work = c.in-Ok.ensures.told;
+  cause = λ is. absurd cc;
+  ends = inl (record { status_is = refl; written = c.in-Ok-written.ensures.all.0; reported = c.in-Ok-written.ensures.all.1 });
+}
 
 pub returns-in-Ok-written-clause-publishes : goal.returns-in-Ok-written-clause-publishes
 returns-in-Ok-written-clause-publishes g c = λ _.
@@ -27,3 +43,9 @@ returns-clause-run g c = record {
     told = rw (← c.in-Err-written.ensures.err.2) (puts_wider _ _ _ _ _ (rose-after _ _ _ c.written.ensures.counts.1) c.ended-in-Err-written.ensures.front);
   });
 }
+
+pub returns-clause-publishes : goal.returns-clause-publishes
+returns-clause-publishes g c = λ zero. absurd (not_zero c.ended-in-Err-written.result c.ended-in-Err-written.ensures.status zero)
+  where
+    not_zero : (ended : ℕ) → ended ≡ 74 → ended ≡ 0 → ⊥
+    not_zero ended is zero = cc
