@@ -14,7 +14,7 @@ use gw_base::{Bytes, Clock, Door, Failed};
 use http_talk::HeadReader;
 use std::alloc::Global;
 
-/// Serves connections until none is to come or so many were served, and answers how many; a fault of the door in `next` ends it.
+/// Serves connections until none is to come or so many were served; Failed is a fault of the door in `next`, which ends it.
 /// Where the door tells its connections, each has its entry in the log, which is lawful behind what arrived before it. The entries that
 /// are lost or cut short are, with that fault of the door, no more than the faults that the door counted, and those for which the clock
 /// failed no more than the clock counted.
