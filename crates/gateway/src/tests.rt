@@ -1,6 +1,8 @@
 //! Each real device once, and the top call over files and sinks in memory. The top call over the real
 //! devices is run by the repository's own checks.
 mod deliveries;
+mod door_faults;
+mod doors;
 mod entities;
 mod failures;
 mod feed;
@@ -8,7 +10,9 @@ mod feeds;
 mod folder;
 mod frame;
 mod full;
+mod hostile;
 mod items;
+mod producer;
 mod rounds;
 mod runs;
 mod serving;
