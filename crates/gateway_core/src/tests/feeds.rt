@@ -1,9 +1,10 @@
 //! Feeds that arrive: what is answered, and the SIRI text that is served then.
-use super::{AT, siri_of, started};
+use super::{AT, moment, siri_of, started};
 use crate::{FeedRefusal, Gateway};
 use feed_messages::FeedFault;
-use gw_base::{MemorySink, Moment};
+use gw_base::MemorySink;
 use std::alloc::Global;
+use std::process::Abort;
 
 // What is answered to a feed.
 #[derive(Clone, Copy, Debug, PartialEq, Eq)]
@@ -45,39 +46,37 @@ fn of_refusal(refusal: &FeedRefusal) -> Answer {
 }
 
 // What is answered to bytes.
-fn answer_to(alloc: Global, gate: &mut Gateway, body: &[u8]) -> Answer {
-    let Some(moment) = Moment::new(AT) else {
-        return Answer::Other;
-    };
-    match gate.take_feed(alloc, body, moment) {
+fn answer_to(rt: &impl Abort, alloc: Global, gate: &mut Gateway, body: &[u8]) -> Answer {
+    match gate.take_feed(alloc, body, moment(rt, AT)) {
         Ok(_) => Answer::Taken,
         Err(refusal) => of_refusal(&refusal),
     }
 }
 
 // Whether bytes are answered so, and leave the SIRI text as it was.
-fn leaves(alloc: Global, gate: &mut Gateway, row: &(&[u8], Answer), siri: &MemorySink) -> bool {
-    if answer_to(alloc, gate, row.0) != row.1 {
-        return false;
-    }
-    match siri_of(alloc, gate) {
-        Some(now) => now.written() == siri.written(),
-        None => false,
-    }
+fn leaves(
+    rt: &impl Abort,
+    alloc: Global,
+    gate: &mut Gateway,
+    row: &(&[u8], Answer),
+    siri: &MemorySink,
+) -> bool {
+    let answer = answer_to(rt, alloc, gate, row.0);
+    answer == row.1 && siri_of(rt, alloc, gate).written() == siri.written()
 }
 
 #[test]
 fn a_refused_feed_leaves_the_siri_text(rt: HostRuntime) {
     let alloc = rt.alloc();
-    let mut gate = started(alloc, None).expect(&rt, "a gateway");
-    let first = answer_to(alloc, &mut gate, b"\x0a\x05\x0a\x032.0");
+    let mut gate = started(&rt, alloc, None);
+    let first = answer_to(&rt, alloc, &mut gate, b"\x0a\x05\x0a\x032.0");
     assert_eq!(rt; first, Answer::Taken);
     let nothing = gate.siri_len();
-    let second = answer_to(alloc, &mut gate, CANCELLED_FEED);
+    let second = answer_to(&rt, alloc, &mut gate, CANCELLED_FEED);
     assert_eq!(rt; second, Answer::Taken);
     assert!(rt; gate.siri_len() > nothing);
-    let siri = siri_of(alloc, &gate).expect(&rt, "a SIRI text");
+    let siri = siri_of(&rt, alloc, &gate);
     for (i, row) in REFUSED.iter().enumerate() {
-        assert!(rt; leaves(alloc, &mut gate, row, &siri), "feed {i}");
+        assert!(rt; leaves(&rt, alloc, &mut gate, row, &siri), "feed {i}");
     }
 }

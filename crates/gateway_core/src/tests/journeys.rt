@@ -4,6 +4,7 @@ use super::{
 };
 use crate::Gateway;
 use std::alloc::Global;
+use std::process::Abort;
 
 // Nothing is said of the trip, or each of its stops is a minute late.
 const SILENT: &str = "";
@@ -151,41 +152,35 @@ static ROLLING: [Rolled; 6] = [
     },
 ];
 
-// Whether a delivery that arrives at a moment has its report, and leaves what it says.
-fn goes(alloc: Global, gate: &mut Gateway, step: &Step, at: i64) -> bool {
-    let Ok(body) = delivery(alloc, &JOURNEYS, step.says) else {
-        return false;
-    };
-    match journeys_report(alloc, gate, body.as_slice(), at) {
-        Some(text) => {
-            text.as_slice() == step.report.as_bytes() && entity_bytes(gate) == Some(step.bytes)
-        }
-        None => false,
-    }
+// A delivery that arrives at a moment has its report, and leaves what it says.
+fn goes(rt: &impl Abort, alloc: Global, gate: &mut Gateway, step: &Step, at: i64) -> bool {
+    let body = delivery(rt, alloc, &JOURNEYS, step.says);
+    let text = journeys_report(rt, alloc, gate, body.as_slice(), at);
+    text.as_slice() == step.report.as_bytes() && entity_bytes(rt, gate) == step.bytes
 }
 
-// Whether the same is so, and the window begins where it says.
-fn rolls(alloc: Global, gate: &mut Gateway, rolled: &Rolled) -> bool {
-    goes(alloc, gate, &rolled.step, rolled.at) && gate.window().first().number() == rolled.first
+// The same is so, and the window begins where it says.
+fn rolls(rt: &impl Abort, alloc: Global, gate: &mut Gateway, rolled: &Rolled) -> bool {
+    goes(rt, alloc, gate, &rolled.step, rolled.at) && gate.window().first().number() == rolled.first
 }
 
 #[test]
 fn the_record_that_was_recorded_last_is_kept(rt: HostRuntime) {
     let alloc = rt.alloc();
-    let mut gate = started(alloc, None).expect(&rt, "a gateway");
+    let mut gate = started(&rt, alloc, None);
     for (i, step) in RECORDED.iter().enumerate() {
-        assert!(rt; goes(alloc, &mut gate, step, AT), "step {i}");
+        assert!(rt; goes(&rt, alloc, &mut gate, step, AT), "step {i}");
     }
-    assert!(rt; is_no_json(alloc, &mut gate, b"{"));
-    assert_eq!(rt; entity_bytes(&gate), Some(106));
+    assert!(rt; is_no_json(&rt, alloc, &mut gate, b"{"));
+    assert_eq!(rt; entity_bytes(&rt, &gate), 106);
     assert_eq!(rt; gate.window().first().number(), 19_844);
 }
 
 #[test]
 fn the_window_rolls(rt: HostRuntime) {
     let alloc = rt.alloc();
-    let mut gate = started(alloc, Some(1)).expect(&rt, "a gateway");
+    let mut gate = started(&rt, alloc, Some(1));
     for (i, rolled) in ROLLING.iter().enumerate() {
-        assert!(rt; rolls(alloc, &mut gate, rolled), "step {i}");
+        assert!(rt; rolls(&rt, alloc, &mut gate, rolled), "step {i}");
     }
 }

@@ -12,11 +12,11 @@ const EMPTY_SIRI: &[u8] =
 #[test]
 fn a_gateway_that_took_nothing_serves_an_empty_feed(rt: HostRuntime) {
     let alloc = rt.alloc();
-    let gate = started(alloc, None).expect(&rt, "a gateway");
-    let feed = feed_of(alloc, &gate).expect(&rt, "a feed");
+    let gate = started(&rt, alloc, None);
+    let feed = feed_of(&rt, alloc, &gate);
     assert_eq!(rt; feed.written(), HEADER);
-    assert_eq!(rt; entity_bytes(&gate), Some(0));
-    let text = siri_of(alloc, &gate).expect(&rt, "a SIRI text");
+    assert_eq!(rt; entity_bytes(&rt, &gate), 0);
+    let text = siri_of(&rt, alloc, &gate);
     assert_eq!(rt; text.written(), EMPTY_SIRI);
     assert_eq!(rt; gate.siri_len(), EMPTY_SIRI.len() as u64);
 }
@@ -50,7 +50,7 @@ fn take_edition_apart(edition: Edition) {
 
 #[test]
 fn has_these_fields_alone(rt: HostRuntime) {
-    take_apart(started(rt.alloc(), None).expect(&rt, "a gateway"));
+    take_apart(started(&rt, rt.alloc(), None));
     let day = read_day("20240501", DayForm::Compact).expect(&rt, "a day");
     take_key_apart(JourneyKey {
         day,

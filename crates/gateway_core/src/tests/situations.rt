@@ -4,6 +4,7 @@ use super::{SITUATIONS, add_item, delivery, entity_bytes, situations_report, sta
 use crate::Gateway;
 use gw_base::Bytes;
 use std::alloc::{AllocError, Global};
+use std::process::Abort;
 
 // A version of the situation S1, and how many bytes of alerts are served then.
 struct Step {
@@ -47,23 +48,19 @@ static VERSIONS: [Step; 5] = [
 const TAKEN: &[u8] = b"{\"aside\":[],\"passed\":0,\"taken\":1}";
 
 // Whether a version is taken, and leaves what it says.
-fn goes(alloc: Global, gate: &mut Gateway, step: &Step) -> bool {
+fn goes(rt: &impl Abort, alloc: Global, gate: &mut Gateway, step: &Step) -> bool {
     let item: &[&str] = &["S1", step.version, step.rest];
-    let Ok(body) = delivery(alloc, &SITUATIONS, &[item]) else {
-        return false;
-    };
-    match situations_report(alloc, gate, body.as_slice()) {
-        Some(text) => text.as_slice() == TAKEN && entity_bytes(gate) == Some(step.bytes),
-        None => false,
-    }
+    let body = delivery(rt, alloc, &SITUATIONS, &[item]);
+    let text = situations_report(rt, alloc, gate, body.as_slice());
+    text.as_slice() == TAKEN && entity_bytes(rt, gate) == step.bytes
 }
 
 #[test]
 fn the_newest_version_is_kept(rt: HostRuntime) {
     let alloc = rt.alloc();
-    let mut gate = started(alloc, None).expect(&rt, "a gateway");
+    let mut gate = started(&rt, alloc, None);
     for (i, step) in VERSIONS.iter().enumerate() {
-        assert!(rt; goes(alloc, &mut gate, step), "version {i}");
+        assert!(rt; goes(&rt, alloc, &mut gate, step), "version {i}");
     }
 }
 
@@ -104,16 +101,12 @@ fn one_beyond(alloc: Global, long: &str) -> Result<Bytes, AllocError> {
     Ok(body)
 }
 
-// The report on that delivery.
-fn report_beyond(alloc: Global) -> Option<Bytes> {
-    let mut gate = started(alloc, None)?;
-    let long = long_text(alloc).ok()?;
-    let body = one_beyond(alloc, long.as_str()).ok()?;
-    situations_report(alloc, &mut gate, body.as_slice())
-}
-
 #[test]
 fn too_long_an_alert_comes_before_want_of_room(rt: HostRuntime) {
-    let report = report_beyond(rt.alloc()).expect(&rt, "a report");
+    let alloc = rt.alloc();
+    let mut gate = started(&rt, alloc, None);
+    let long = long_text(alloc).expect(&rt, "memory");
+    let body = one_beyond(alloc, long.as_str()).expect(&rt, "memory");
+    let report = situations_report(&rt, alloc, &mut gate, body.as_slice());
     assert_eq!(rt; report.as_slice(), BEYOND);
 }
