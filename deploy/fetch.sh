@@ -103,11 +103,12 @@ turned() {
 
 # Turns what came into the body. Adds to `said`, and answers with the status of the round where that fails.
 turn() {
-  local status=0
+  local status=0 why
   if [ -n "$through" ]; then
     attend turned || status=$?
     if [ "$status" -ne 0 ]; then
-      said+=", refused: $through ended with $status: $(tail -n 1 "$folder/why")"
+      why=$(tail -n 1 "$folder/why")
+      said+=", refused: $through ended with $status${why:+: $why}"
       return 65
     fi
     mv "$folder/turned" "$folder/new"
