@@ -1,5 +1,5 @@
--- What is counted of a feed (GTFS Realtime, FeedMessage): how it reads at every stop of every trip, its updates and its bytes;
--- and the line that says it.
+-- What is counted of a feed (GTFS Realtime, FeedMessage): how it reads at every stop of every trip, its updates and its
+-- bytes; and the line that says it.
 use Rattle.std.specs.Prelude.{ℕ, Bool, true, false, List, ◌++◌, codes, count_by, length, sum_by, Option, Some, None, replicate}
 use Rattle.gw_base.specs.declared.messages.Entity.{Entity}
 use Rattle.gw_base.specs.declared.messages.Feed.{Feed}

@@ -18,8 +18,8 @@ is_free (Delivery fault) = false
 is_free (Feed fault) = false
 is_free Memory = true
 
--- the end that a fault of the folder is: files in memory are read or found missing, and one that could not be read would be told
--- as want of memory
+-- the end that a fault of the folder is: files in memory are read or found missing, and one that could not be read
+-- would be told as want of memory
 abbrev pub folder_end : TableFault → SampleFault
 folder_end (tables.Missing file) = Folder (tables.Missing file)
 folder_end (tables.TooLong file) = Folder (tables.TooLong file)

@@ -1,5 +1,5 @@
--- What a sample is made of: the files of its folder (GTFS Schedule), and the zone, the service day and the moment of its
--- deliveries and of its feed.
+-- What a sample is made of: the files of its folder (GTFS Schedule), and the zone, the service day and the moment of
+-- its deliveries and of its feed.
 use Rattle.std.specs.Prelude.{◌≡◌, ℕ, ℤ, pos, List, ◌++◌, codes, length, map, None}
 use Rattle.sample_maker.specs.Folder.{folder}
 use Rattle.gateway_core.specs.declared.setting.Setting.{Setting}
@@ -19,7 +19,8 @@ made_files trips stops = map (λ file. (path_in file.0, file.1)) (folder trips s
 abbrev pub zone_rule : List ℕ
 zone_rule = codes "UTC0"
 
--- the service day, 2024-05-01, and the second since 1970 at which it starts: then the deliveries arrive and the feed is made
+-- the service day, 2024-05-01, and the second since 1970 at which it starts: then the deliveries arrive, and the feed is
+-- made
 abbrev pub made_day : ℤ
 made_day = pos 19844
 

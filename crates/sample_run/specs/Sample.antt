@@ -1,5 +1,5 @@
--- The order of work on a sample: the folder, what is worked over, each delivery in order, then the feed and its counts. Each
--- step finds something or ends the work, and the first end counts.
+-- The order of work on a sample: the folder, what is worked over, each delivery in order, then the feed and its counts.
+-- Each step finds something or ends the work, and the first end counts.
 use Rattle.std.specs.Prelude.{◌≡◌, ℕ, List, [], ◌∷◌, length, nat_le, if◌then◌else◌, None, Result, Ok, Err}
 use Rattle.gw_base.specs.Steps.{◌>>=◌}
 use Rattle.gw_base.specs.declared.messages.Feed.{Feed}
@@ -70,7 +70,8 @@ InLimit text answer = answer ≡ limited text
 
 -- the records of a delivery that arrives behind these arrivals, or its fault
 abbrev pub Taken : Setting → List Arrival → List ℕ → Result (List Recorded) SampleFault → Type 0
-Taken setting arrivals body (Ok records) = (report : Report) × TakesJourneys setting arrivals made_at body report records
+Taken setting arrivals body (Ok records) =
+    (report : Report) × TakesJourneys setting arrivals made_at body report records
 Taken setting arrivals body (Err end) =
     (fault : DeliveryFault) × ReadsBody (schedule_at setting (made_at ∷ moments_of arrivals)) body (Err fault)
     × (end ≡ delivery_end fault)

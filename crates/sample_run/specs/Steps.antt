@@ -23,8 +23,10 @@ abbrev pub text_of : ℕ → ℕ → List ℕ → List ℕ
 text_of trips stops name = unwrap_or (bytes_of (folder trips stops) name) []
 
 -- a step finds records, and a gateway stands for them behind what it stood for; or the step ends
-abbrev pub Takes : {A : Type 0} → (Result (List Recorded) SampleFault → Type 0) → List Arrival → Kept → Result A SampleFault → Type 0
-Takes Step arrivals now (Ok done) = (records : List Recorded) × Step (Ok records) × Stands now (with_records arrivals records)
+abbrev pub Takes : {A : Type 0} → (Result (List Recorded) SampleFault → Type 0) → List Arrival → Kept
+    → Result A SampleFault → Type 0
+Takes Step arrivals now (Ok done) =
+    (records : List Recorded) × Step (Ok records) × Stands now (with_records arrivals records)
 Takes Step arrivals now (Err end) = Step (Err end)
 
 -- a step finds what arrived, and a gateway stands for it; or the step ends

@@ -50,7 +50,8 @@ fn not_given(table: &Timetable, trip: TripNo) -> Tally
     }
 }
 
-// Adds how the stops of a trip read, by the first of the readings where it is of that trip. Answers the readings behind it.
+// Adds how the stops of a trip read, by the first of the readings where it is of that trip. Answers the readings
+// behind it.
 fn add_trip<'r>(
     sum: &mut Tally,
     context: &Context<'_>,

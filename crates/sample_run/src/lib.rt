@@ -1,5 +1,5 @@
-//! A sample is run through the whole path: its made folder is read, its deliveries are taken by the gateway's state, the
-//! feed is written, read again and propagated, and what it says of all stops is counted. The order of work is
+//! A sample is run through the whole path: its made folder is read, its deliveries are taken by the gateway's state,
+//! the feed is written, read again and propagated, and what it says of all stops is counted. The order of work is
 //! `specs/Sample.antt`, and what is counted `specs/Counts.antt`.
 #![tactic(auto)]
 

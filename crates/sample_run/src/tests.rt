@@ -15,7 +15,7 @@ fn line(alloc: Global, seed: u32, trips: u32, stops: u32) -> Result<Bytes, Sampl
 }
 
 // A sample has this line.
-fn assert_line(rt: &impl Abort, alloc: Global, (seed, trips, stops): (u32, u32, u32), wanted: &[u8])
+fn assert_line(rt: &impl Abort, alloc: Global, seed: u32, trips: u32, stops: u32, wanted: &[u8])
     requires { IsSample seed trips stops }
 {
     let line = line(alloc, seed, trips, stops).expect(rt, "counts");
@@ -28,7 +28,9 @@ fn a_skip_and_a_delay(rt: HostRuntime) {
     assert_line(
         &rt,
         rt.alloc(),
-        (0, 1, 3),
+        0,
+        1,
+        3,
         b"trips 1 stops 3 skipped 1 absent 0 timed 2 updates 3 bytes 112\n",
     );
 }
@@ -38,7 +40,9 @@ fn two_deliveries(rt: HostRuntime) {
     assert_line(
         &rt,
         rt.alloc(),
-        (7, 103, 2),
+        7,
+        103,
+        2,
         b"trips 103 stops 2 skipped 11 absent 11 timed 184 updates 145 bytes 7777\n",
     );
 }
