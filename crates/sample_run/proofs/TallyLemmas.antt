@@ -1,0 +1,57 @@
+-- Tallies of stops that stand one behind the other, and of stops that all read alike.
+use Rattle.std.proofs.Common.{◌≡◌, ◌∙◌, ◌++◌, ◌+◌, ◌*◌, ◌≤◌, ℕ, List, length, replicate, sym, ap, arith}
+use Rattle.std.proofs.lemmas.List.Folds.{sum_by-replicate}
+use Rattle.std.proofs.lemmas.List.Sums.{count_by-le-length, sum_by-append}
+use Rattle.std.specs.Prelude.{cond}
+use Rattle.journey_model.specs.declared.readings.StopReading.{StopReading}
+use Rattle.journey_model.specs.declared.readings.StopReading.TheVariants.{Absent, Skipped}
+use Rattle.sample_maker.proofs.ListLemmas.{all_below-0, all_below-next}
+use Rattle.sample_maker.specs.Pieces.{all_below}
+use Rattle.sample_run.specs.Counts.{is_absent, is_skipped, is_timed}
+use Rattle.sample_run.specs.Steps.{IsWithin, plus, tally}
+use Rattle.sample_run.specs.declared.tally.Tally.{Tally}
+
+pub tally-append : (xs ys : List StopReading) → tally (xs ++ ys) ≡ plus (tally xs) (tally ys)
+tally-append xs ys = λ i. record {
+  skipped = sum_by-append (λ one. cond (is_skipped one) 1 0) xs ys i;
+  absent = sum_by-append (λ one. cond (is_absent one) 1 0) xs ys i;
+  timed = sum_by-append (λ one. cond (is_timed one) 1 0) xs ys i;
+}
+
+once : (n : ℕ) → n * 1 ≡ n
+once n = omega arith
+
+never : (n : ℕ) → n * 0 ≡ 0
+never n = omega arith
+
+pub tally_skipped : (n : ℕ) → record { skipped = n; absent = 0; timed = 0 } ≡ tally (replicate n Skipped)
+tally_skipped n = λ i. record {
+  skipped = sym (sum_by-replicate (λ one. cond (is_skipped one) 1 0) n Skipped ∙ once n) i;
+  absent = sym (sum_by-replicate (λ one. cond (is_absent one) 1 0) n Skipped ∙ never n) i;
+  timed = sym (sum_by-replicate (λ one. cond (is_timed one) 1 0) n Skipped ∙ never n) i;
+}
+
+pub tally_absent : (n : ℕ) → record { skipped = 0; absent = n; timed = 0 } ≡ tally (replicate n Absent)
+tally_absent n = λ i. record {
+  skipped = sym (sum_by-replicate (λ one. cond (is_skipped one) 1 0) n Absent ∙ never n) i;
+  absent = sym (sum_by-replicate (λ one. cond (is_absent one) 1 0) n Absent ∙ once n) i;
+  timed = sym (sum_by-replicate (λ one. cond (is_timed one) 1 0) n Absent ∙ never n) i;
+}
+
+-- no count is over the number of stops
+pub tally_within : (readings : List StopReading) (most : ℕ) → length readings ≤ most → IsWithin most (tally readings)
+tally_within readings most few = record {
+  skipped = omega (arith, count_by-le-length is_skipped readings);
+  absent = omega (arith, count_by-le-length is_absent readings);
+  timed = omega (arith, count_by-le-length is_timed readings);
+}
+
+-- one trip more
+pub tally_more : (stops : ℕ → List StopReading) (trip : ℕ) (sum more : Tally) → sum ≡ tally (all_below stops trip) → more ≡ plus sum (tally (stops trip))
+    → more ≡ tally (all_below stops (trip + 1))
+tally_more stops trip sum more so_far added =
+    added ∙ ap (λ (s : Tally). plus s (tally (stops trip))) so_far ∙ sym (tally-append (all_below stops trip) (stops trip))
+    ∙ ap (λ (xs : List StopReading). tally xs) (sym (all_below-next stops trip))
+
+pub tally_none : (stops : ℕ → List StopReading) → record { skipped = 0; absent = 0; timed = 0 } ≡ tally (all_below stops 0)
+tally_none stops = ap (λ (xs : List StopReading). tally xs) (sym (all_below-0 stops))

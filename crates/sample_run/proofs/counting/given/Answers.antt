@@ -1,0 +1,17 @@
+-- There are so many readings as the trip has stops.
+use Rattle.std.proofs.Common.{◌≡◌, ◌≤◌, ap, arith, length, subst, sym}
+use Rattle.journey_model.specs.Schedules.{schedule_of}
+use Rattle.journey_model.specs.declared.readings.JourneyReading.TheVariants.{Stops}
+use Rattle.sample_run.specs.Steps.{IsWithin}
+use Rattle.sample_run.specs.declared.tally.Tally.{Tally}
+use Rattle.sample_run.proofs.StopLemmas.{stops_read}
+use Rattle.sample_run.proofs.TallyLemmas.{tally_within}
+use Rattle.sample_run.proofs.counting.given.Goals as goal
+
+pub returns-in-Stops-clause-few : goal.returns-in-Stops-clause-few
+returns-in-Stops-clause-few c =
+    let is : c.args.one.now.reading ≡ Stops c.as_slice.result.now = rw c.as_slice.ensures.same c.in-Stops.is in
+    let same = stops_read (schedule_of c.args.context.now) c.args.one.now c.as_slice.result.now c.requires is in
+    let value = ap length c.stops_of-stops.ensures.value in
+    let few : length c.as_slice.result.now ≤ 250 = omega arith in
+    subst (λ (t : Tally). IsWithin 250 t) (sym c.tally_of.ensures) (tally_within c.as_slice.result.now 250 few)

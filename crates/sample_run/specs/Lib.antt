@@ -1,0 +1,5 @@
+pub mod Counts
+pub mod Ends
+pub mod Made
+pub mod Sample
+pub mod Steps

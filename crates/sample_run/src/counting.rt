@@ -1,0 +1,136 @@
+//! How a feed reads at all stops of all trips, counted in one pass over the trips and over what the feed gives of them.
+ghost use Rattle.std.specs.Prelude.{◌≡◌, ◌+◌, ◌<◌, ◌*◌, ℕ, Option, IfOk, length, min, replicate, sum_by};
+ghost use Rattle.std.specs.List.{AllByRecursion};
+ghost use Rattle.gw_base.specs.Count.{last_count};
+ghost use Rattle.journey_model.specs.Schedules.{schedule_of};
+ghost use Rattle.journey_model.specs.declared.readings.JourneyReading as readings;
+ghost use Rattle.propagation.specs.Feeds.{IsServable};
+ghost use Rattle.sample_maker.specs.Pieces.{all_below};
+ghost use Rattle.stop_schedule.specs.Seen.{seen};
+ghost use Rattle.sample_run.specs.Counts as spec;
+ghost use Rattle.sample_run.specs.Steps as steps;
+ghost use Rattle.sample_run.specs.Steps.{AreSaid, HasOneDay, IsWithin, plus, stops_said, tally};
+
+use crate::tally::{Tally, tally_of};
+use gw_base::{Entity, Feed};
+use journey_model::{Context, DatedReading, JourneyReading, StopReading};
+use propagation::readings_of;
+use std::alloc::{AllocError, Global};
+use stop_schedule::{Timetable, TripNo};
+
+// How the stops of a trip read that the feed gives.
+fn given(context: &Context<'_>, one: &DatedReading) -> Tally
+    requires { IsServable (schedule_of context.now) one.now }
+    ensures value { result ≡ tally (spec.each_stop
+        (length ((seen context.now.table.now).stops_of one.now.trip.0)) one.now.reading) }
+    ensures few { IsWithin 250 result }
+{
+    let stops = context.table.stops_of(one.trip);
+    match &one.reading {
+        JourneyReading::Cancelled => Tally {
+            skipped: stops.len() as u64,
+            absent: 0,
+            timed: 0,
+        },
+        JourneyReading::Stops(readings) => tally_of(readings.as_slice()),
+    }
+}
+
+// How the stops of a trip read that the feed doesn't give.
+fn not_given(table: &Timetable, trip: TripNo) -> Tally
+    requires { trip.0 < length table.now.trips }
+    ensures value { result ≡ tally (replicate (length ((seen table.now).stops_of trip.0))
+        StopReading.Absent) }
+    ensures few { IsWithin 250 result }
+{
+    Tally {
+        skipped: 0,
+        absent: table.stops_of(trip).len() as u64,
+        timed: 0,
+    }
+}
+
+// Adds how the stops of a trip read, by the first of the readings where it is of that trip. Answers the readings
+// behind it.
+fn add_trip<'r>(
+    sum: &mut Tally,
+    context: &Context<'_>,
+    trip: u32,
+    rest: &'r [DatedReading],
+) -> &'r [DatedReading]
+    requires trip { trip < length context.now.table.now.trips }
+    requires servable { AllByRecursion (IsServable (schedule_of context.now)) rest.now }
+    requires few { IsWithin (250 * trip) sum.old }
+    requires room { trip < 200000 }
+    ensures rest { result.now ≡ steps.behind trip rest.now }
+    ensures servable { AllByRecursion (IsServable (schedule_of context.now)) result.now }
+    ensures sum { sum.new ≡ plus sum.old
+        (tally (stops_said (schedule_of context.now) trip (steps.head_said trip rest.now))) }
+    ensures few { IsWithin (250 * (trip + 1)) sum.new }
+{
+    match rest.split_first() {
+        Some((one, behind)) if one.trip.0 == trip => {
+            sum.add(&given(context, one));
+            behind
+        }
+        _ => {
+            sum.add(&not_given(context.table, TripNo(trip)));
+            rest
+        }
+    }
+}
+
+// How the stops of all trips read, by readings in the order of their trips.
+fn sum_of(context: &Context<'_>, journeys: &[DatedReading]) -> Tally
+    requires { AllByRecursion (IsServable (schedule_of context.now)) journeys.now }
+    ensures { (said : ℕ → Option readings.JourneyReading) → AreSaid said 0 journeys.now
+        → result ≡ tally (all_below (λ trip. stops_said (schedule_of context.now) trip (said trip))
+        (length context.now.table.now.trips)) }
+{
+    let mut sum = Tally {
+        skipped: 0,
+        absent: 0,
+        timed: 0,
+    };
+    let mut rest = journeys;
+    let trips = context.table.trips();
+    for trip in 0..trips {
+        rest = add_trip(&mut sum, context, trip, rest);
+    }
+    sum
+}
+
+/// How a feed reads at all stops of all trips on the one day of the window.
+pub(crate) fn read_tally(
+    alloc: Global,
+    context: &Context<'_>,
+    feed: &Feed,
+) -> Result<Tally, AllocError>
+    requires { HasOneDay context.now.window.now }
+    ensures { IfOk result (λ found.
+        found ≡ tally (spec.all_read (schedule_of context.now) feed.now)) }
+{
+    let reading = readings_of(alloc, feed, context)?;
+    Ok(sum_of(context, reading.journeys.as_slice()))
+}
+
+// How many stops an entity updates.
+fn updates_of(entity: &Entity) -> u64
+    ensures { result ≡ spec.updates_of entity.now }
+{
+    match &entity.trip_update {
+        Some(update) => update.updates.len() as u64,
+        None => 0,
+    }
+}
+
+/// How many updates of stops entities have; the count stays at its last value.
+pub(crate) fn updates_in(entities: &[Entity]) -> u64
+    ensures { result ≡ min (sum_by spec.updates_of entities.now) last_count }
+{
+    let mut updates = 0u64;
+    for entity in entities {
+        updates = updates.saturating_add(updates_of(entity));
+    }
+    updates
+}
