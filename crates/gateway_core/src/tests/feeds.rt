@@ -65,6 +65,14 @@ fn leaves(
     answer == row.1 && siri_of(rt, alloc, gate).written() == siri.written()
 }
 
+// Each of these is answered as it says, and leaves the SIRI text.
+fn assert_left(rt: &impl Abort, alloc: Global, gate: &mut Gateway, rows: &[(&[u8], Answer)]) {
+    let siri = siri_of(rt, alloc, gate);
+    for (i, row) in rows.iter().enumerate() {
+        assert!(rt; leaves(rt, alloc, gate, row, &siri), "feed {i}");
+    }
+}
+
 #[test]
 fn a_refused_feed_leaves_the_siri_text(rt: HostRuntime) {
     let alloc = rt.alloc();
@@ -75,8 +83,5 @@ fn a_refused_feed_leaves_the_siri_text(rt: HostRuntime) {
     let second = answer_to(&rt, alloc, &mut gate, CANCELLED_FEED);
     assert_eq!(rt; second, Answer::Taken);
     assert!(rt; gate.siri_len() > nothing);
-    let siri = siri_of(&rt, alloc, &gate);
-    for (i, row) in REFUSED.iter().enumerate() {
-        assert!(rt; leaves(&rt, alloc, &mut gate, row, &siri), "feed {i}");
-    }
+    assert_left(&rt, alloc, &mut gate, &REFUSED);
 }

@@ -30,10 +30,10 @@ fn add_file(
     files.push((Text::copied(alloc, name)?, Bytes::copied(alloc, bytes)?))
 }
 
-// The files of the folder.
-fn files(rt: &impl Abort, alloc: Global) -> MemoryFiles {
+// These files.
+fn files_of(rt: &impl Abort, alloc: Global, folder: &[(&str, &[u8])]) -> MemoryFiles {
     let mut files = List::new(alloc);
-    for file in FOLDER.iter() {
+    for file in folder {
         assert!(rt; add_file(alloc, &mut files, file).is_ok());
     }
     MemoryFiles::make(files, List::new(alloc))
@@ -41,7 +41,7 @@ fn files(rt: &impl Abort, alloc: Global) -> MemoryFiles {
 
 // The timetable of the folder.
 fn table(rt: &impl Abort, alloc: Global) -> Timetable {
-    let mut files = files(rt, alloc);
+    let mut files = files_of(rt, alloc, &FOLDER);
     read_timetable(alloc, &mut files, "g")
         .ok()
         .expect(rt, "a timetable")

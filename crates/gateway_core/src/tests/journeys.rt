@@ -164,23 +164,31 @@ fn rolls(rt: &impl Abort, alloc: Global, gate: &mut Gateway, rolled: &Rolled) ->
     goes(rt, alloc, gate, &rolled.step, rolled.at) && gate.window().first().number() == rolled.first
 }
 
+// Each of these steps goes as it says.
+fn assert_steps(rt: &impl Abort, alloc: Global, gate: &mut Gateway, steps: &[Step]) {
+    for (i, step) in steps.iter().enumerate() {
+        assert!(rt; goes(rt, alloc, gate, step, AT), "step {i}");
+    }
+}
+
+// Each of these rolls the window as it says.
+fn assert_rolls(rt: &impl Abort, alloc: Global, gate: &mut Gateway, steps: &[Rolled]) {
+    for (i, rolled) in steps.iter().enumerate() {
+        assert!(rt; rolls(rt, alloc, gate, rolled), "step {i}");
+    }
+}
+
 #[test]
 fn the_record_that_was_recorded_last_is_kept(rt: HostRuntime) {
-    let alloc = rt.alloc();
-    let mut gate = started(&rt, alloc, None);
-    for (i, step) in RECORDED.iter().enumerate() {
-        assert!(rt; goes(&rt, alloc, &mut gate, step, AT), "step {i}");
-    }
-    assert!(rt; is_no_json(&rt, alloc, &mut gate, b"{"));
+    let mut gate = started(&rt, rt.alloc(), None);
+    assert_steps(&rt, rt.alloc(), &mut gate, &RECORDED);
+    assert!(rt; is_no_json(&rt, rt.alloc(), &mut gate, b"{"));
     assert_eq!(rt; entity_bytes(&rt, &gate), 106);
     assert_eq!(rt; gate.window().first().number(), 19_844);
 }
 
 #[test]
 fn the_window_rolls(rt: HostRuntime) {
-    let alloc = rt.alloc();
-    let mut gate = started(&rt, alloc, Some(1));
-    for (i, rolled) in ROLLING.iter().enumerate() {
-        assert!(rt; rolls(&rt, alloc, &mut gate, rolled), "step {i}");
-    }
+    let mut gate = started(&rt, rt.alloc(), Some(1));
+    assert_rolls(&rt, rt.alloc(), &mut gate, &ROLLING);
 }

@@ -55,13 +55,17 @@ fn goes(rt: &impl Abort, alloc: Global, gate: &mut Gateway, step: &Step) -> bool
     text.as_slice() == TAKEN && entity_bytes(rt, gate) == step.bytes
 }
 
+// Each of these versions goes as it says.
+fn assert_versions(rt: &impl Abort, alloc: Global, gate: &mut Gateway, steps: &[Step]) {
+    for (i, step) in steps.iter().enumerate() {
+        assert!(rt; goes(rt, alloc, gate, step), "version {i}");
+    }
+}
+
 #[test]
 fn the_newest_version_is_kept(rt: HostRuntime) {
-    let alloc = rt.alloc();
-    let mut gate = started(&rt, alloc, None);
-    for (i, step) in VERSIONS.iter().enumerate() {
-        assert!(rt; goes(&rt, alloc, &mut gate, step), "version {i}");
-    }
+    let mut gate = started(&rt, rt.alloc(), None);
+    assert_versions(&rt, rt.alloc(), &mut gate, &VERSIONS);
 }
 
 // The situations that are kept, one that is too long, and one more that has no room.
