@@ -11,6 +11,7 @@ mod full;
 mod items;
 mod rounds;
 mod runs;
+mod samples;
 mod serving;
 mod situations;
 mod told;
