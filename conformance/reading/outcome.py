@@ -7,6 +7,7 @@ from .deliveries import NotDelivery, read_delivery
 from .feeds import FeedFault, read_feed
 from .files import NotReadable, TooLong
 from .folder import FileMissing, FolderFault, read_folder
+from .made import made_line
 from .propagation import readings_of
 from .readings import Context
 from .shown import report, shown_lines
@@ -58,7 +59,9 @@ class FurtherFault(Exception):
 
 
 def run(work, files):
-    """The folder, the zone, and then each further file with what it says."""
+    """The folder, the zone, and then each further file with what it says. `make` reads none of them."""
+    if work.command == "make":
+        return Outcome(0, made_line(work.seed, work.trips, work.stops))
     table = read_folder(files, work.gtfs)
     context = Context(table, read_zone(work, files), window_of(work))
     if work.command == "to-gtfsrt":

@@ -11,6 +11,10 @@ LAST_DAY = date(9997, 12, 31)
 MOST_DAYS = 32
 MOST_KEPT = 31
 MOST_CONNECTIONS = 4_294_967_295
+MOST_SEED = 2_147_483_647
+MOST_TRIPS = 20_000
+FEWEST_STOPS = 2
+MOST_STOPS = 100
 
 
 class BadWord(Exception):
@@ -36,6 +40,9 @@ class Work:
     keep: int = None
     listen: str = None
     connections: int = None
+    seed: int = None
+    trips: int = None
+    stops: int = None
     further: list = field(default_factory=list)  # pairs of "--et" or "--sx" and a file
 
 
@@ -80,7 +87,20 @@ def read_words(raw):
     def text():
         return take(lambda word: word or None)
 
-    work = Work(command=flag("serve", "to-gtfsrt", "to-siri", "show"))
+    def number(least, most):
+        return take(lambda word: number_word(word, least, most))
+
+    work = Work(command=flag("serve", "to-gtfsrt", "to-siri", "show", "make"))
+    if work.command == "make":
+        flag("--seed")
+        work.seed = number(0, MOST_SEED)
+        flag("--trips")
+        work.trips = number(1, MOST_TRIPS)
+        flag("--stops")
+        work.stops = number(FEWEST_STOPS, MOST_STOPS)
+        if place < len(words):
+            raise BadWord(place)
+        return work
     flag("--gtfs")
     work.gtfs = text()
     if flag("--zone-rule", "--zone-file") == "--zone-rule":
@@ -93,11 +113,11 @@ def read_words(raw):
     work.days = take(lambda word: days_word(word, work.first))
     if work.command == "serve":
         flag("--keep")
-        work.keep = take(lambda word: number_word(word, 0, min(MOST_KEPT, work.days - 1)))
+        work.keep = number(0, min(MOST_KEPT, work.days - 1))
         flag("--listen")
         work.listen = text()
         flag("--connections")
-        work.connections = take(lambda word: number_word(word, 1, MOST_CONNECTIONS))
+        work.connections = number(1, MOST_CONNECTIONS)
         if place < len(words):
             raise BadWord(place)
         return work

@@ -7,7 +7,7 @@ from .odd import Dice
 from .siri_cases import AT, Journeys, Situations, random_body
 from .worlds import faulty_folder, random_world
 
-COMMANDS = ("to-gtfsrt", "to-siri", "show")
+COMMANDS = ("to-gtfsrt", "to-siri", "show", "make")
 ODD_WORDS = [
     b"", b"\xff", b"to-siri", b"show", b"--et", b"--sx", b"--gtfs", b"--zone-file", b"--zone-rule", b"--feed",
     b"--at", b"--from", b"--days",
@@ -16,7 +16,7 @@ ODD_WORDS = [
     b"9997-12-31", b"9998-01-01", b"20240501", b"2024-05-01T06:00:00Z", b"2024-05-01T06:00:00.0Z",
     b"2024-05-01T06:00:00z",
     b"1970-01-01T00:00:00Z", b"1969-12-31T23:59:59Z", b"9998-12-31T23:59:59Z", b"9999-01-01T00:00:00Z",
-    b"2024-05-01T24:00:00Z",
+    b"2024-05-01T24:00:00Z", b"make", b"--seed", b"--trips", b"--stops", b"2147483647", b"2147483648",
     b"2024-05-01T06:00:00+00:00", b"UTC0", b"-h", b"help", b"--version", b"g", b"\xc3\xa9", b"--gtfs=g",
 ]
 
@@ -27,11 +27,16 @@ EDGES = {
     b"--days": [b"1", b"2", b"31", b"32", b"33", b"0", b"00", b"0000000032", b"00000000032"],
     b"--at": [b"1970-01-01T00:00:00Z", b"9998-12-31T23:59:59Z", b"9999-01-01T00:00:00Z",
     b"2024-02-30T00:00:00Z", b"2024-05-01T06:00:00Z"],
+    b"--seed": [b"0", b"2147483647", b"2147483648", b"4294967296", b"-1", b"00000000007", b"0000000007"],
+    b"--trips": [b"0", b"1", b"20001", b"4294967296", b"9999999999", b"01", b"00000000001"],
+    b"--stops": [b"0", b"1", b"2", b"100", b"101", b"0000000002", b"00000000002", b""],
 }
 
 
 def random_case(seed, command, number, with_situations=True):
     dice = Dice(f"{seed} {command} {number}")
+    if command == "make":
+        return sample_case(dice, with_situations)
     if dice.one_in(15):
         return edge_case(dice, command)
     world = random_world(dice)
@@ -50,6 +55,19 @@ def random_case(seed, command, number, with_situations=True):
     if subject == "files":
         odd_files(dice, files)
     return Case(words, files)
+
+
+def sample_case(dice, with_situations):
+    """A sample of few stops in all, since the second reading is slow; among them the edges of each number."""
+    seed = dice.choice((0, 1, 7, 2_147_483_646, 2_147_483_647, dice.randrange(2_147_483_648)))
+    stops = dice.choice((2, 2, 3, 99, 100, dice.randint(2, 100)))
+    trips = dice.choice((1, 2, 99, 100, 101, 200, 201, dice.randint(1, 300)))
+    trips = max(1, min(trips, 2_000 // stops))
+    width = dice.choice((1, 1, 1, 10))
+    words = [b"make"]
+    for flag, value in (("--seed", seed), ("--trips", trips), ("--stops", stops)):
+        words += [flag.encode(), str(value).zfill(width).encode()]
+    return Case(odd_words(dice, words, with_situations) if dice.one_in(3) else words, {})
 
 
 def deliveries_of(dice, world, with_situations):

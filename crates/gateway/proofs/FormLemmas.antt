@@ -8,7 +8,7 @@ use Rattle.std.specs.List.{list_all, AllByRecursion}
 use Rattle.std.specs.Str.Parse.{ParsesUnsigned}
 use Rattle.std.proofs.lemmas.Option.{none-some, same_Some, option_and_then_some}
 use Rattle.std.proofs.lemmas.Str.Parse.{IsNumeralModel, numerals_by_fold, parse_gives, digits_value_short}
-use Rattle.gateway.specs.Forms.{is_connection_count, is_day, is_day_count, is_filled, is_kept_count, is_moment, beginning, day_count, decimal_number, is_number, going_on, ends_in_time, first_day, keeps_fewer, last_day, most_days}
+use Rattle.gateway.specs.Forms.{is_connection_count, is_day, is_day_count, is_filled, is_kept_count, is_moment, is_seed, is_stop_count, is_trip_count, beginning, day_count, decimal_number, is_number, going_on, ends_in_time, first_day, keeps_fewer, last_day, most_days}
 use Rattle.gateway.specs.Rows.{form_of, pair_of, row_of, have_flags}
 use Rattle.gateway.specs.Tables.{CanBeMet, CanStand, IsSatisfiable}
 use Rattle.gateway.proofs.TableLemmas.{AreSatisfiable}
@@ -53,7 +53,7 @@ beginning_range word first h =
     let kept = cond_then (int_le first_day day && int_le day last_day) _ first within in
     both _ _ (subst (λ d. (int_le first_day d && int_le d last_day) ≡ true) (same_Some day first kept.1) kept.0))
 
--- a value of each form: a text, 1971-01-01, one day, and 1970-01-01T00:00:00Z
+-- a value of each form: a text, 1971-01-01, one day, 1970-01-01T00:00:00Z, and the least numbers
 
 filled_met : CanBeMet is_filled
 filled_met before = (codes "x", refl)
@@ -91,6 +91,15 @@ connection_count_met before = (codes "1", refl)
 moment_met : CanBeMet is_moment
 moment_met before = (moment_text (pos 0), rw (utc_of-moment_text (pos 0) (omega arith, omega arith)) refl)
 
+seed_met : CanBeMet is_seed
+seed_met before = (codes "0", refl)
+
+trip_count_met : CanBeMet is_trip_count
+trip_count_met before = (codes "1", refl)
+
+stop_count_met : CanBeMet is_stop_count
+stop_count_met before = (codes "2", refl)
+
 form_met : (form : declared.Form) → CanBeMet (form_of form)
 form_met form.Filled = filled_met
 form_met form.Day = day_met
@@ -98,6 +107,9 @@ form_met form.DayCount = day_count_met
 form_met form.KeptCount = kept_count_met
 form_met form.ConnectionCount = connection_count_met
 form_met form.Moment = moment_met
+form_met form.Seed = seed_met
+form_met form.TripCount = trip_count_met
+form_met form.StopCount = stop_count_met
 
 pairs_met : (pairs : List Pair) → list_all (λ pair. nat_lt 0 (length pair.flags.now)) pairs ≡ true → AllByRecursion CanStand (map pair_of pairs)
 pairs_met [] h = tt

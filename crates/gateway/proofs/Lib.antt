@@ -4,6 +4,7 @@ mod FormLemmas
 mod HeadlineLemmas
 mod MomentLemmas
 mod PublishedLemmas
+mod SampleLemmas
 pub mod StepLemmas
 mod TableLemmas
 mod WordLemmas

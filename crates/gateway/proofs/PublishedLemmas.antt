@@ -18,9 +18,9 @@ use Rattle.feed_messages.specs.Tables.{MeansFeed}
 use Rattle.gateway_core.specs.Deliveries.{schedule_in}
 use Rattle.gateway.specs.Bodies.{differential_end}
 use Rattle.gateway.specs.Done.{Done}
-use Rattle.gateway.specs.Published.{IsFullFeed, IsSetting, IsZone, Publishes, PublishesFeed, PublishesLines, PublishesSiri, PublishesTask}
-use Rattle.gateway.specs.Words.{IsJob, NamedZone, Scope, Serve, Show, Task, ToGtfsrt, ToSiri, by_rule, by_file, gtfsrt_task, serve_job, show_task, siri_task, task_job}
-use Rattle.gateway.specs.Work.{Directory, FileFeed, SettingOf, ShowWork, TaskWork, ToGtfsrtWork, ToSiriWork, Zone, body_limit, folder, full, further, zone_limit}
+use Rattle.gateway.specs.Published.{IsFullFeed, IsSetting, IsZone, Publishes, PublishesCounts, PublishesFeed, PublishesLines, PublishesSiri, PublishesTask}
+use Rattle.gateway.specs.Words.{IsJob, Make, NamedZone, Scope, Serve, Show, Task, ToGtfsrt, ToSiri, by_rule, by_file, gtfsrt_task, make_task, serve_job, show_task, siri_task, task_job}
+use Rattle.gateway.specs.Work.{Directory, FileFeed, MakeWork, OverFiles, SettingOf, ShowWork, TaskWork, ToGtfsrtWork, ToSiriWork, Zone, body_limit, folder, full, further, zone_limit}
 use Rattle.gateway.specs.declared.exit.Exit.{Exit}
 use Rattle.gateway.specs.declared.exit.Exit.TheVariants.{Refused}
 use Rattle.gateway_core.specs.declared.setting.Setting.{Setting}
@@ -120,28 +120,44 @@ lines_published files command done before now (setting, setting_is, (feed, read,
       written = written ∙ ap (with_bytes before) lines;
     }
 
+-- and the line of a sample its counts
+counts_published : (command : Make) (done : Done) (before now : Option (List ℕ)) → MakeWork command (Ok done) → now ≡ with_bytes before done.out
+    → PublishesCounts command before now
+counts_published command done before now (counts, counted, line, none) written =
+    record { counts = counts; counted = counted; written = written ∙ ap (with_bytes before) line }
+
 -- what is done publishes
 pub publishes_task : (files : Directory) (task : Task) (done : Done) (before now : Option (List ℕ)) → TaskWork task files (Ok done) → now ≡ with_bytes before done.out
     → PublishesTask task files before now
 publishes_task files (gtfsrt_task command) done before now work written = feed_published files command done before now work written
 publishes_task files (siri_task command) done before now work written = siri_published files command done before now work written
 publishes_task files (show_task command) done before now work written = lines_published files command done before now work written
+publishes_task files (make_task command) done before now work written = counts_published command done before now work written
 
-pub publishes : (files : Option Directory) (task : Task) (done : Done) (before now : Option (List ℕ))
+told_published : (files : Option Directory) (task : Task) (done : Done) (before now : Option (List ℕ))
     → IfSome files (λ told. TaskWork task told (Ok done)) → now ≡ with_bytes before done.out
     → IfSome files (λ told. PublishesTask task told before now)
-publishes None task done before now work written = tt
-publishes (Some told) task done before now work written = publishes_task told task done before now work written
+told_published None task done before now work written = tt
+told_published (Some told) task done before now work written = publishes_task told task done before now work written
+
+pub publishes : (files : Option Directory) (task : Task) (done : Done) (before now : Option (List ℕ))
+    → OverFiles task files (λ told. TaskWork task told (Ok done)) → now ≡ with_bytes before done.out
+    → OverFiles task files (λ told. PublishesTask task told before now)
+publishes files (gtfsrt_task command) done before now work written = told_published files (gtfsrt_task command) done before now work written
+publishes files (siri_task command) done before now work written = told_published files (siri_task command) done before now work written
+publishes files (show_task command) done before now work written = told_published files (show_task command) done before now work written
+publishes files (make_task command) done before now work written = counts_published command done before now work written
 
 -- the same by the words
 pub by_task : (words : List (List ℕ)) (files : Option Directory) (task : Task) (before now : Option (List ℕ)) → IsJob words (task_job task)
-    → IfSome files (λ told. PublishesTask task told before now)
-    → IfSome files (λ told. Publishes words told before now)
-by_task words None task before now accepted published = tt
-by_task words (Some told) task before now accepted published = record { job = task_job task; accepted = accepted; published = published }
+    → OverFiles task files (λ told. PublishesTask task told before now) → Publishes words files before now
+by_task words files task before now accepted published = record { job = task_job task; accepted = accepted; published = published }
 
 -- a server writes nothing
 pub by_server : (words : List (List ℕ)) (files : Option Directory) (command : Serve) (told : Option (List ℕ)) → IsJob words (serve_job command)
-    → IfSome files (λ folder. Publishes words folder told told)
-by_server words None command told accepted = tt
-by_server words (Some folder) command told accepted = record { job = serve_job command; accepted = accepted; published = refl }
+    → Publishes words files told told
+by_server words files command told accepted = record { job = serve_job command; accepted = accepted; published = stays files }
+  where
+    stays : (files : Option Directory) → IfSome files (λ folder. told ≡ told)
+    stays None = tt
+    stays (Some folder) = refl

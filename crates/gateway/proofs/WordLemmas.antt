@@ -7,10 +7,12 @@ use Rattle.std.proofs.lemmas.Bool.Decides.{nat_tests}
 use Rattle.std.proofs.lemmas.Cmp.{nat_list_eq_equiv}
 use Rattle.std.proofs.lemmas.Int.{ints}
 use Rattle.std.proofs.lemmas.Option.{none-some, option_and_then_some, same_Some, slice_get_read, slice_get_within}
-use Rattle.gateway.specs.Forms.{beginning, connection_count, day_count, decimal_number, ends_in_time, first_day, keeps_fewer, kept_count, last_day, most_days}
+use Rattle.sample_maker.specs.Making.{IsSample}
+use Rattle.gateway.specs.Forms.{beginning, connection_count, day_count, decimal_number, ends_in_time, fewest_stops, first_day, keeps_fewer, kept_count, last_day, most_days, most_seed, most_stops, most_trips, number_in, seed_number, stop_count, trip_count}
 use Rattle.gateway.specs.Tables.{Command, Pair, with_name, ArePairs, IsAccepted}
-use Rattle.gateway.specs.Windowed.{HasWindow}
-use Rattle.gateway.specs.Words.{IsJob, Job, SaysScope, SaysServe, SaysShow, SaysToGtfsrt, SaysToSiri, Scope, Serve, Show, Task, ToGtfsrt, ToSiri, at_pair, commands, connections_pair, feed_pair, gtfsrt_task, keep_pair, listen_pair, no_pair, over_a_folder, scope_in, serve, serve_job, show, show_task, siri_task, task_job, to_gtfsrt, to_siri, zone_by}
+use Rattle.gateway.specs.Windowed.{CanRun, HasWindow}
+use Rattle.gateway.specs.Work.{reads_files}
+use Rattle.gateway.specs.Words.{IsJob, Job, Make, SaysMake, SaysScope, SaysServe, SaysShow, SaysToGtfsrt, SaysToSiri, Scope, Serve, Show, Task, ToGtfsrt, ToSiri, at_pair, commands, connections_pair, feed_pair, gtfsrt_task, keep_pair, listen_pair, make, make_task, no_pair, over_a_folder, serve, serve_job, show, show_task, siri_task, task_job, to_gtfsrt, to_siri, zone_by}
 use Rattle.gateway.proofs.FormLemmas.{beginning_range, cond_then}
 use Rattle.gateway.proofs.TableLemmas.{HasPair, pair_of, double}
 use Rattle.service_day.specs.Utc.{utc_of}
@@ -113,31 +115,53 @@ show_read name words named pairs =
       record { name = ap Some named; over = over.1; feed = feed.5 },
     )
 
+make_read : (name : List ℕ) (words : List (List ℕ)) → name ≡ codes "make" → ArePairs make 0 name words
+    → (command : Make) × SaysMake (name ∷ words) command
+unfolding make
+make_read name words named pairs =
+    let seed = pair_of make 0 0 0 name words (omega arith) (omega arith) pairs in
+    let trips = pair_of make 1 1 0 name words (omega arith) (omega arith) pairs in
+    let stops = pair_of make 2 2 0 name words (omega arith) (omega arith) pairs in
+    let first = some_of (seed_number seed.2) seed.7 in
+    let second = some_of (trip_count trips.2) trips.7 in
+    let third = some_of (stop_count stops.2) stops.7 in (
+      record { seed = first.0; trips = second.0; stops = third.0 },
+      record {
+        name = ap Some named;
+        seed = ap (option_and_then seed_number) seed.5 ∙ first.1;
+        trips = ap (option_and_then trip_count) trips.5 ∙ second.1;
+        stops = ap (option_and_then stop_count) stops.5 ∙ third.1;
+      },
+    )
+
 -- an accepted list can be read
 pub read : (words : List (List ℕ)) → IsAccepted commands words → (job : Job) × IsJob words job
-unfolding commands serve to_gtfsrt to_siri show
+unfolding commands serve to_gtfsrt to_siri show make
 read [] is = absurd is
 read (name ∷ words) is =
     by (pointwise nat_eq (codes "serve") name) (pointwise nat_eq (codes "to-gtfsrt") name) (pointwise nat_eq (codes "to-siri") name)
-    (pointwise nat_eq (codes "show") name) refl refl refl refl is
+    (pointwise nat_eq (codes "show") name) (pointwise nat_eq (codes "make") name) refl refl refl refl refl is
   where
-    by : (s a b c : Bool) → pointwise nat_eq (codes "serve") name ≡ s → pointwise nat_eq (codes "to-gtfsrt") name ≡ a
-        → pointwise nat_eq (codes "to-siri") name ≡ b → pointwise nat_eq (codes "show") name ≡ c
-        → IsSomeAnd (cond s (Some serve) (cond a (Some to_gtfsrt) (cond b (Some to_siri) (cond c (Some show) None)))) (λ command. ArePairs command 0 name words)
+    by : (s a b c m : Bool) → pointwise nat_eq (codes "serve") name ≡ s → pointwise nat_eq (codes "to-gtfsrt") name ≡ a
+        → pointwise nat_eq (codes "to-siri") name ≡ b → pointwise nat_eq (codes "show") name ≡ c → pointwise nat_eq (codes "make") name ≡ m
+        → IsSomeAnd (cond s (Some serve) (cond a (Some to_gtfsrt) (cond b (Some to_siri) (cond c (Some show) (cond m (Some make) None))))) (λ command. ArePairs command 0 name words)
         → (job : Job) × IsJob (name ∷ words) job
-    by true a b c es ea eb ec pairs =
+    by true a b c m es ea eb ec em pairs =
         let found = serve_read name words (sym (same_text _ _ (sym es))) pairs in
         (serve_job found.0, record { accepted = is; says = found.1 })
-    by false true b c es ea eb ec pairs =
+    by false true b c m es ea eb ec em pairs =
         let found = gtfsrt_read name words (sym (same_text _ _ (sym ea))) pairs in
         (task_job (gtfsrt_task found.0), record { accepted = is; says = found.1 })
-    by false false true c es ea eb ec pairs =
+    by false false true c m es ea eb ec em pairs =
         let found = siri_read name words (sym (same_text _ _ (sym eb))) pairs in
         (task_job (siri_task found.0), record { accepted = is; says = found.1 })
-    by false false false true es ea eb ec pairs =
+    by false false false true m es ea eb ec em pairs =
         let found = show_read name words (sym (same_text _ _ (sym ec))) pairs in
         (task_job (show_task found.0), record { accepted = is; says = found.1 })
-    by false false false false es ea eb ec pairs = absurd pairs
+    by false false false false true es ea eb ec em pairs =
+        let found = make_read name words (sym (same_text _ _ (sym em))) pairs in
+        (task_job (make_task found.0), record { accepted = is; says = found.1 })
+    by false false false false false es ea eb ec em pairs = absurd pairs
 
 -- ---- which command a list is by its name
 
@@ -152,6 +176,7 @@ serve_of words (serve_job command) is named = (command, is.says)
 serve_of words (task_job (gtfsrt_task command)) is named = absurd (name_differs (slice_get words 0) named is.says.name refl)
 serve_of words (task_job (siri_task command)) is named = absurd (name_differs (slice_get words 0) named is.says.name refl)
 serve_of words (task_job (show_task command)) is named = absurd (name_differs (slice_get words 0) named is.says.name refl)
+serve_of words (task_job (make_task command)) is named = absurd (name_differs (slice_get words 0) named is.says.name refl)
 
 pub gtfsrt_of : (words : List (List ℕ)) (job : Job) → IsJob words job → slice_get words 0 ≡ Some (codes "to-gtfsrt")
     → (command : ToGtfsrt) × SaysToGtfsrt words command
@@ -159,6 +184,7 @@ gtfsrt_of words (serve_job command) is named = absurd (name_differs (slice_get w
 gtfsrt_of words (task_job (gtfsrt_task command)) is named = (command, is.says)
 gtfsrt_of words (task_job (siri_task command)) is named = absurd (name_differs (slice_get words 0) named is.says.name refl)
 gtfsrt_of words (task_job (show_task command)) is named = absurd (name_differs (slice_get words 0) named is.says.name refl)
+gtfsrt_of words (task_job (make_task command)) is named = absurd (name_differs (slice_get words 0) named is.says.name refl)
 
 pub siri_of : (words : List (List ℕ)) (job : Job) → IsJob words job → slice_get words 0 ≡ Some (codes "to-siri")
     → (command : ToSiri) × SaysToSiri words command
@@ -166,20 +192,38 @@ siri_of words (serve_job command) is named = absurd (name_differs (slice_get wor
 siri_of words (task_job (gtfsrt_task command)) is named = absurd (name_differs (slice_get words 0) named is.says.name refl)
 siri_of words (task_job (siri_task command)) is named = (command, is.says)
 siri_of words (task_job (show_task command)) is named = absurd (name_differs (slice_get words 0) named is.says.name refl)
+siri_of words (task_job (make_task command)) is named = absurd (name_differs (slice_get words 0) named is.says.name refl)
+
+pub make_of : (words : List (List ℕ)) (job : Job) → IsJob words job → slice_get words 0 ≡ Some (codes "make")
+    → (command : Make) × SaysMake words command
+make_of words (serve_job command) is named = absurd (name_differs (slice_get words 0) named is.says.name refl)
+make_of words (task_job (gtfsrt_task command)) is named = absurd (name_differs (slice_get words 0) named is.says.name refl)
+make_of words (task_job (siri_task command)) is named = absurd (name_differs (slice_get words 0) named is.says.name refl)
+make_of words (task_job (show_task command)) is named = absurd (name_differs (slice_get words 0) named is.says.name refl)
+make_of words (task_job (make_task command)) is named = (command, is.says)
 
 pub show_of : (words : List (List ℕ)) (job : Job) → IsJob words job → slice_get words 0 ≢ Some (codes "serve")
-    → slice_get words 0 ≢ Some (codes "to-gtfsrt") → slice_get words 0 ≢ Some (codes "to-siri")
+    → slice_get words 0 ≢ Some (codes "to-gtfsrt") → slice_get words 0 ≢ Some (codes "to-siri") → slice_get words 0 ≢ Some (codes "make")
     → (command : Show) × SaysShow words command
-show_of words (serve_job command) is server first other = absurd (server is.says.name)
-show_of words (task_job (gtfsrt_task command)) is server first other = absurd (first is.says.name)
-show_of words (task_job (siri_task command)) is server first other = absurd (other is.says.name)
-show_of words (task_job (show_task command)) is server first other = (command, is.says)
+show_of words (serve_job command) is server first other made = absurd (server is.says.name)
+show_of words (task_job (gtfsrt_task command)) is server first other made = absurd (first is.says.name)
+show_of words (task_job (siri_task command)) is server first other made = absurd (other is.says.name)
+show_of words (task_job (show_task command)) is server first other made = (command, is.says)
+show_of words (task_job (make_task command)) is server first other made = absurd (made is.says.name)
 
 -- words of `serve` are those of no other command
 pub not_both : (words : List (List ℕ)) (command : Serve) (task : Task) → IsJob words (serve_job command) → IsJob words (task_job task) → ⊥
 not_both words command (gtfsrt_task other) is and = name_differs (slice_get words 0) is.says.name and.says.name refl
 not_both words command (siri_task other) is and = name_differs (slice_get words 0) is.says.name and.says.name refl
 not_both words command (show_task other) is and = name_differs (slice_get words 0) is.says.name and.says.name refl
+not_both words command (make_task other) is and = name_differs (slice_get words 0) is.says.name and.says.name refl
+
+-- and words of `make` are those of a command that reads no files
+pub reads_none : (words : List (List ℕ)) (task : Task) (command : Make) → IsJob words (task_job task) → IsJob words (task_job (make_task command)) → reads_files task ≡ false
+reads_none words (gtfsrt_task other) command is and = absurd (name_differs (slice_get words 0) is.says.name and.says.name refl)
+reads_none words (siri_task other) command is and = absurd (name_differs (slice_get words 0) is.says.name and.says.name refl)
+reads_none words (show_task other) command is and = absurd (name_differs (slice_get words 0) is.says.name and.says.name refl)
+reads_none words (make_task other) command is and = refl
 
 -- words name one address
 pub listens : (words : List (List ℕ)) (a b : Serve) → IsJob words (serve_job a) → IsJob words (serve_job b) → a.listen ≡ b.listen
@@ -214,36 +258,22 @@ named_pairs known command name words found is e =
     subst (λ (o : Option Command). IsSomeAnd o (λ command. ArePairs command 0 name words)) found
     (subst (λ n. IsSomeAnd (with_name commands n) (λ command. ArePairs command 0 name words)) (same_Some _ _ e) is)
 
-job_windowed : (words : List (List ℕ)) (job : Job) → IsJob words job
-    → (int_le first_day (scope_in job).from ≡ true) × (int_le ((scope_in job).from +ℤ pos (scope_in job).days -ℤ pos 1) last_day ≡ true)
-unfolding commands serve to_gtfsrt to_siri show
-job_windowed [] job is = absurd is.accepted
-job_windowed (name ∷ words) (serve_job command) is =
-    windowed (codes "serve") (keep_pair ∷ listen_pair ∷ connections_pair ∷ []) no_pair name words command.over
-    (named_pairs (codes "serve") serve name words refl is.accepted is.says.name) is.says.over
-job_windowed (name ∷ words) (task_job (gtfsrt_task command)) is =
-    windowed (codes "to-gtfsrt") (at_pair ∷ []) to_gtfsrt.repeated name words command.over
-    (named_pairs (codes "to-gtfsrt") to_gtfsrt name words refl is.accepted is.says.name) is.says.over
-job_windowed (name ∷ words) (task_job (siri_task command)) is =
-    windowed (codes "to-siri") (at_pair ∷ feed_pair ∷ []) no_pair name words command.over
-    (named_pairs (codes "to-siri") to_siri name words refl is.accepted is.says.name) is.says.over
-job_windowed (name ∷ words) (task_job (show_task command)) is =
-    windowed (codes "show") (feed_pair ∷ []) no_pair name words command.over
-    (named_pairs (codes "show") show name words refl is.accepted is.says.name) is.says.over
-
-job_days : (words : List (List ℕ)) (job : Job) → IsJob words job → option_and_then day_count (slice_get words 8) ≡ Some (scope_in job).days
-job_days words (serve_job command) is = is.says.over.days
-job_days words (task_job (gtfsrt_task command)) is = is.says.over.days
-job_days words (task_job (siri_task command)) is = is.says.over.days
-job_days words (task_job (show_task command)) is = is.says.over.days
+in_range : (least most : ℕ) (word : Option (List ℕ)) (value : ℕ) → option_and_then (number_in least most) word ≡ Some value → (least ≤ value) × (value ≤ most)
+in_range least most word value is =
+    option_and_then_some (number_in least most) word value is (λ text found counted.
+    option_and_then_some _ (decimal_number text) value counted (λ n number few.
+    let both : ((nat_le least n && nat_le n most) ≡ true) × (Some n ≡ Some value) = cond_then _ _ value few in
+    let range = both.0 in
+    subst (λ d. (least ≤ d) × (d ≤ most)) (same_Some n value both.1) (grind (arith, nat_tests, range), grind (arith, nat_tests, range))))
 
 -- and it can be made
-pub has_window : (words : List (List ℕ)) (job : Job) → IsJob words job → HasWindow (scope_in job).from (scope_in job).days
-has_window words job is =
-    let both = job_windowed words job is in
+has_window : (title : List ℕ) (further : List Pair) (repeated : Pair) (name : List ℕ) (words : List (List ℕ)) (scope : Scope) → ArePairs (over_by title further repeated) 0 name words
+    → SaysScope (name ∷ words) scope → HasWindow scope.from scope.days
+has_window title further repeated name words scope pairs is =
+    let both = windowed title further repeated name words scope pairs is in
     let first = both.0 in
     let last = both.1 in
-    let count : (1 ≤ (scope_in job).days) × ((scope_in job).days ≤ 32) = day_count_range (slice_get words 8) (scope_in job).days (job_days words job is) in
+    let count : (1 ≤ scope.days) × (scope.days ≤ 32) = in_range 1 most_days (slice_get (name ∷ words) 8) scope.days is.days in
     let some = count.0 in
     record {
       some_days = count.0;
@@ -251,11 +281,38 @@ has_window words job is =
       first_in = (grind (arith, ints), grind (arith, ints));
       last_in = (grind (arith, ints), grind (arith, ints));
     }
+
+-- a server has one
+pub serves : (words : List (List ℕ)) (command : Serve) → IsJob words (serve_job command) → HasWindow command.over.from command.over.days
+unfolding commands serve to_gtfsrt to_siri show make
+serves [] command is = absurd is.accepted
+serves (name ∷ words) command is =
+    has_window (codes "serve") (keep_pair ∷ listen_pair ∷ connections_pair ∷ []) no_pair name words command.over
+    (named_pairs (codes "serve") serve name words refl is.accepted is.says.name) is.says.over
+
+-- and the other commands can be carried out
+pub can_run : (words : List (List ℕ)) (task : Task) → IsJob words (task_job task) → CanRun task
+unfolding commands serve to_gtfsrt to_siri show make
+can_run [] task is = absurd is.accepted
+can_run (name ∷ words) (gtfsrt_task command) is =
+    has_window (codes "to-gtfsrt") (at_pair ∷ []) to_gtfsrt.repeated name words command.over
+    (named_pairs (codes "to-gtfsrt") to_gtfsrt name words refl is.accepted is.says.name) is.says.over
+can_run (name ∷ words) (siri_task command) is =
+    has_window (codes "to-siri") (at_pair ∷ feed_pair ∷ []) no_pair name words command.over
+    (named_pairs (codes "to-siri") to_siri name words refl is.accepted is.says.name) is.says.over
+can_run (name ∷ words) (show_task command) is =
+    has_window (codes "show") (feed_pair ∷ []) no_pair name words command.over
+    (named_pairs (codes "show") show name words refl is.accepted is.says.name) is.says.over
+can_run (name ∷ words) (make_task command) is = record {
+  seed_in = (in_range 0 most_seed (slice_get (name ∷ words) 2) command.seed is.says.seed).1;
+  some_trip = trips.0;
+  trips_in = trips.1;
+  two_stops = stops.0;
+  stops_in = stops.1;
+}
   where
-    day_count_range : (word : Option (List ℕ)) (days : ℕ) → option_and_then day_count word ≡ Some days → (1 ≤ days) × (days ≤ 32)
-    day_count_range word days is =
-        option_and_then_some day_count word days is (λ text found counted.
-        option_and_then_some _ (decimal_number text) days counted (λ n number few.
-        let both : ((nat_le 1 n && nat_le n most_days) ≡ true) × (Some n ≡ Some days) = cond_then _ _ days few in
-        let range = both.0 in
-        subst (λ d. (1 ≤ d) × (d ≤ 32)) (same_Some n days both.1) (grind (arith, nat_tests, range), grind (arith, nat_tests, range))))
+    trips : (1 ≤ command.trips) × (command.trips ≤ 20000)
+    trips = in_range 1 most_trips (slice_get (name ∷ words) 4) command.trips is.says.trips
+
+    stops : (2 ≤ command.stops) × (command.stops ≤ 100)
+    stops = in_range fewest_stops most_stops (slice_get (name ∷ words) 6) command.stops is.says.stops

@@ -7,6 +7,10 @@ use Rattle.gateway.specs.declared.exit.Exit.TheVariants.{Refused, Missing, Faile
 abbrev pub missing : List ℕ → Exit
 missing path = Missing (codes "Missing " ++ path)
 
+-- a further file has too many bytes
+abbrev pub too_long : List ℕ → Exit
+too_long path = Refused (codes "TooLong " ++ path)
+
 -- a failed device and want of memory may come in place of any other answer, and say nothing of the input
 abbrev pub is_free : Exit → Bool
 is_free (Refused text) = false

@@ -24,6 +24,19 @@ most_kept = 31
 abbrev pub most_connections : ℕ
 most_connections = 4294967295
 
+-- the greatest seed of a sample, and the most trips and the fewest and the most stops that it has
+abbrev pub most_seed : ℕ
+most_seed = 2147483647
+
+abbrev pub most_trips : ℕ
+most_trips = 20000
+
+abbrev pub fewest_stops : ℕ
+fewest_stops = 2
+
+abbrev pub most_stops : ℕ
+most_stops = 100
+
 -- the most digits of a number
 abbrev pub most_digits : ℕ
 most_digits = 10
@@ -59,6 +72,16 @@ kept_count word = number_in 0 most_kept word
 abbrev pub connection_count : List ℕ → Option ℕ
 connection_count word = number_in 1 most_connections word
 
+-- a seed, and a number of trips and of stops
+abbrev pub seed_number : List ℕ → Option ℕ
+seed_number word = number_in 0 most_seed word
+
+abbrev pub trip_count : List ℕ → Option ℕ
+trip_count word = number_in 1 most_trips word
+
+abbrev pub stop_count : List ℕ → Option ℕ
+stop_count word = number_in fewest_stops most_stops word
+
 -- that many days from the first one on, if there is a first one, end in time
 abbrev pub ends_in_time : Option ℤ → Option ℕ → Bool
 ends_in_time first None = false
@@ -72,7 +95,7 @@ keeps_fewer None (Some kept) = true
 keeps_fewer (Some days) (Some kept) = nat_lt kept days
 
 -- the forms: a text that isn't empty, a day, a number of days from the day before on, a number of days that are kept of the window
--- before, a number of connections, and a moment
+-- before, a number of connections, a moment, and the three numbers of a sample
 abbrev pub is_filled : Form
 is_filled before [] = false
 is_filled before (_ ∷ _) = true
@@ -91,3 +114,12 @@ is_connection_count before word = is_some (connection_count word)
 
 abbrev pub is_moment : Form
 is_moment before word = is_some (utc_of word)
+
+abbrev pub is_seed : Form
+is_seed before word = is_some (seed_number word)
+
+abbrev pub is_trip_count : Form
+is_trip_count before word = is_some (trip_count word)
+
+abbrev pub is_stop_count : Form
+is_stop_count before word = is_some (stop_count word)

@@ -10,6 +10,7 @@ pub mod Pairs
 pub mod Published
 pub mod Rows
 pub mod Runs
+pub mod Samples
 pub mod Served
 pub mod Serving
 pub mod Tables

@@ -1,6 +1,6 @@
 -- What the commands publish, in the words of the two standards (SIRI 2.0, EstimatedVehicleJourney; GTFS Realtime 2.0,
 -- FeedMessage).
-use Rattle.std.specs.Prelude.{◌≡◌, ◌≢◌, ℕ, pos, List, Option, Some, None, Ok}
+use Rattle.std.specs.Prelude.{◌≡◌, ◌≢◌, ℕ, pos, List, Option, Some, None, Ok, IfSome}
 use Rattle.gw_base.specs.Directory.{bytes_of}
 use Rattle.gw_base.specs.Told.{with_bytes}
 use Rattle.gw_base.specs.declared.messages.Feed.{Feed}
@@ -19,9 +19,12 @@ use Rattle.gateway_core.specs.Arrivals.{moments_of, present, schedule_at}
 use Rattle.gateway_core.specs.Deliveries.{schedule_in}
 use Rattle.gateway_core.specs.Gives.{GivesEach}
 use Rattle.gateway_core.specs.Recording.{IsRebuiltOf}
-use Rattle.gateway.specs.Words.{IsJob, Job, NamedZone, Scope, Show, Task, ToGtfsrt, ToSiri, by_rule, by_file, gtfsrt_task, serve_job, show_task, siri_task, task_job}
-use Rattle.gateway.specs.Work.{Arrived, Arrives, Directory, nothing}
+use Rattle.gateway.specs.Words.{IsJob, Job, Make, NamedZone, Scope, Show, Task, ToGtfsrt, ToSiri, by_rule, by_file, gtfsrt_task, make_task, serve_job, show_task, siri_task, task_job}
+use Rattle.gateway.specs.Work.{Arrived, Arrives, Directory, OverFiles, nothing}
 use Rattle.gateway_core.specs.declared.setting.Setting.{Setting}
+use Rattle.sample_run.specs.Counts.{counts_text}
+use Rattle.sample_run.specs.Sample.{Sample}
+use Rattle.sample_run.specs.declared.counts.SampleCounts.{SampleCounts}
 
 -- a zone is the one that is named: of a rule, or of the bytes of a file
 abbrev pub IsZone : NamedZone → Directory → Rules → Type 0
@@ -80,18 +83,31 @@ pub record PublishesLines (command : Show) (files : Directory) (before now : Opt
   pub is_reading : IsReading (schedule_in setting) feed reading
   pub written : now ≡ with_bytes before (shown (schedule_in setting) reading)
 
+-- standard output got the line of what is counted of a sample: its made deliveries are taken over its made folder, each
+-- behind those before, and of the feed that is rebuilt of them the line says how it reads at each stop of each trip
+pub record PublishesCounts (command : Make) (before now : Option (List ℕ)) : Type 0 where
+  pub counts : SampleCounts
+  pub counted : Sample command.seed command.trips command.stops (Ok counts)
+  pub written : now ≡ with_bytes before (counts_text command.trips command.stops counts)
+
 abbrev pub PublishesTask : Task → Directory → Option (List ℕ) → Option (List ℕ) → Type 0
 PublishesTask (gtfsrt_task command) = PublishesFeed command
 PublishesTask (siri_task command) = PublishesSiri command
 PublishesTask (show_task command) = PublishesLines command
+PublishesTask (make_task command) = λ files. PublishesCounts command
 
 -- a server shows what it has to whoever connects, and writes nothing to standard output
 abbrev pub PublishesOf : Job → Directory → Option (List ℕ) → Option (List ℕ) → Type 0
 PublishesOf (serve_job command) files before now = now ≡ before
 PublishesOf (task_job task) files before now = PublishesTask task files before now
 
+-- over the files that are told; what `make` publishes needs none
+abbrev pub OverTold : Job → Option Directory → (Directory → Type 0) → Type 0
+OverTold (serve_job command) told Says = IfSome told Says
+OverTold (task_job task) told Says = OverFiles task told Says
+
 -- what a run of these words published
-pub record Publishes (words : List (List ℕ)) (files : Directory) (before now : Option (List ℕ)) : Type 0 where
+pub record Publishes (words : List (List ℕ)) (told : Option Directory) (before now : Option (List ℕ)) : Type 0 where
   pub job : Job
   pub accepted : IsJob words job
-  pub published : PublishesOf job files before now
+  pub published : OverTold job told (λ files. PublishesOf job files before now)

@@ -8,7 +8,7 @@ use Rattle.gw_base.specs.Told.{with_bytes, PutsUnless}
 use Rattle.gateway.specs.Done.{Done}
 use Rattle.gateway.specs.Exits.{is_free, status_of, text_of}
 use Rattle.gateway.specs.Serving.{HasCounted, Served}
-use Rattle.gateway.specs.Work.{Directory, SettingOf, TaskWork}
+use Rattle.gateway.specs.Work.{Directory, OverFiles, SettingOf, TaskWork}
 use Rattle.gateway.specs.Words.{IsJob, IsRefusedAt, Serve, Task, serve_job, task_job}
 use Rattle.gateway.specs.declared.exit.Exit.{Exit}
 use Rattle.gateway.specs.declared.exit.Exit.TheVariants.{Failed}
@@ -89,10 +89,10 @@ Ends (Ok done) ended out err = EndsDone done ended out err ⊎ EndsCutOff done e
 Ends (Err exit) ended out err = EndsEarly (status_of exit) (text_of exit) ended out err
 
 -- a run of such a command: it ends as its work comes out over the files that are told, and early by a failed device
--- only where the files failed, or for want of memory
+-- only where the files failed, or for want of memory; the work of `make` comes out whatever is told
 pub record RunsTask (task : Task) (ended : ℕ) (files : Change Directory) (out err : Change (List ℕ)) : Type 0 where
   pub answer : Result Done Exit
-  pub work : IfSome files.before (λ told. UnlessFree is_free answer (TaskWork task told))
+  pub work : OverFiles task files.before (λ told. UnlessFree is_free answer (TaskWork task told))
   pub cause : answer ≡ Err Failed → HasFailed files
   pub ends : Ends answer ended out err
 

@@ -1,11 +1,11 @@
 -- The words of the commands: their table, and what the words of each say.
 use Rattle.std.specs.Prelude.{◌≡◌, ℕ, ℤ, List, [], ◌∷◌, drop, codes, Some, option_and_then, slice_get, nat_eq, if◌then◌else◌}
 use Rattle.std.specs.Cmp.Lexicographic.{pointwise}
-use Rattle.gateway.specs.Forms.{is_connection_count, is_day, is_day_count, is_filled, is_kept_count, is_moment, beginning, connection_count, day_count, kept_count}
+use Rattle.gateway.specs.Forms.{is_connection_count, is_day, is_day_count, is_filled, is_kept_count, is_moment, is_seed, is_stop_count, is_trip_count, beginning, connection_count, day_count, kept_count, seed_number, stop_count, trip_count}
 use Rattle.gateway.specs.Tables.{Command, Pair, IsAccepted, StopsAt}
 use Rattle.service_day.specs.Utc.{utc_of}
 
--- the pairs that each command begins with: what it works over
+-- the pairs that each command but `make` begins with: what it works over
 abbrev pub over_a_folder : List Pair → List Pair
 over_a_folder further =
     record { flags = codes "--gtfs" ∷ []; form = is_filled }
@@ -28,6 +28,15 @@ listen_pair = record { flags = codes "--listen" ∷ []; form = is_filled }
 
 abbrev pub connections_pair : Pair
 connections_pair = record { flags = codes "--connections" ∷ []; form = is_connection_count }
+
+abbrev pub seed_pair : Pair
+seed_pair = record { flags = codes "--seed" ∷ []; form = is_seed }
+
+abbrev pub trips_pair : Pair
+trips_pair = record { flags = codes "--trips" ∷ []; form = is_trip_count }
+
+abbrev pub stops_pair : Pair
+stops_pair = record { flags = codes "--stops" ∷ []; form = is_stop_count }
 
 -- no further pair: it has no flag
 abbrev pub no_pair : Pair
@@ -61,8 +70,15 @@ show = record {
   repeated = no_pair;
 }
 
+unfoldable pub make : Command
+make = record {
+  name = codes "make";
+  pairs = seed_pair ∷ trips_pair ∷ stops_pair ∷ [];
+  repeated = no_pair;
+}
+
 unfoldable pub commands : List Command
-commands = serve ∷ to_gtfsrt ∷ to_siri ∷ show ∷ []
+commands = serve ∷ to_gtfsrt ∷ to_siri ∷ show ∷ make ∷ []
 
 -- a zone by a POSIX rule, or by a TZif file of that path
 pub data NamedZone : Type 0 where
@@ -106,25 +122,23 @@ pub record Show : Type 0 where
   pub over : Scope
   pub feed : List ℕ
 
--- a command that reads files, writes its result and ends
+-- what the words of `make` say: the seed of a sample, and how many trips and stops it has
+pub record Make : Type 0 where
+  pub seed : ℕ
+  pub trips : ℕ
+  pub stops : ℕ
+
+-- a command that writes its result and ends
 pub data Task : Type 0 where
   gtfsrt_task : ToGtfsrt → Task
   siri_task : ToSiri → Task
   show_task : Show → Task
+  make_task : Make → Task
 
 -- a command with what its words say
 pub data Job : Type 0 where
   serve_job : Serve → Job
   task_job : Task → Job
-
-abbrev pub task_scope : Task → Scope
-task_scope (gtfsrt_task command) = command.over
-task_scope (siri_task command) = command.over
-task_scope (show_task command) = command.over
-
-abbrev pub scope_in : Job → Scope
-scope_in (serve_job command) = command.over
-scope_in (task_job task) = task_scope task
 
 -- the words say this: the value of the pair of number n, from 0 on, is the word of number 2n + 2
 pub record SaysScope (words : List (List ℕ)) (scope : Scope) : Type 0 where
@@ -157,10 +171,17 @@ pub record SaysShow (words : List (List ℕ)) (command : Show) : Type 0 where
   pub over : SaysScope words command.over
   pub feed : slice_get words 10 ≡ Some command.feed
 
+pub record SaysMake (words : List (List ℕ)) (command : Make) : Type 0 where
+  pub name : slice_get words 0 ≡ Some (codes "make")
+  pub seed : option_and_then seed_number (slice_get words 2) ≡ Some command.seed
+  pub trips : option_and_then trip_count (slice_get words 4) ≡ Some command.trips
+  pub stops : option_and_then stop_count (slice_get words 6) ≡ Some command.stops
+
 abbrev pub SaysTask : List (List ℕ) → Task → Type 0
 SaysTask words (gtfsrt_task command) = SaysToGtfsrt words command
 SaysTask words (siri_task command) = SaysToSiri words command
 SaysTask words (show_task command) = SaysShow words command
+SaysTask words (make_task command) = SaysMake words command
 
 abbrev pub Says : List (List ℕ) → Job → Type 0
 Says words (serve_job command) = SaysServe words command

@@ -1,6 +1,6 @@
 -- The order of work of the commands: the timetable, the zone, the window, each further file and its content. Each step finds
 -- something or ends the work, and the first end counts.
-use Rattle.std.specs.Prelude.{◌≡◌, ℕ, ℤ, pos, List, [], ◌∷◌, ◌++◌, codes, length, nat_le, if◌then◌else◌, Option, Some, None, Result, Ok, Err}
+use Rattle.std.specs.Prelude.{◌≡◌, ℕ, ℤ, pos, List, [], ◌∷◌, ◌++◌, codes, length, nat_le, if◌then◌else◌, Bool, true, false, Option, Some, None, IfSome, Result, Ok, Err}
 use Rattle.std.specs.Bool.{MatchBool}
 use Rattle.std.specs.Ordering.{int_eq}
 use Rattle.std.specs.Str.{bytes_eq}
@@ -23,7 +23,7 @@ use Rattle.stop_schedule.specs.Table.{Table}
 use Rattle.stop_schedule.specs.Timetable.{timetable}
 use Rattle.stop_schedule.specs.declared.table_fault.TableFault.{TableFault}
 use Rattle.stop_schedule.specs.declared.timetable.Timetable.{Timetable}
-use Rattle.gateway.specs.Exits.{missing}
+use Rattle.gateway.specs.Exits.{missing, too_long}
 use Rattle.gateway.specs.FolderTexts.{folder_end}
 use Rattle.gateway_core.specs.Arrivals.{Arrival, Given, journeys, moments_of, present, schedule_at, situations}
 use Rattle.gateway_core.specs.Deliveries.{schedule_in}
@@ -32,6 +32,10 @@ use Rattle.gateway_core.specs.Recording.{IsRebuiltOf}
 use Rattle.gateway_core.specs.Reports.{feed_report}
 use Rattle.gateway_core.specs.Taking.{TakesJourneys, TakesSituations}
 use Rattle.gateway_core.specs.declared.setting.Setting.{Setting}
+use Rattle.sample_run.specs.Counts.{counts_text}
+use Rattle.sample_run.specs.Sample.{Sample}
+use Rattle.sample_run.specs.declared.counts.SampleCounts.{SampleCounts}
+use Rattle.sample_run.specs.declared.fault.SampleFault.{SampleFault}
 use Rattle.journey_model.specs.Records.{Recorded}
 use Rattle.journey_model.specs.declared.situation.Situation.{Situation}
 use Rattle.siri_calls.specs.Deliveries.{ReadsBody}
@@ -39,7 +43,8 @@ use Rattle.siri_calls.specs.declared.delivery.DeliveryFault.{DeliveryFault}
 use Rattle.siri_situations.specs.Deliveries.{ReadsSituations}
 use Rattle.gateway.specs.Bodies.{body_end, differential_end, feed_end, many_calls_end}
 use Rattle.gateway.specs.Done.{Done}
-use Rattle.gateway.specs.Words.{NamedZone, Scope, Show, Task, ToGtfsrt, ToSiri, by_rule, by_file, gtfsrt_task, show_task, siri_task}
+use Rattle.gateway.specs.Samples.{sample_end}
+use Rattle.gateway.specs.Words.{Make, NamedZone, Scope, Show, Task, ToGtfsrt, ToSiri, by_rule, by_file, gtfsrt_task, make_task, show_task, siri_task}
 use Rattle.gateway.specs.declared.exit.Exit.{Exit}
 use Rattle.gateway.specs.declared.exit.Exit.TheVariants.{Refused}
 
@@ -70,7 +75,7 @@ body_limit = 16777216
 -- the bytes of a further file, which may be missing or too long
 abbrev pub further : ℕ → List ℕ → Option (List ℕ) → Result (List ℕ) Exit
 further limit name None = Err (missing name)
-further limit name (Some bytes) = if nat_le (length bytes) limit then Ok bytes else Err (Refused (codes "TooLong " ++ name))
+further limit name (Some bytes) = if nat_le (length bytes) limit then Ok bytes else Err (too_long name)
 
 abbrev pub FurtherFile : ℕ → List ℕ → Directory → Result (List ℕ) Exit → Type 0
 FurtherFile limit name files answer = answer ≡ further limit name (bytes_of files name)
@@ -244,8 +249,31 @@ ShowWork command files = do
   setting ← SettingOf command.over None files
   LinesOfFile setting command.feed files
 
+-- the work of `make`, which reads no files: the line of the sample's counts
+abbrev pub MakeWork : Make → Result Done Exit → Type 0
+MakeWork command (Ok done) =
+    (counts : SampleCounts) × Sample command.seed command.trips command.stops (Ok counts)
+    × (done.out ≡ counts_text command.trips command.stops counts) × (done.err ≡ [])
+MakeWork command (Err end) =
+    (fault : SampleFault) × Sample command.seed command.trips command.stops (Err fault) × (end ≡ sample_end fault)
+
 -- the work of a command
 abbrev pub TaskWork : Task → Directory → Result Done Exit → Type 0
 TaskWork (gtfsrt_task command) = ToGtfsrtWork command
 TaskWork (siri_task command) = ToSiriWork command
 TaskWork (show_task command) = ShowWork command
+TaskWork (make_task command) = λ files. MakeWork command
+
+-- what is said of a command over the files that are told: `make` reads none, so that it holds of it whatever is told
+abbrev pub OverFiles : Task → Option Directory → (Directory → Type 0) → Type 0
+OverFiles (gtfsrt_task command) told Says = IfSome told Says
+OverFiles (siri_task command) told Says = IfSome told Says
+OverFiles (show_task command) told Says = IfSome told Says
+OverFiles (make_task command) told Says = Says []
+
+-- a command reads files
+abbrev pub reads_files : Task → Bool
+reads_files (gtfsrt_task command) = true
+reads_files (siri_task command) = true
+reads_files (show_task command) = true
+reads_files (make_task command) = false

@@ -9,6 +9,7 @@ usage: gateway serve     SCHEDULE --keep K --listen ADDRESS --connections C
        gateway to-gtfsrt SCHEDULE --at MOMENT [--et FILE | --sx FILE]...
        gateway to-siri   SCHEDULE --at MOMENT --feed FILE
        gateway show      SCHEDULE --feed FILE
+       gateway make      --seed X --trips T --stops S
        gateway --help | --version
 
 SCHEDULE  --gtfs DIR ZONE --from DAY --days N: a GTFS Schedule folder, its zone,
@@ -19,6 +20,8 @@ ADDRESS   where connections are taken, such as 127.0.0.1:8080
 C         how many connections are served, from 1 to 4294967295
 MOMENT    when the result is made, in UTC
 FILE      a delivery in JSON (--et, --sx), or a feed in protobuf (--feed)
+X, T, S   the numbers of a sample: a seed, from 0 to 2147483647, how many trips,
+          from 1 to 20000, and at how many stops each stops, from 2 to 100
 
 serve takes deliveries and feeds by POST, and answers with a feed and a SIRI
 delivery by GET; its window of days rolls on with the clock:
@@ -39,6 +42,9 @@ show prints how each stop of the journeys of a feed reads:
   ./gateway show --gtfs examples/sample \\
     --zone-rule CET-1CEST,M3.5.0,M10.5.0/3 --from 2024-05-01 --days 2 \\
     --feed examples/late.pb
+make takes a folder and deliveries that it makes of three numbers through the
+whole way, reads no file, and counts what the feed says of all stops:
+  ./gateway make --seed 0 --trips 1 --stops 3
 
 Standard output gets the result, standard error a report on each file or why
 there is no result; of show, the report ends the result; of serve, each answer

@@ -19,8 +19,8 @@ use journey_model::Report;
 use siri_calls::DeliveryFault;
 use std::alloc::{AllocError, Global};
 
-// The end that a fault of a file's body is.
-fn body_end(alloc: Global, name: &str, fault: DeliveryFault) -> Result<Exit, AllocError>
+/// The end that a fault of a file's body is.
+pub fn body_end(alloc: Global, name: &str, fault: DeliveryFault) -> Result<Exit, AllocError>
     ensures { IfOk result (λ end. end ≡ ends.body_end name.now fault) }
 {
     match fault {

@@ -61,8 +61,8 @@ fn with_word(
     Ok(text)
 }
 
-// The end that a fault of a feed's body is.
-fn feed_end(alloc: Global, name: &str, fault: FeedFault) -> Result<Exit, AllocError>
+/// The end that a fault of a feed's body is.
+pub fn feed_end(alloc: Global, name: &str, fault: FeedFault) -> Result<Exit, AllocError>
     ensures { IfOk result (λ end. end ≡ ends.feed_end name.now fault) }
 {
     let text = match fault {

@@ -1,6 +1,6 @@
 //! The program `gateway`: deliveries of SIRI 2.0 over one GTFS Schedule folder become a GTFS Realtime 2.0
-//! feed, and a feed becomes a delivery or lines; a server takes both and answers both. `main` hands the real words and devices to
-//! the top call.
+//! feed, and a feed becomes a delivery or lines; a server takes both and answers both; and a sample that is made
+//! shows on any machine that it works. `main` hands the real words and devices to the top call.
 #![tactic(auto)]
 
 mod command_line;
@@ -12,6 +12,7 @@ mod exit;
 mod feeds;
 mod folder_end;
 mod reading;
+mod samples;
 mod server_run;
 mod task_run;
 #[cfg(test)]

@@ -1,12 +1,12 @@
-//! A run of a command that reads files, writes its result and ends. The definitions are those of `specs/Runs.antt`.
-ghost use Rattle.std.specs.Prelude.{◌≡◌, ◌≤◌, ◌⊎◌, ◌++◌, ℕ, length, take, IfSome, OnOk, IsErr};
+//! A run of a command that writes its result and ends. The definitions are those of `specs/Runs.antt`.
+ghost use Rattle.std.specs.Prelude.{◌≡◌, ◌≤◌, ◌⊎◌, ◌++◌, ℕ, false, length, take, OnOk, IsErr};
 ghost use Rattle.gw_base.specs.Changes.{change};
 ghost use Rattle.gw_base.specs.Count.{Rose, Counts};
 ghost use Rattle.gw_base.specs.Told.{with_bytes, PutsUnless};
 ghost use Rattle.gateway.specs.Published.{PublishesTask};
 ghost use Rattle.gateway.specs.Runs.{RunsTask};
-ghost use Rattle.gateway.specs.Windowed.{HasWindow};
-ghost use Rattle.gateway.specs.Words.{task_scope};
+ghost use Rattle.gateway.specs.Windowed.{CanRun};
+ghost use Rattle.gateway.specs.Work.{OverFiles, reads_files};
 ghost use Rattle.gateway.specs.Works.{task_of};
 
 use crate::done::Done;
@@ -40,13 +40,14 @@ pub fn run_task<F: Files, S: Sink, E: Sink>(
     out: &mut S,
     err: &mut E,
 ) -> u8
-    requires { HasWindow (task_scope (task_of task.now)).from (task_scope (task_of task.now)).days }
+    requires { CanRun (task_of task.now) }
     ensures run { RunsTask (task_of task.now) result (change F.told F.faults files.old files.new)
         (change S.told S.faults out.old out.new) (change E.told E.faults err.old err.new) }
-    ensures publishes { result ≡ 0 → IfSome (F.told files.old) (λ told.
+    ensures publishes { result ≡ 0 → OverFiles (task_of task.now) (F.told files.old) (λ told.
         PublishesTask (task_of task.now) told (S.told out.old) (S.told out.new)) }
     ensures worded { ¬ (result ≡ 2) }
     ensures files { F.told files.new ≡ F.told files.old }
+    ensures unread { reads_files (task_of task.now) ≡ false → files.new ≡ files.old }
     ensures beside { (S.beside out.new ≡ S.beside out.old) × (E.beside err.new ≡ E.beside err.old) }
     ensures counts { (F.faults files.old ≤ F.faults files.new)
         × (S.faults out.old ≤ S.faults out.new) × (E.faults err.old ≤ E.faults err.new) }

@@ -15,6 +15,7 @@ mod items;
 mod producer;
 mod rounds;
 mod runs;
+mod samples;
 mod serving;
 mod situations;
 mod told;

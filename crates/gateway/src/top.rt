@@ -8,7 +8,7 @@ ghost use Rattle.gateway_server.specs.Serving.{Tells};
 ghost use Rattle.gateway.specs.Headline.{Headline};
 ghost use Rattle.gateway.specs.Published.{Publishes};
 ghost use Rattle.gateway.specs.Runs.{IsRun, line};
-ghost use Rattle.gateway.specs.Words.{IsJob, Task, task_job};
+ghost use Rattle.gateway.specs.Words.{IsJob, Make, Task, make_task, task_job};
 
 use crate::ending::{ended, turned_away};
 use crate::exit::{DONE, Exit, FAILED};
@@ -53,13 +53,15 @@ pub fn gateway<F: Files, D: Door, C: Clock, S: Sink, E: Sink>(
       };
     }) }
 
-    // With status 0 and files that are told, `out` got a feed that publishes just the journeys taken, or what else the words ask for.
-    ensures publishes { result ≡ 0 → IfSome (F.told files.old) (λ told.
-        Publishes words.now told (S.told out.old) (S.told out.new)) }
+    // With status 0, `out` got what the words ask for over files that are told: a feed that publishes just the journeys
+    // taken, or what else; and of `make` the counts of its sample, whatever is told.
+    ensures publishes { result ≡ 0 → Publishes words.now (F.told files.old) (S.told out.old) (S.told out.new) }
 
-    // With words of no command no device but `err` is called, and other commands than `serve` call neither door nor clock.
+    // With words of no command no device but `err` is called; other commands than `serve` call neither door nor clock, and
+    // `make` calls no files either.
     ensures uncalled { result ≡ 2 → (files.new ≡ files.old) × (out.new ≡ out.old) × (door.new ≡ door.old) × (clock.new ≡ clock.old) }
     ensures idle { (task : Task) → IsJob words.now (task_job task) → (door.new ≡ door.old) × (clock.new ≡ clock.old) }
+    ensures unread { (command : Make) → IsJob words.now (task_job (make_task command)) → files.new ≡ files.old }
 
     // What stays: the files, that no connection is present, and what the streams show beside. No count falls.
     ensures files { F.told files.new ≡ F.told files.old }

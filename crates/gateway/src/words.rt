@@ -1,13 +1,16 @@
 //! The words of a command line. Only exactly the lists of words of a command are accepted.
 ghost use Rattle.std.specs.Prelude.{◌≡◌, length, IfOk, IfErr};
 ghost use Rattle.gateway.specs.Words as said;
-ghost use Rattle.gateway.specs.Words.{IsJob, IsRefusedAt, Says, SaysScope, SaysServe, SaysShow, SaysTask, SaysToGtfsrt, SaysToSiri, zone_by};
+ghost use Rattle.gateway.specs.Words.{IsJob, IsRefusedAt, Says, SaysMake, SaysScope, SaysServe, SaysShow, SaysTask, SaysToGtfsrt, SaysToSiri, zone_by};
 ghost use Rattle.gateway.specs.Works.{job_of, scope_of, server_of, task_of, zone_of};
 
 mod forms;
 mod table;
 
-use forms::{Form, connection_count, day_count, first_day, kept_count, moment};
+use forms::{
+    Form, connection_count, day_count, first_day, kept_count, moment, seed_number, stop_count,
+    trip_count,
+};
 use gw_base::{Moment, Text};
 use service_day::Day;
 use table::{Command, Pair, check};
@@ -54,7 +57,7 @@ pub struct Server<'a> {
     pub connections: u32,
 }
 
-/// A command that reads files, writes its result and ends.
+/// A command that writes its result and ends.
 #[derive(Clone, Copy, Debug)]
 pub enum Task<'a> {
     /// `to-gtfsrt`: deliveries become a feed.
@@ -81,6 +84,15 @@ pub enum Task<'a> {
         over: Scope<'a>,
         /// The feed's file.
         feed: &'a Text,
+    },
+    /// `make`: a sample is run through the whole path, and what its feed says is counted. It reads no file.
+    Make {
+        /// What its draws begin with.
+        seed: u32,
+        /// How many trips it has, from 1 to 20,000.
+        trips: u32,
+        /// At how many stops each of them stops, from 2 to 100.
+        stops: u32,
     },
 }
 
@@ -138,6 +150,21 @@ const FEED: Pair = Pair {
     form: Form::Filled,
 };
 
+const SEED: Pair = Pair {
+    flags: &["--seed"],
+    form: Form::Seed,
+};
+
+const TRIPS: Pair = Pair {
+    flags: &["--trips"],
+    form: Form::TripCount,
+};
+
+const STOPS: Pair = Pair {
+    flags: &["--stops"],
+    form: Form::StopCount,
+};
+
 // No further pair.
 const NONE: Pair = Pair {
     flags: &[],
@@ -145,7 +172,7 @@ const NONE: Pair = Pair {
 };
 
 // The commands. In a list of words the value of the pair of number n, from 0 on, is the word of number 2n + 2.
-static COMMANDS: [Command; 4] = [
+static COMMANDS: [Command; 5] = [
     Command {
         name: "serve",
         pairs: &[GTFS, ZONE, FROM, DAYS, KEEP, LISTEN, CONNECTIONS],
@@ -167,6 +194,11 @@ static COMMANDS: [Command; 4] = [
     Command {
         name: "show",
         pairs: &[GTFS, ZONE, FROM, DAYS, FEED],
+        repeated: NONE,
+    },
+    Command {
+        name: "make",
+        pairs: &[SEED, TRIPS, STOPS],
         repeated: NONE,
     },
 ];
@@ -243,6 +275,18 @@ fn show(words: &[Text]) -> Task<'_>
     }
 }
 
+// What the words of `make` say.
+fn make(words: &[Text]) -> Task<'_>
+    requires { (command : said.Make) × SaysMake words.now command }
+    ensures { SaysTask words.now (task_of result) }
+{
+    Task::Make {
+        seed: seed_number(&words[2]).unwrap(),
+        trips: trip_count(&words[4]).unwrap(),
+        stops: stop_count(&words[6]).unwrap(),
+    }
+}
+
 // What the words of a command say.
 fn read(words: &[Text]) -> Work<'_>
     requires { (job : said.Job) × IsJob words.now job }
@@ -252,6 +296,7 @@ fn read(words: &[Text]) -> Work<'_>
         "serve" => Work::Serve(serve(words)),
         "to-gtfsrt" => Work::Task(to_gtfsrt(words)),
         "to-siri" => Work::Task(to_siri(words)),
+        "make" => Work::Task(make(words)),
         _ => Work::Task(show(words)),
     }
 }

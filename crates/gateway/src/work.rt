@@ -1,12 +1,12 @@
 //! The work of the commands, step by step in the order of `specs/Work.antt`. Nothing is written here.
-ghost use Rattle.std.specs.Prelude.{◌≡◌, ◌++◌, ◌<◌, IfOk, IfSome, IsErrOf, length, None, Ok, Err};
+ghost use Rattle.std.specs.Prelude.{◌≡◌, ◌++◌, ◌<◌, false, IfOk, IfSome, IsErrOf, length, None, Ok, Err};
 ghost use Rattle.gw_base.specs.Answers.{UnlessFree};
 ghost use Rattle.gw_base.specs.Count.{Counts};
 ghost use Rattle.gateway.specs.Exits.{is_free};
 ghost use Rattle.gateway.specs.Work as steps;
-ghost use Rattle.gateway.specs.Windowed.{HasWindow};
+ghost use Rattle.gateway.specs.Windowed.{CanRun, HasWindow};
 ghost use Rattle.gateway.specs.Words as said;
-ghost use Rattle.gateway.specs.Words.{by_file, task_scope};
+ghost use Rattle.gateway.specs.Words.{by_file};
 ghost use Rattle.gateway.specs.Works.{scope_of, task_of, zone_of};
 
 use crate::deliveries::deliveries;
@@ -15,6 +15,7 @@ use crate::exit::Exit;
 use crate::feeds::{feed_file, lines_of, siri_of};
 use crate::folder_end::folder_end;
 use crate::reading::{ZONE_LIMIT, further_file};
+use crate::samples::made_line;
 use crate::words::{Scope, Task, ZoneWord};
 use gateway_core::{Gateway, Setting};
 use gw_base::{Files, Moment, Text};
@@ -238,15 +239,17 @@ fn show<F: Files>(alloc: Global, files: &mut F, scope: &Scope<'_>, feed: &str) -
 
 /// The work of a command over the files: what it writes, or how it ends.
 pub fn carried_out<F: Files>(alloc: Global, task: &Task<'_>, files: &mut F) -> Result<Done, Exit>
-    requires { HasWindow (task_scope (task_of task.now)).from (task_scope (task_of task.now)).days }
-    ensures told { IfSome (F.told files.old) (λ told. UnlessFree is_free result
+    requires { CanRun (task_of task.now) }
+    ensures told { steps.OverFiles (task_of task.now) (F.told files.old) (λ told. UnlessFree is_free result
         (steps.TaskWork (task_of task.now) told)) }
     ensures counts { Counts (IsErrOf result Exit.Failed) (F.faults files.old) (F.faults files.new) }
     ensures same { F.told files.new ≡ F.told files.old }
+    ensures unread { steps.reads_files (task_of task.now) ≡ false → files.new ≡ files.old }
 {
     match task {
         Task::ToGtfsrt { over, at, more } => to_gtfsrt(alloc, files, over, *at, more),
         Task::ToSiri { over, at, feed } => to_siri(alloc, files, over, *at, feed.as_str()),
         Task::Show { over, feed } => show(alloc, files, over, feed.as_str()),
+        Task::Make { seed, trips, stops } => made_line(alloc, *seed, *trips, *stops),
     }
 }

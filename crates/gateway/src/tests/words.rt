@@ -53,7 +53,17 @@ static WRONG: [(usize, &str); 41] = [
 ];
 
 // Lists of words, each with where it stops being the start of an accepted one.
-static LISTS: [(&str, usize); 25] = [
+static LISTS: [(&str, usize); 34] = [
+    // A sample's words, and numbers outside of their ranges.
+    ("make --seed 0 --trips 1 --stops", 6),
+    ("make --trips 1 --seed 0 --stops 2", 1),
+    ("make --seed 2147483648 --trips 1 --stops 2", 2),
+    ("make --seed -1 --trips 1 --stops 2", 2),
+    ("make --seed 0 --trips 0 --stops 2", 4),
+    ("make --seed 0 --trips 20001 --stops 2", 4),
+    ("make --seed 0 --trips 1 --stops 1", 6),
+    ("make --seed 0 --trips 1 --stops 101", 6),
+    ("make --seed 0 --trips 1 --stops 2 --gtfs", 7),
     // A server's words, which keeps fewer days than it has.
     ("serve --gtfs g", 3),
     (

@@ -25,6 +25,18 @@ pub const MOST_KEPT: u64 = 31;
 /// The most connections that a server serves.
 pub const MOST_CONNECTIONS: u64 = 4_294_967_295;
 
+/// The greatest seed of a sample.
+pub const MOST_SEED: u64 = 2_147_483_647;
+
+/// The most trips of a sample.
+pub const MOST_TRIPS: u64 = 20_000;
+
+/// The fewest stops of a trip of a sample.
+pub const FEWEST_STOPS: u64 = 2;
+
+/// The most stops of a trip of a sample.
+pub const MOST_STOPS: u64 = 100;
+
 /// The most digits of a number.
 pub const MOST_DIGITS: usize = 10;
 
@@ -43,6 +55,12 @@ pub enum Form {
     ConnectionCount,
     /// `YYYY-MM-DDThh:mm:ssZ`, from 1970 to 9998.
     Moment,
+    /// A seed from 0 to 2,147,483,647.
+    Seed,
+    /// A number of trips from 1 to 20,000.
+    TripCount,
+    /// A number of stops from 2 to 100.
+    StopCount,
 }
 
 /// The value of a word that is a day from 1971 to 9997.
@@ -116,6 +134,27 @@ pub fn connection_count(word: &Text) -> Option<u32>
     Some(number_in(1, MOST_CONNECTIONS, word)? as u32)
 }
 
+/// The value of a word that is a seed.
+pub fn seed_number(word: &Text) -> Option<u32>
+    ensures { result ≡ spec.seed_number word.now }
+{
+    Some(number_in(0, MOST_SEED, word)? as u32)
+}
+
+/// The value of a word that is a number of trips.
+pub fn trip_count(word: &Text) -> Option<u32>
+    ensures { result ≡ spec.trip_count word.now }
+{
+    Some(number_in(1, MOST_TRIPS, word)? as u32)
+}
+
+/// The value of a word that is a number of stops.
+pub fn stop_count(word: &Text) -> Option<u32>
+    ensures { result ≡ spec.stop_count word.now }
+{
+    Some(number_in(FEWEST_STOPS, MOST_STOPS, word)? as u32)
+}
+
 // That many days from the first one on, if there is a first one, end in 9997 at the latest.
 fn ends_in_time(first: Option<Day>, days: u8) -> bool
     ensures { result ≡ spec.ends_in_time first (Some days) }
@@ -160,5 +199,8 @@ pub fn has_form(form: Form, before: &Text, word: &Text) -> bool
         },
         Form::ConnectionCount => connection_count(word).is_some(),
         Form::Moment => moment(word).is_some(),
+        Form::Seed => seed_number(word).is_some(),
+        Form::TripCount => trip_count(word).is_some(),
+        Form::StopCount => stop_count(word).is_some(),
     }
 }

@@ -3,17 +3,17 @@ use Rattle.std.proofs.Common.{inl, inr, refl}
 use Rattle.std.specs.Prelude.{ℕ, ◌≡◌}
 use Rattle.gw_base.specs.Changes.{change}
 use Rattle.gw_base.specs.Count.{Rose}
-use Rattle.gateway.specs.Words.{serve_job, task_job}
+use Rattle.gateway.specs.Words.{make_task}
 use Rattle.gateway.specs.Works.{server_of, task_of}
 use Rattle.gateway.proofs.HeadlineLemmas.{idle, of_run}
 use Rattle.gateway.proofs.PublishedLemmas.{by_server, by_task}
-use Rattle.gateway.proofs.WordLemmas.{has_window, not_both}
+use Rattle.gateway.proofs.WordLemmas.{can_run, not_both, reads_none, serves}
 use Rattle.gateway.proofs.top.gateway.Goals as goal
 
 -- ---- a server
 
 pub run_server-requires-clause-window : goal.run_server-requires-clause-window
-run_server-requires-clause-window g c = has_window c.args.words.now (serve_job (server_of c.in-Ok-Serve.server)) (rw c.in-Ok-Serve.field-0-is at c.in-Ok-Serve.ensures.accepted)
+run_server-requires-clause-window g c = serves c.args.words.now (server_of c.in-Ok-Serve.server) (rw c.in-Ok-Serve.field-0-is at c.in-Ok-Serve.ensures.accepted)
 
 pub returns-in-Ok-Serve-clause-headline : goal.returns-in-Ok-Serve-clause-headline
 returns-in-Ok-Serve-clause-headline g c =
@@ -46,10 +46,14 @@ pub returns-in-Ok-Serve-clause-idle : goal.returns-in-Ok-Serve-clause-idle
 returns-in-Ok-Serve-clause-idle g c = λ task is.
     absurd (not_both c.args.words.now (server_of c.in-Ok-Serve.server) task (rw c.in-Ok-Serve.field-0-is at c.in-Ok-Serve.ensures.accepted) is)
 
+pub returns-in-Ok-Serve-clause-unread : goal.returns-in-Ok-Serve-clause-unread
+returns-in-Ok-Serve-clause-unread g c = λ command is.
+    absurd (not_both c.args.words.now (server_of c.in-Ok-Serve.server) (make_task command) (rw c.in-Ok-Serve.field-0-is at c.in-Ok-Serve.ensures.accepted) is)
+
 -- ---- a command that ends
 
 pub run_task-requires : goal.run_task-requires
-run_task-requires g c = has_window c.args.words.now (task_job (task_of c.in-Ok-Task.task)) (rw c.in-Ok-Task.field-0-is at c.in-Ok-Task.ensures.accepted)
+run_task-requires g c = can_run c.args.words.now (task_of c.in-Ok-Task.task) (rw c.in-Ok-Task.field-0-is at c.in-Ok-Task.ensures.accepted)
 
 pub returns-in-Ok-Task-clause-headline : goal.returns-in-Ok-Task-clause-headline
 returns-in-Ok-Task-clause-headline g c =
@@ -66,6 +70,10 @@ returns-in-Ok-Task-clause-run g c = inr (inl (record {
 pub returns-in-Ok-Task-clause-publishes : goal.returns-in-Ok-Task-clause-publishes
 returns-in-Ok-Task-clause-publishes g c = λ zero.
     by_task c.args.words.now (g.F.Files.told c.args.files.now) (task_of c.in-Ok-Task.task) _ _ (rw c.in-Ok-Task.field-0-is at c.in-Ok-Task.ensures.accepted) (c.run_task.ensures.publishes zero)
+
+pub returns-in-Ok-Task-clause-unread : goal.returns-in-Ok-Task-clause-unread
+returns-in-Ok-Task-clause-unread g c = λ command is.
+    c.run_task.ensures.unread (reads_none c.args.words.now (task_of c.in-Ok-Task.task) command (rw c.in-Ok-Task.field-0-is at c.in-Ok-Task.ensures.accepted) is)
 
 pub returns-in-Ok-Task-clause-uncalled : goal.returns-in-Ok-Task-clause-uncalled
 returns-in-Ok-Task-clause-uncalled g c = λ two. absurd (c.run_task.ensures.worded two)
