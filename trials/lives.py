@@ -8,6 +8,7 @@ from datetime import date, datetime, timedelta, timezone
 
 from reading.files import CaseFiles, NotReadable
 from reading.folder import FileMissing, FolderFault
+from reading.moments import moment_text
 from reading.outcome import FurtherFault
 from reading.server import Setting
 from reading.words import BadWord
@@ -33,6 +34,9 @@ class Life:
         self.words = [word.encode() for word in [*world.words("serve"), "--keep", str(keep)]]
         listened = [*self.words, b"--listen", b"x:1", b"--connections", b"1"]
         self.setting = Setting(listened, CaseFiles(world.files))
+        table = self.setting.table
+        carried = [trip for trip in range(len(table.trips)) if table.trips[trip].stops]
+        self.dated = [(trip, day) for day in world.window[:6] for trip in carried if table.runs(trip, day)]
 
     def write(self, folder):
         for name, data in self.world.files.items():
@@ -44,6 +48,8 @@ class Life:
         """A target and a body for it: one that is at hand, or a random one."""
         if self.ready and dice.one_in(3):
             return dice.choice(self.ready)
+        if self.dated and dice.one_in(3):
+            return "/siri/et", self.sound_delivery(dice)
         target = dice.choice(("/siri/et", "/siri/et", "/siri/sx", "/gtfs-rt"))
         if target == "/gtfs-rt":
             return target, random_feed(dice, self.world)
@@ -52,16 +58,46 @@ class Life:
         return target, random_body(dice, maker, oddness)
 
 
+    def sound_delivery(self, dice):
+        """Journeys that run, with calls that are a little late, recorded at one of a few moments."""
+        dated = [dice.choice(self.dated) for _ in range(dice.choice((1, 2, 5, 12)))]
+        frame = {"EstimatedVehicleJourney": [self.sound_journey(dice, trip, day) for trip, day in dated]}
+        delivery = {"EstimatedTimetableDelivery": [{"EstimatedJourneyVersionFrame": [frame]}]}
+        return json.dumps({"Siri": {"ServiceDelivery": delivery}}).encode()
+
+    def sound_journey(self, dice, trip, day):
+        named = {"DataFrameRef": str(day), "DatedVehicleJourneyRef": self.setting.table.trips[trip].id}
+        recorded = dice.choice(("06:00:00Z", "06:00:00Z", "06:00:00.5Z", "06:00:01Z", "07:00:00Z"))
+        item = {"FramedVehicleJourneyRef": named, "RecordedAtTime": f"2026-06-12T{recorded}"}
+        if dice.one_in(8):
+            return item | {"Cancellation": True}
+        late, calls = 0, []
+        for order, stop in enumerate(self.setting.context(day).planned(trip, day), 1):
+            if dice.one_in(4):
+                late = dice.choice((0, 30, 60, 300, -20))
+            call = {"StopPointRef": stop.id, "Order": order}
+            kind = dice.randrange(12)
+            if kind == 0:
+                call["Cancellation"] = True
+            elif kind > 1:
+                call["ExpectedArrivalTime"] = moment_text(stop.arrival + late)
+                call["ExpectedDepartureTime"] = moment_text(stop.departure + late)
+            calls.append(call)
+        return item | {"EstimatedCalls": {"EstimatedCall": calls}}
+
+
 REFUSED = (BadWord, FileMissing, FolderFault, ZoneRefused, FurtherFault, NotReadable)
 
 
 def made_life(dice, kind):
-    """A life of the kind. Of random folders the first that isn't refused."""
+    """A life of the kind. Of random folders the first that isn't refused and, mostly, has a journey in its window."""
     while True:
         try:
-            return LIVES[kind](dice)
+            life = LIVES[kind](dice)
         except REFUSED:
             continue
+        if life.dated or dice.one_in(20):
+            return life
 
 
 def today():
