@@ -93,15 +93,15 @@ def make_rows(place, stop_times):
     write_delivery(place, [])
 
 
-def make_cancelled(place):
+def make_cancelled(place, day=DAY):
     trips, journeys = 200_000, 50_000
     make_folder(place, trips, 0)
 
     def journey(number, filler):
         return (
-            f'{{"Cancellation":true,"FramedVehicleJourneyRef":{{"DataFrameRef":"{DAY}",'
+            f'{{"Cancellation":true,"FramedVehicleJourneyRef":{{"DataFrameRef":"{day}",'
             f'"DatedVehicleJourneyRef":"trip:{number * 3 % trips:06}"}},'
-            f'"RecordedAtTime":"{DAY}T06:00:00Z","DestinationName":"{"x" * filler}"}}'
+            f'"RecordedAtTime":"{day}T06:00:00Z","DestinationName":"{"x" * filler}"}}'
         )
 
     filler = (MOST_BODY - 300) // journeys - len(journey(0, 0)) - 1

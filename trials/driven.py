@@ -2,6 +2,7 @@
 
 import contextlib
 import os
+import resource
 import socket
 import struct
 import subprocess
@@ -25,20 +26,18 @@ def free_port():
 
 
 class Server:
-    """A server over the words of `serve` up to `--keep`, in a folder."""
+    """A server over the words of `serve` up to `--keep`, in a folder; its address space may have a limit in bytes."""
 
     def __init__(self, program, words, folder, connections, limit=None):
         self.port, self.left, self.folder = free_port(), connections, folder
         words = [program.encode(), *words, b"--listen", f"{LISTEN}:{self.port}".encode()]
         words += [b"--connections", str(connections).encode()]
-        if limit is not None:
-            words = [b"prlimit", f"--as={limit}".encode(), *words]
         self.err = os.path.join(folder, "err")
         with open(self.err, "wb") as err:
             self.process = subprocess.Popen(
-                words, cwd=folder, stdin=subprocess.DEVNULL, stdout=subprocess.PIPE, stderr=err
+                words, cwd=folder, stdin=subprocess.DEVNULL, stdout=subprocess.PIPE, stderr=err,
+                preexec_fn=limit and (lambda: resource.setrlimit(resource.RLIMIT_AS, (limit, limit))),
             )
-        self.longest = 0.0
 
     def said(self):
         with open(self.err, "rb") as file:

@@ -30,7 +30,7 @@ class Life:
     """The words and files of a server, what its connections mean, and a way to make bodies for it."""
 
     def __init__(self, kind, world, keep, ready=()):
-        self.kind, self.world, self.keep, self.ready = kind, world, keep, list(ready)
+        self.kind, self.world, self.keep, self.ready, self.sent = kind, world, keep, list(ready), 0
         self.words = [word.encode() for word in [*world.words("serve"), "--keep", str(keep)]]
         listened = [*self.words, b"--listen", b"x:1", b"--connections", b"1"]
         self.setting = Setting(listened, CaseFiles(world.files))
@@ -59,7 +59,8 @@ class Life:
 
 
     def sound_delivery(self, dice):
-        """Journeys that run, with calls that are a little late, recorded at one of a few moments."""
+        """Journeys that run, with calls that are a little late. Every few of such deliveries are recorded some minutes later."""
+        self.sent += 1
         dated = [dice.choice(self.dated) for _ in range(dice.choice((1, 2, 5, 12)))]
         frame = {"EstimatedVehicleJourney": [self.sound_journey(dice, trip, day) for trip, day in dated]}
         delivery = {"EstimatedTimetableDelivery": [{"EstimatedJourneyVersionFrame": [frame]}]}
@@ -67,8 +68,9 @@ class Life:
 
     def sound_journey(self, dice, trip, day):
         named = {"DataFrameRef": str(day), "DatedVehicleJourneyRef": self.setting.table.trips[trip].id}
-        recorded = dice.choice(("06:00:00Z", "06:00:00Z", "06:00:00.5Z", "06:00:01Z", "07:00:00Z"))
-        item = {"FramedVehicleJourneyRef": named, "RecordedAtTime": f"2026-06-12T{recorded}"}
+        seconds = dice.choice(("00", "00", "00", "00.5", "01"))
+        recorded = f"2026-06-12T{6 + self.sent // 240:02}:{self.sent // 4 % 60:02}:{seconds}Z"
+        item = {"FramedVehicleJourneyRef": named, "RecordedAtTime": recorded}
         if dice.one_in(8):
             return item | {"Cancellation": True}
         late, calls = 0, []
