@@ -1,5 +1,6 @@
 """What a server of a trial serves: a folder with its zone and window, and the bodies that its senders have."""
 
+import importlib.util
 import json
 import pathlib
 import subprocess
@@ -9,7 +10,7 @@ from datetime import date, datetime, timedelta, timezone
 from reading.files import CaseFiles, NotReadable
 from reading.folder import FileMissing, FolderFault
 from reading.moments import moment_text
-from reading.outcome import FurtherFault
+from reading.outcome import MOST_SITUATIONS, FurtherFault
 from reading.server import Setting
 from reading.words import BadWord
 from reading.zones import ZoneRefused
@@ -95,10 +96,10 @@ def made_life(dice, kind):
     """A life of the kind. Of random folders the first that isn't refused and, mostly, has a journey in its window."""
     while True:
         try:
-            life = LIVES[kind](dice)
+            life = (LIVES | LARGE)[kind](dice)
         except REFUSED:
             continue
-        if life.dated or dice.one_in(20):
+        if life.dated or kind in LARGE or dice.one_in(20):
             return life
 
 
@@ -197,4 +198,53 @@ def texts(dice):
     return life
 
 
+# Lives whose bodies are large. They are posted in their order, and take some minutes.
+
+
+def situations(dice):
+    """As many situations as are kept, each with the longest alert, and one more; the feed has 328 MB."""
+    life = riverside(dice)
+    life.kind = "situations"
+    stop = life.world.stops[0]
+    items = [situation_of(i, MOST_ALERT, stop) for i in range(MOST_SITUATIONS + 1)]
+    life.ready = [("/siri/sx", situations_body(items[i : i + 250])) for i in range(0, len(items), 250)]
+    return life
+
+
+def of_bench(name, make):
+    """A life over a folder that bench/inputs.py makes, with the bodies that it makes."""
+    inputs = load_inputs()
+    with tempfile.TemporaryDirectory(prefix="trials-") as folder:
+        make(inputs, folder)
+        found = files_below(folder)
+    files = {file.replace("gtfs/", "g/"): data for file, data in found.items() if file.startswith("gtfs/")}
+    first = max(inputs.DAY, today())
+    world = World(["--zone-rule", "UTC0"], first, 3, files, [], [], [], [])
+    bodies = {"delivery.json": "/siri/et", "feed.pb": "/gtfs-rt"}
+    return Life(name, world, 1, [(target, found[file]) for file, target in bodies.items() if file in found])
+
+
+def load_inputs():
+    found = importlib.util.spec_from_file_location("inputs", CHECKOUT / "bench" / "inputs.py")
+    module = importlib.util.module_from_spec(found)
+    found.loader.exec_module(module)
+    return module
+
+
+def journeys(_):
+    """A delivery of 13.2 MB with 1,200 journeys of 35 calls."""
+    return of_bench("journeys", lambda inputs, folder: inputs.make_calls(folder, today(), "Z"))
+
+
+def calls(_):
+    """A feed of 15.8 MB with 399,000 calls; its SIRI delivery has 90 MB. Its days are in 2037."""
+    def make(inputs, folder):
+        inputs.DAY = date(2037, 5, 1)
+        inputs.make_feed(folder)
+
+    life = of_bench("calls", make)
+    return life
+
+
 LIVES = {"riverside": riverside, "far": far, "near": near, "letters": letters, "texts": texts}
+LARGE = {"situations": situations, "journeys": journeys, "calls": calls}
