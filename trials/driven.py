@@ -44,7 +44,7 @@ class Server:
             return file.read()
 
     def connect(self, room=None):
-        """A client; while the server starts it is tried again. `room` is how many bytes its machine takes for it unread."""
+        """A client; while the server starts it is tried again. `room` is how many bytes are taken for it unread."""
         until = time.monotonic() + START_SECONDS
         while True:
             client = socket.socket()

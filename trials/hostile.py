@@ -130,8 +130,8 @@ def whole_entity(length):
     raise ValueError(length)
 
 
-# Bodies that have a length: their target, how they are made of a count, a small count, and that of a long one. A small one
-# and a long one have one answer; the second reading says that of the small one.
+# Bodies that have a length: their target, how they are made of a count, a small count, and that of a long one. A small
+# one and a long one have one answer; the second reading says that of the small one.
 LONG = [
     ("[", "/siri/et", lambda n: b"[" * n, 200, MOST_BODY),
     ('{"a":', "/siri/sx", lambda n: b'{"a":' * n, 200, MOST_BODY // 5),

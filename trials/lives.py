@@ -60,7 +60,7 @@ class Life:
 
 
     def sound_delivery(self, dice):
-        """Journeys that run, with calls that are a little late. Every few of such deliveries are recorded some minutes later."""
+        """Journeys that run, with calls that are a little late. Behind each four of them the record is a minute later."""
         self.sent += 1
         dated = [dice.choice(self.dated) for _ in range(dice.choice((1, 2, 5, 12)))]
         frame = {"EstimatedVehicleJourney": [self.sound_journey(dice, trip, day) for trip, day in dated]}
@@ -116,7 +116,8 @@ def riverside(dice):
     files = {name.replace("gtfs/", "g/"): data for name, data in found.items() if name.startswith("gtfs/")}
     trips = {row["trip_id"]: [] for row in rows_of(files["g/trips.txt"])}
     for row in rows_of(files["g/stop_times.txt"]):
-        trips[row["trip_id"]].append((int(row["stop_sequence"]), row["stop_id"], row["arrival_time"], row["departure_time"]))
+        times = row["arrival_time"], row["departure_time"]
+        trips[row["trip_id"]].append((int(row["stop_sequence"]), row["stop_id"], *times))
     carried = [TripRow(name, "", "", sorted(stops)) for name, stops in trips.items() if stops]
     world = World(
         ["--zone-rule", LONDON], friday, 3, files, carried, carried,

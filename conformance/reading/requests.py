@@ -1,8 +1,8 @@
 """What the input of a connection asks for: where its head ends, its target, and the length of its body.
 
-The grammar of a head is that of `httparse` with its default settings: a token, a target of visible characters or bytes past
-ASCII in UTF-8, `HTTP/1.0` or `HTTP/1.1`, one space between them; lines end in CR LF or LF; a name is a token with the
-colon right behind it, and a value has no control byte but the tab.
+The grammar of a head is that of `httparse` with its default settings: a token, a target of visible characters or of
+others than ASCII's in UTF-8, `HTTP/1.0` or `HTTP/1.1`, one space between them; lines end in CR LF or LF; a name is a
+token with the colon right behind it, and a value has no control byte but the tab.
 """
 
 import re

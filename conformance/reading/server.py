@@ -62,7 +62,7 @@ def started(setting):
 
 
 def answers(setting, connections):
-    """The answers to connections, one after the other; each is its moment in seconds since 1970, and its whole input."""
+    """The answers to connections, one after the other; each is its moment, in seconds, and its whole input."""
     state, given = started(setting), []
     for moment, data in connections:
         answer, state = answered(setting, state, moment, data)
