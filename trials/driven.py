@@ -3,9 +3,11 @@
 import contextlib
 import os
 import resource
+import signal
 import socket
 import struct
 import subprocess
+import sys
 import threading
 import time
 
@@ -17,6 +19,11 @@ LISTEN = "127.0.0.1"
 
 class Stopped(Exception):
     """The server isn't what it has to be: gone, silent, or holding what it should have given back."""
+
+
+def end_with_what_runs():
+    """Where this is told to end, it ends what it runs too."""
+    signal.signal(signal.SIGTERM, lambda *_: sys.exit(143))
 
 
 def free_port():
