@@ -178,7 +178,7 @@ def situation_of(number, length, stop):
     """A situation whose alert's entity has a body of that many bytes, for a number of 6 letters and one stop."""
     item = {"SituationNumber": f"N{number:05}", "Version": 1, "Progress": "open"}
     item["Affects"] = {"StopPoints": {"AffectedStopPoint": {"StopPointRef": stop}}}
-    item["Description"] = "d" * (length - 60 - len(stop.encode()))
+    item["Description"] = "d" * (length - 38 - len(stop.encode()))
     return item
 
 
