@@ -212,14 +212,13 @@ def situations(dice):
     return life
 
 
-def of_bench(name, make):
-    """A life over a folder that bench/inputs.py makes, with the bodies that it makes."""
+def of_bench(name, first, make):
+    """A life over a folder that bench/inputs.py makes, with the bodies that it makes, from a day on."""
     inputs = load_inputs()
     with tempfile.TemporaryDirectory(prefix="trials-") as folder:
         make(inputs, folder)
         found = files_below(folder)
     files = {file.replace("gtfs/", "g/"): data for file, data in found.items() if file.startswith("gtfs/")}
-    first = max(inputs.DAY, today())
     world = World(["--zone-rule", "UTC0"], first, 3, files, [], [], [], [])
     bodies = {"delivery.json": "/siri/et", "feed.pb": "/gtfs-rt"}
     return Life(name, world, 1, [(target, found[file]) for file, target in bodies.items() if file in found])
@@ -234,17 +233,14 @@ def load_inputs():
 
 def journeys(_):
     """A delivery of 13.2 MB with 1,200 journeys of 35 calls."""
-    return of_bench("journeys", lambda inputs, folder: inputs.make_calls(folder, today(), "Z"))
+    return of_bench("journeys", today(), lambda inputs, folder: inputs.make_calls(folder, today(), "Z"))
 
 
 def calls(_):
     """A feed of 15.8 MB with 399,000 calls; its SIRI delivery has 90 MB. Its days are in 2037."""
-    def make(inputs, folder):
-        inputs.DAY = date(2037, 5, 1)
-        inputs.make_feed(folder)
-
-    life = of_bench("calls", make)
-    return life
+    start = int(datetime(2037, 5, 1, tzinfo=timezone.utc).timestamp())
+    day = date(2037, 5, 1)
+    return of_bench("calls", day, lambda inputs, folder: inputs.make_feed(folder, day, start))
 
 
 LIVES = {"riverside": riverside, "far": far, "near": near, "letters": letters, "texts": texts}
