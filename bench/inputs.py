@@ -93,15 +93,15 @@ def make_rows(place, stop_times):
     write_delivery(place, [])
 
 
-def make_cancelled(place):
+def make_cancelled(place, day=DAY):
     trips, journeys = 200_000, 50_000
     make_folder(place, trips, 0)
 
     def journey(number, filler):
         return (
-            f'{{"Cancellation":true,"FramedVehicleJourneyRef":{{"DataFrameRef":"{DAY}",'
+            f'{{"Cancellation":true,"FramedVehicleJourneyRef":{{"DataFrameRef":"{day}",'
             f'"DatedVehicleJourneyRef":"trip:{number * 3 % trips:06}"}},'
-            f'"RecordedAtTime":"{DAY}T06:00:00Z","DestinationName":"{"x" * filler}"}}'
+            f'"RecordedAtTime":"{day}T06:00:00Z","DestinationName":"{"x" * filler}"}}'
         )
 
     filler = (MOST_BODY - 300) // journeys - len(journey(0, 0)) - 1
@@ -171,11 +171,12 @@ def bytes_field(number, body):
     return varint(number * 8 + 2) + varint(len(body)) + body
 
 
-def make_feed(place):
+def make_feed(place, date_of=DAY, start=1_714_514_400):
+    """A feed of a day, whose times count from that second."""
     trips, stops = 11_400, 35
     make_folder(place, trips, stops)
     rnd = random.Random(trips)
-    day, start = b'%d%02d%02d' % (DAY.year, DAY.month, DAY.day), 1_714_514_400
+    day = b'%d%02d%02d' % (date_of.year, date_of.month, date_of.day)
     feed = [bytes_field(1, bytes_field(1, b'2.0') + number_field(2, 0) + number_field(3, start))]
     for trip in range(trips):
         name = b'trip:%06d' % trip

@@ -78,8 +78,10 @@ def random_stops(dice, pool, untimed):
     return rows
 
 
-def random_world(dice):
+def random_world(dice, clock_days=None):
+    """A world round days on which its zone's clock may change, or round the days that are given."""
     zone, files, days = random_zone(dice)
+    days = clock_days or days
     first = date.fromisoformat(dice.choice(days))
     count = dice.choice((1, 1, 2, 2, 3, 32))
     first -= timedelta(days=dice.choice((0, 0, 0, 1, 1, 2)))
