@@ -4,7 +4,6 @@ use Rattle.std.specs.Prelude.{IsOk, OnOk, ◌≤◌}
 use Rattle.gw_base.specs.Changes.{Change}
 use Rattle.gw_base.specs.Connections.{Beside, Connections}
 use Rattle.gw_base.specs.declared.door.Entry.{Entry}
-use Rattle.gw_base.specs.declared.door.Mark.{Mark}
 use Rattle.gw_base.specs.declared.door.Mark.TheVariants as mark
 use Rattle.gateway_core.specs.Arrivals.{Arrival, Given, feed, journeys, situations}
 use Rattle.gateway_core.specs.Standing.{Kept}
@@ -14,10 +13,9 @@ use Rattle.gateway_server.specs.Log.{IsFront, IsLawful, IsLawfulLog, answered, l
 use Rattle.gateway_server.specs.Serving.{IsEnd, ServesAll, Tells}
 use Rattle.gw_base.specs.Answers.{UnlessFree}
 use Rattle.gateway.specs.Exits.{is_free, status_of}
-use Rattle.gateway.specs.Headline.{HasArrived, Headline, ServesFeed, ServesText, Shows, ShowsAsTold}
-use Rattle.gateway.specs.Published.{IsSetting}
+use Rattle.gateway.specs.Headline.{HasArrived, Headline, ServesFeed, ServesText, Shows}
 use Rattle.gateway.specs.Runs.{Doorway, EndsServer, HasFailed, RunsServer}
-use Rattle.gateway.specs.Serving.{HasLogged, Served}
+use Rattle.gateway.specs.Serving.{Served}
 use Rattle.gateway.specs.Work.{Directory, SettingOf}
 use Rattle.gateway.specs.Words.{IsJob, Serve, serve_job}
 use Rattle.gateway.proofs.PublishedLemmas.{is_setting}

@@ -1,5 +1,5 @@
 -- The exit in which the work on a sample ends.
-use Rattle.std.proofs.Common.{◌≡◌, ℕ, Bool, true, false, Err, refl, sym, subst}
+use Rattle.std.proofs.Common.{◌≡◌, Bool, true, false, Err, sym, subst}
 use Rattle.std.specs.Prelude.{⊤}
 use Rattle.std.specs.Bool.{MatchBool}
 use Rattle.gw_base.specs.Answers.{UnlessFree}

@@ -7,7 +7,6 @@ use Rattle.std.proofs.lemmas.Bool.Decides.{nat_tests}
 use Rattle.std.proofs.lemmas.Cmp.{nat_list_eq_equiv}
 use Rattle.std.proofs.lemmas.Int.{ints}
 use Rattle.std.proofs.lemmas.Option.{none-some, option_and_then_some, same_Some, slice_get_read, slice_get_within}
-use Rattle.sample_maker.specs.Making.{IsSample}
 use Rattle.gateway.specs.Forms.{beginning, connection_count, day_count, decimal_number, ends_in_time, fewest_stops, first_day, keeps_fewer, kept_count, last_day, most_days, most_seed, most_stops, most_trips, number_in, seed_number, stop_count, trip_count}
 use Rattle.gateway.specs.Tables.{Command, Pair, with_name, ArePairs, IsAccepted}
 use Rattle.gateway.specs.Windowed.{CanRun, HasWindow}

@@ -1,5 +1,4 @@
 -- How the work on a sample ends: its folder, its deliveries and its feed have the name `made`.
-use Rattle.std.specs.Prelude.{codes}
 use Rattle.sample_run.specs.Made.{made}
 use Rattle.sample_run.specs.declared.fault.SampleFault.{SampleFault}
 use Rattle.sample_run.specs.declared.fault.SampleFault.TheVariants.{Folder, TooLong, Delivery, Feed, Memory}
