@@ -21,7 +21,7 @@ const REPORT: &[u8] = b"{\"aside\":[],\"passed\":0,\"taken\":1200}";
 
 // When a trip is at a stop, that late, in minutes of the day: `HH:MM:00`.
 fn time_of(alloc: Global, trip: u32, call: u32, late: u32) -> Result<String, AllocError> {
-    let minutes = 300 + trip % 720 + 2 * call + late;
+    let minutes = 300 + trip % 720 + 2 * (call % 100) + late % 100;
     let hour = minutes / 60;
     let minute = minutes % 60;
     format!(in alloc; "{hour:02}:{minute:02}:00")
