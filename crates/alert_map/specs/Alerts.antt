@@ -1,4 +1,5 @@
--- The alert of a situation (GTFS Realtime reference, Alert, EntitySelector, TimeRange, TranslatedString), and its entity.
+-- The alert of a situation (GTFS Realtime reference, Alert, EntitySelector, TimeRange, TranslatedString), and its
+-- entity.
 use Rattle.std.specs.Prelude.{◌≡◌, ℕ, pos, false, List, [], ◌∷◌, ◌++◌, codes, length, map, slice_get, unwrap_or, Option, Some, None}
 use Rattle.gw_base.specs.declared.messages.Alert.{Alert}
 use Rattle.gw_base.specs.declared.messages.Entity.{Entity}
@@ -29,7 +30,8 @@ abbrev pub trip_on : List ℕ → List ℕ → TripDescriptor
 trip_on trip_id date = record { trip_id = Some trip_id; start_date = Some date; relation = pos 0; route_id = None }
 
 abbrev pub trip_selector : List ℕ → List ℕ → Selector
-trip_selector trip_id date = record { agency_id = None; route_id = None; trip = Some (trip_on trip_id date); stop_id = None }
+trip_selector trip_id date =
+    record { agency_id = None; route_id = None; trip = Some (trip_on trip_id date); stop_id = None }
 
 -- the selector of what a situation refers to; the start_date of a journey is its service day as `YYYYMMDD`
 abbrev pub selector_of : Table → Ref → Selector
@@ -63,7 +65,8 @@ alert_id number = codes "alert:" ++ number
 
 -- the entity with which it is served
 abbrev pub alert_message : Table → Situation → Entity
-alert_message table one = record { id = alert_id one.number; deleted = false; trip_update = None; alert = Some (alert table one) }
+alert_message table one =
+    record { id = alert_id one.number; deleted = false; trip_update = None; alert = Some (alert table one) }
 
 -- how many bytes the body of an entity has: what is written of it without its tag and its length in the feed
 abbrev pub entity_body_len : Entity → ℕ

@@ -39,10 +39,10 @@ fn translations(alloc: Global, text: &Option<Text>) -> Result<List<Translation>,
     Ok(all)
 }
 
-/// The alert of a situation (SIRI 2.0, PtSituationElement; GTFS Realtime reference, Alert): its periods in whole seconds since
-/// 1970, what it refers to as selectors in order, a journey by trip_id and start_date, its cause and effect, and its texts,
-/// each in one translation without a language. The condition is that the timetable has all that is referred to. Err for
-/// want of memory.
+/// The alert of a situation (SIRI 2.0, PtSituationElement; GTFS Realtime reference, Alert): its periods in whole
+/// seconds since 1970, what it refers to as selectors in order, a journey by trip_id and start_date, its cause and
+/// effect, and its texts, each in one translation without a language. The condition is that the timetable has all that
+/// is referred to. Err for want of memory.
 pub fn alert_of(
     alloc: Global,
     table: &Timetable,

@@ -40,10 +40,10 @@ fn message(alloc: Global, table: &Timetable, situation: &Situation) -> Result<En
     })
 }
 
-/// The bytes of a situation's entity as a field of a feed (GTFS Realtime reference, FeedEntity), whether it is served or not:
-/// the id `alert:` with the situation's number, and its alert. Behind the bytes of a feed they mean that feed with this
-/// entity more. The condition is that the timetable has all that is referred to. Err for want of memory, also where there
-/// are more bytes than a buffer can have.
+/// The bytes of a situation's entity as a field of a feed (GTFS Realtime reference, FeedEntity), whether it is served
+/// or not: the id `alert:` with the situation's number, and its alert. Behind the bytes of a feed they mean that feed
+/// with this entity more. The condition is that the timetable has all that is referred to. Err for want of memory, also
+/// where there are more bytes than a buffer can have.
 pub fn alert_entity(
     alloc: Global,
     table: &Timetable,

@@ -17,7 +17,8 @@ static FOLDER: [(&str, &[u8]); 6] = [
     ("g/trips.txt", b"route_id,service_id,trip_id\nR1,D,T1\n"),
     (
         "g/calendar.txt",
-        b"service_id,monday,tuesday,wednesday,thursday,friday,saturday,sunday,start_date,end_date\nD,1,1,1,1,1,1,1,20240301,20240630\n",
+        b"service_id,monday,tuesday,wednesday,thursday,friday,saturday,sunday,start_date,end_date\n\
+          D,1,1,1,1,1,1,1,20240301,20240630\n",
     ),
     (
         "g/stop_times.txt",

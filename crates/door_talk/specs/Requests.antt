@@ -21,7 +21,8 @@ HasRead before now bytes =
 abbrev pub IsEnded : Beside → Type 0
 IsEnded now = IfSome now.told (λ told. told.unread ≡ [])
 
--- the head of an input, of which these bytes were read, ends at `from` of the piece that came last; or the request is refused by its head
+-- the head of an input, of which these bytes were read, ends at `from` of the piece that came last; or the request is
+-- refused by its head
 abbrev pub ReadsHead : Beside → List ℕ → List ℕ → HeadRead → Type 0
 ReadsHead now bytes piece (heads.Ended head from to) =
     (from ≤ to) × (to ≤ length piece)
@@ -35,7 +36,8 @@ abbrev pub AsksFor : List ℕ → List ℕ → Asked → Type 0
 AsksFor input body (asked.Get target) = IsRequest input (request.Get target)
 AsksFor input body (asked.Post target) = IsRequest input (request.Post target body)
 AsksFor input body (asked.Refused why) = IsRequest input (request.Refused why)
-AsksFor input body asked.NoRoom = (count : ℕ) × (head : Head) × IsHead input count (Ok head) × (is_post head.target ≡ true)
+AsksFor input body asked.NoRoom =
+    (count : ℕ) × (head : Head) × IsHead input count (Ok head) × (is_post head.target ≡ true)
 AsksFor input body asked.Lost = ⊤
 
 -- a GET is of a target that is got, and a POST is to one that is posted

@@ -10,4 +10,5 @@ pub record Change (Told : Type 0) : Type 0 where
 
 -- the change of an object, by what it tells and its count
 abbrev pub change : {Object Told : Type 0} → (Object → Option Told) → (Object → ℕ) → Object → Object → Change Told
-change told faults old new = record { before = told old; now = told new; faults_before = faults old; faults_now = faults new }
+change told faults old new =
+    record { before = told old; now = told new; faults_before = faults old; faults_now = faults new }

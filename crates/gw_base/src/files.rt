@@ -36,11 +36,14 @@ pub trait Files {
     /// Reads the file of that name, of at most `limit` bytes, behind what is in `into`. On every other
     /// answer `into` stays as it was. No call changes the files.
     fn read_file(&mut self, name: &str, limit: u64, into: &mut Bytes) -> Result<Got, FileFault>
-        ensures appended { result ≡ Ok Got.Whole → (bytes : List ℕ) × (length bytes ≤ limit) × (into.new ≡ into.old ++ bytes) }
+        ensures appended { result ≡ Ok Got.Whole → (bytes : List ℕ) × (length bytes ≤ limit)
+            × (into.new ≡ into.old ++ bytes) }
         ensures kept { result ≢ Ok Got.Whole → into.new ≡ into.old }
-        ensures whole { result ≡ Ok Got.Whole → IfSome (told self.old) (λ files. IsRead (bytes_of files name.now) limit into.old into.new) }
+        ensures whole { result ≡ Ok Got.Whole → IfSome (told self.old)
+            (λ files. IsRead (bytes_of files name.now) limit into.old into.new) }
         ensures missing { result ≡ Ok Got.Missing → IfSome (told self.old) (λ files. bytes_of files name.now ≡ None) }
-        ensures too_long { result ≡ Ok Got.TooLong → IfSome (told self.old) (λ files. IsLonger (bytes_of files name.now) limit) }
+        ensures too_long { result ≡ Ok Got.TooLong → IfSome (told self.old)
+            (λ files. IsLonger (bytes_of files name.now) limit) }
         ensures counts { Counts (IsErrOf result FileFault.Failed) (faults self.old) (faults self.new) }
         ensures same { told self.new ≡ told self.old };
 }

@@ -51,7 +51,8 @@ impl Clock for MemoryClock {
 
     fn now(&mut self) -> Result<Moment, Failed>
         // A call goes well exactly where it is not to fail and a moment is left, and then takes that one off.
-        ensures went { gives_next self.old ≡ true → IsOkAnd result (λ moment. self.old.moments ≡ moment ∷ self.new.moments) × (self.new.uses ≡ after_use self.old.uses) }
+        ensures went { gives_next self.old ≡ true → IsOkAnd result
+            (λ moment. self.old.moments ≡ moment ∷ self.new.moments) × (self.new.uses ≡ after_use self.old.uses) }
         ensures failed { gives_next self.old ≡ false → IsErr result × (self.new ≡ after_failed self.old) }
         ensures counts { Counts (IsErr result) self.old.uses.faults self.new.uses.faults }
 

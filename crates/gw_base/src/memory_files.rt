@@ -57,7 +57,8 @@ impl Files for MemoryFiles {
     ghost faults = { λ m. m.uses.faults };
 
     fn read_file(&mut self, name: &str, limit: u64, into: &mut Bytes) -> Result<Got, FileFault>
-        ensures appended { result ≡ Ok Got.Whole → (bytes : List ℕ) × (length bytes ≤ limit) × (into.new ≡ into.old ++ bytes) }
+        ensures appended { result ≡ Ok Got.Whole → (bytes : List ℕ) × (length bytes ≤ limit)
+            × (into.new ≡ into.old ++ bytes) }
         ensures kept { result ≢ Ok Got.Whole → into.new ≡ into.old }
         ensures whole { result ≡ Ok Got.Whole → IsRead (bytes_of self.old.files name.now) limit into.old into.new }
         ensures missing { result ≡ Ok Got.Missing → bytes_of self.old.files name.now ≡ None }
@@ -68,7 +69,8 @@ impl Files for MemoryFiles {
         ensures fails { fails_next self.old.uses ≡ true → result ≡ Err FileFault.Failed }
         ensures goes { fails_next self.old.uses ≡ false → result ≢ Err FileFault.Failed }
         ensures files { self.new.files ≡ self.old.files }
-        ensures uses { self.new.uses ≡ (if fails_next self.old.uses then after_fault self.old.uses else after_use self.old.uses) }
+        ensures uses { self.new.uses ≡ (if fails_next self.old.uses then after_fault self.old.uses
+            else after_use self.old.uses) }
     {
         if !self.uses.begin(true) {
             return Err(FileFault::Failed);

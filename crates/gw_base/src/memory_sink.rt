@@ -31,7 +31,11 @@ impl MemorySink {
     /// An empty sink with room for that many bytes, which are taken at once. `fails` has the numbers,
     /// from 1, of the writes that are to fail.
     pub fn make(alloc: Global, room: u64, fails: List<u64>) -> Result<MemorySink, AllocError>
-        ensures made { IfOk result (λ sink. sink ≡ record { written = []; room = room; uses = record { fails = fails; made = 0; faults = 0 } }) }
+        ensures made { IfOk result (λ sink. sink ≡ record {
+          written = [];
+          room = room;
+          uses = record { fails = fails; made = 0; faults = 0 };
+        }) }
     {
         Ok(MemorySink {
             written: Buf::with_room(alloc, room as usize)?,
@@ -55,8 +59,19 @@ impl Sink for MemorySink {
     fn write(&mut self, piece: &[u8]) -> Result<usize, Failed>
         requires { 0 < length piece.now }
         // A write goes well exactly where it is not to fail and its piece fits, and then takes all of it.
-        ensures went { fits_next self.old piece.now ≡ true → (result ≡ Ok (length piece.now)) × (self.new ≡ record { written = self.old.written ++ piece.now; room = self.old.room - length piece.now; uses = after_use self.old.uses }) }
-        ensures failed { fits_next self.old piece.now ≡ false → IsErr result × (self.new ≡ record { written = self.old.written; room = self.old.room; uses = after_fault self.old.uses }) }
+        ensures went { fits_next self.old piece.now ≡ true
+            → (result ≡ Ok (length piece.now)) × (self.new
+            ≡ record {
+              written = self.old.written ++ piece.now;
+              room = self.old.room - length piece.now;
+              uses = after_use self.old.uses;
+            }) }
+        ensures failed { fits_next self.old piece.now ≡ false
+            → IsErr result × (self.new ≡ record {
+              written = self.old.written;
+              room = self.old.room;
+              uses = after_fault self.old.uses;
+            }) }
 
         ensures counts { Counts (IsErr result) self.old.uses.faults self.new.uses.faults }
     {

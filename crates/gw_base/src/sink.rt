@@ -33,7 +33,8 @@ pub trait Sink {
 /// Takes no memory.
 pub fn put_all<S: Sink>(sink: &mut S, bytes: &[u8]) -> Result<(), Failed>
     ensures all { OnOk result (S.told sink.new ≡ with_bytes (S.told sink.old) bytes.now) }
-    ensures front { PutsUnless (Rose (S.faults sink.old) (S.faults sink.new)) (S.told sink.old) (S.told sink.new) bytes.now }
+    ensures front { PutsUnless (Rose (S.faults sink.old) (S.faults sink.new)) (S.told sink.old)
+        (S.told sink.new) bytes.now }
     ensures counts { Counts (IsErr result) (S.faults sink.old) (S.faults sink.new) }
     ensures others { S.beside sink.new ≡ S.beside sink.old }
 {

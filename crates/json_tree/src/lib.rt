@@ -1,5 +1,5 @@
-//! JSON as a tree whose texts stand where they were read (RFC 8259). Its data is what `serde_json` reads from the text, by
-//! that crate's definition `read`.
+//! JSON as a tree whose texts stand where they were read (RFC 8259). Its data is what `serde_json` reads from the text,
+//! by that crate's definition `read`.
 #![tactic(auto)]
 
 mod looking;

@@ -90,8 +90,8 @@ fn tree_of_text<'a>(
     }
 }
 
-/// The tree of bytes that are JSON in UTF-8 (RFC 8259), as `serde_json` reads it. `scratch` has room for texts with escapes.
-/// Want of memory may come in the place of any answer.
+/// The tree of bytes that are JSON in UTF-8 (RFC 8259), as `serde_json` reads it. `scratch` has room for texts with
+/// escapes. Want of memory may come in the place of any answer.
 pub fn read_tree<'a>(
     alloc: Global,
     bytes: &'a [u8],

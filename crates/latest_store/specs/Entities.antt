@@ -30,7 +30,8 @@ relation_of (Stops readings) = pos 0
 
 -- the trip on that day
 abbrev pub descriptor : List ℕ → List ℕ → JourneyReading → TripDescriptor
-descriptor date trip_id reading = record { trip_id = Some trip_id; start_date = Some date; relation = relation_of reading; route_id = None }
+descriptor date trip_id reading =
+    record { trip_id = Some trip_id; start_date = Some date; relation = relation_of reading; route_id = None }
 
 -- what its entity says: the trip on its day, the shortest updates of its reading, and the second of recording
 abbrev pub message : List ℕ → Run → Recorded → Entity

@@ -1,5 +1,5 @@
--- Which of the records of a journey counts (SIRI 2.0, RecordedAtTime), and which of the situations of a number (SIRI 2.0,
--- SituationNumber, Version).
+-- Which of the records of a journey counts (SIRI 2.0, RecordedAtTime), and which of the situations of a number (SIRI
+-- 2.0, SituationNumber, Version).
 use Rattle.std.specs.Prelude.{◌≡◌, ◌==◌, ◌&&◌, ◌||◌, ℕ, ℤ, int_lt, nat_lt, Bool, false, true, List, ◌∷◌, ◌++◌, Option, Some, None}
 use Rattle.std.specs.List.{AllByRecursion, list_any}
 use Rattle.std.specs.Ordering.{int_eq}

@@ -30,8 +30,11 @@ fn message(
     rec: &JourneyRecord,
 ) -> Result<Entity, AllocError>
     requires { fits_trip dated.now.start dated.now.stops.now rec.now.reading ≡ true }
-    ensures message { (ids : List (List ℕ)) → IfOk result (λ entity. entity ≡ spec.message trip_id.now (run_of ids dated.now) (recorded rec.now)) }
-    ensures says { (ids : List (List ℕ)) → IfOk result (λ _. Says (run_of ids dated.now) (shortest dated.now.start dated.now.stops.now rec.now.reading) rec.now.reading) }
+    ensures message { (ids : List (List ℕ)) → IfOk result
+        (λ entity. entity ≡ spec.message trip_id.now (run_of ids dated.now) (recorded rec.now)) }
+    ensures says { (ids : List (List ℕ)) → IfOk result
+        (λ _. Says (run_of ids dated.now) (shortest dated.now.start dated.now.stops.now rec.now.reading)
+        rec.now.reading) }
     ensures day { day_of Compact (compact_text rec.now.day) ≡ Some rec.now.day }
     ensures date { length (compact_text rec.now.day) ≡ 8 }
 {
@@ -61,11 +64,13 @@ fn entity_of(
 ) -> Result<Bytes, AllocError>
     requires fits { fits_trip dated.now.start dated.now.stops.now rec.now.reading ≡ true }
     requires trip { rec.now.trip.0 < length context.now.table.now.trips }
-    requires on_day { run_on (schedule_of context.now) rec.now.trip.0 rec.now.day ≡ Some (run_of context.now.table.now.stops dated.now) }
+    requires on_day { run_on (schedule_of context.now) rec.now.trip.0 rec.now.day
+        ≡ Some (run_of context.now.table.now.stops dated.now) }
     requires runs { (seen context.now.table.now).runs rec.now.trip.0 rec.now.day ≡ true }
     ensures bytes { IfOk result (λ bytes. bytes ≡ spec.entity (schedule_of context.now) (recorded rec.now)) }
     ensures means { IfOk result (λ bytes. (before : List ℕ) (feed : Feed) → MeansFeed before feed
-        → MeansFeed (before ++ bytes) (with_messages feed (spec.messages (schedule_of context.now) (recorded rec.now)))) }
+        → MeansFeed (before ++ bytes) (with_messages feed
+        (spec.messages (schedule_of context.now) (recorded rec.now)))) }
     ensures says { IfOk result (λ _. SaysItself (schedule_of context.now) (recorded rec.now)) }
 {
     if is_silent(&rec.reading) {
@@ -95,7 +100,8 @@ pub fn record_entity(
     requires { IsServable (schedule_of context.now) rec.now.trip.0 rec.now.day rec.now.reading }
     ensures bytes { IfOk result (λ bytes. bytes ≡ spec.entity (schedule_of context.now) (recorded rec.now)) }
     ensures means { IfOk result (λ bytes. (before : List ℕ) (feed : Feed) → MeansFeed before feed
-        → MeansFeed (before ++ bytes) (with_messages feed (spec.messages (schedule_of context.now) (recorded rec.now)))) }
+        → MeansFeed (before ++ bytes) (with_messages feed
+        (spec.messages (schedule_of context.now) (recorded rec.now)))) }
     ensures says { IfOk result (λ _. SaysItself (schedule_of context.now) (recorded rec.now)) }
 {
     let Some(dated) = context.dated(rec.trip, rec.day) else {
@@ -114,7 +120,8 @@ pub fn prepare_record(
     ensures rec { IfOk result (λ made. made.rec ≡ rec) }
     ensures bytes { IfOk result (λ made. made.entity ≡ spec.entity (schedule_of context.now) (recorded rec)) }
     ensures means { IfOk result (λ made. (before : List ℕ) (feed : Feed) → MeansFeed before feed
-        → MeansFeed (before ++ made.entity) (with_messages feed (spec.messages (schedule_of context.now) (recorded rec)))) }
+        → MeansFeed (before ++ made.entity) (with_messages feed
+        (spec.messages (schedule_of context.now) (recorded rec)))) }
     ensures says { IfOk result (λ _. SaysItself (schedule_of context.now) (recorded rec)) }
 {
     let entity = record_entity(alloc, context, &rec)?;

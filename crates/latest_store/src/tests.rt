@@ -27,7 +27,8 @@ static FOLDER: [(&str, &[u8]); 6] = [
     ),
     (
         "g/stop_times.txt",
-        b"trip_id,arrival_time,departure_time,stop_id,stop_sequence\nT1,08:00:00,08:00:00,A,10\nT1,08:10:00,08:10:00,B,20\n",
+        b"trip_id,arrival_time,departure_time,stop_id,stop_sequence\nT1,08:00:00,08:00:00,A,10\n\
+          T1,08:10:00,08:10:00,B,20\n",
     ),
 ];
 

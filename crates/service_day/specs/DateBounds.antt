@@ -43,7 +43,8 @@ year_in n = omega (arith, ints, year_high n)
 pub month_in : (n : ℤ) → IsInRange 1 12 (month_of n)
 month_in n = (month_low n, month_high n)
 
-pub day_in : (n : ℤ) → IsInRange 1 (days_in_month (pos (year_of n)) (month_of n)) (min (day_of_month n) (days_in_month (pos (year_of n)) (month_of n)))
+pub day_in : (n : ℤ) → IsInRange 1 (days_in_month (pos (year_of n)) (month_of n))
+    (min (day_of_month n) (days_in_month (pos (year_of n)) (month_of n)))
 day_in n = omega (arith, day_low n, days_in_month_bounds (pos (year_of n)) (month_of n))
 
 pub hour_in : (second : ℕ) → second / 3600 % 24 < 24

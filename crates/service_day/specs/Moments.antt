@@ -52,7 +52,8 @@ digits_part text =
     then Some (tenths 100000000 (take (digits_len text) text), digits_len text + 1)
     else None
 
--- the fraction of a second that begins the text, in nanoseconds, and how many characters it takes: a dot (46) and digits, or nothing
+-- the fraction of a second that begins the text, in nanoseconds, and how many characters it takes: a dot (46) and
+-- digits, or nothing
 unfoldable pub fraction_part : List ℕ → Option (ℕ × ℕ)
 fraction_part text = if slice_index text 0 == 46 then digits_part (drop 1 text) else Some (0, 0)
 
@@ -104,6 +105,7 @@ moment_of zone text =
     offset_part (drop fraction.1 (drop 19 text)) >>= (λ offset.
     instant_if (second_at zone offset shown.0 shown.1) fraction.0)))
 
--- how one instant stands to another, each in seconds and nanoseconds: by the seconds, and where these are equal by the nanoseconds
+-- how one instant stands to another, each in seconds and nanoseconds: by the seconds, and where these are equal by the
+-- nanoseconds
 abbrev pub instant_order : ℤ × ℕ → ℤ × ℕ → Ordering
 instant_order a b = ordering_then (int_cmp a.0 b.0) (nat_cmp a.1 b.1)

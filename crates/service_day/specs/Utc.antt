@@ -31,7 +31,8 @@ utc_form = codes "0000-00-00T00:00:00Z"
 unfoldable pub utc_of : List ℕ → Option ℤ
 utc_of text =
     if has_form utc_form text
-    then moment_at (date_number (four_at text 0) (two_at text 5) (two_at text 8)) (two_at text 11) (two_at text 14) (two_at text 17)
+    then moment_at (date_number (four_at text 0) (two_at text 5) (two_at text 8)) (two_at text 11) (two_at text 14)
+    (two_at text 17)
     else None
 
 -- the hours, minutes and seconds of a second of the day

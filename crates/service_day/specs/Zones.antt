@@ -18,7 +18,8 @@ abbrev pub offset_at : Rules → ℤ → ℤ
 offset_at (Rule zone) nanos = Zone.offset_at (plain_zone zone) nanos
 offset_at (Table table) nanos = (Tzif.offset_at table nanos).seconds
 
--- the seconds that the clock is ahead of UTC where it shows a date and time, by the compatible choice: in a gap or a fold those before the change
+-- the seconds that the clock is ahead of UTC where it shows a date and time, by the compatible choice: in a gap or a
+-- fold those before the change
 abbrev pub local_offset : Rules → DateTime → ℤ
 local_offset (Rule zone) shown = (compatible_offset (Zone.ambiguous_at (plain_zone zone) shown)).seconds
 local_offset (Table table) shown = (compatible_offset (Tzif.ambiguous_at table shown)).seconds

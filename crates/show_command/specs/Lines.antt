@@ -1,5 +1,5 @@
--- What `show` prints of a feed that was read: a line for each cancelled journey and for each stop of the others, a line for
--- each entity that was set aside, and the line of counts.
+-- What `show` prints of a feed that was read: a line for each cancelled journey and for each stop of the others, a line
+-- for each entity that was set aside, and the line of counts.
 use Rattle.std.specs.Prelude.{ℕ, ℤ, List, [], ◌++◌, codes, decimal, length, slice_get, unwrap_or}
 use Rattle.std.specs.List.{enumerate_from, flat_map, zip}
 use Rattle.service_day.specs.DayTexts.{dashed_text}
@@ -63,7 +63,8 @@ reading_lines table trip name Cancelled = cancelled_line name
 reading_lines table trip name (Stops readings) = stop_lines table.stops name (zip (table.stops_of trip) readings)
 
 abbrev pub journey_lines : Table → DatedReading → List ℕ
-journey_lines table one = reading_lines table one.trip.0 (journey_name one.day (id_of table.trips one.trip.0)) one.reading
+journey_lines table one =
+    reading_lines table one.trip.0 (journey_name one.day (id_of table.trips one.trip.0)) one.reading
 
 -- `aside I FAULT`, for the entity of that number
 abbrev pub aside_line : ℕ × Fault → List ℕ
@@ -72,7 +73,8 @@ aside_line one = codes "aside " ++ decimal one.0 ++ codes " " ++ fault_text one.
 -- `taken T passed P aside N`
 abbrev pub count_line : ℕ → ℕ → ℕ → List ℕ
 count_line taken passed aside =
-    codes "taken " ++ decimal taken ++ codes " passed " ++ decimal passed ++ codes " aside " ++ decimal aside ++ codes "\n"
+    codes "taken " ++ decimal taken ++ codes " passed " ++ decimal passed ++ codes " aside " ++ decimal aside
+    ++ codes "\n"
 
 -- what is shown of a feed: the journeys in the order in which they were read, the entities set aside, and the counts
 abbrev pub shown : Schedule → FeedReading → List ℕ

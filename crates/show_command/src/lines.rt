@@ -110,10 +110,10 @@ fn add_counts(lines: &mut Bytes, taken: u64, passed: u64, aside: u64) -> Result<
     lines.extend(b"\n")
 }
 
-/// What `show` prints of a feed that was read over that timetable, zone and window (GTFS Realtime reference, TripUpdate and
-/// StopTimeUpdate), each line with LF: for each journey `DAY TRIP cancelled`, or for each of its stops, numbered from 1,
-/// `DAY TRIP K STOP ARRIVAL DEPARTURE`, `DAY TRIP K STOP skipped` or `DAY TRIP K STOP absent`, days as `YYYY-MM-DD` and
-/// times as `YYYY-MM-DDThh:mm:ssZ`; then `aside I FAULT` for each entity that was set aside; and last
+/// What `show` prints of a feed that was read over that timetable, zone and window (GTFS Realtime reference, TripUpdate
+/// and StopTimeUpdate), each line with LF: for each journey `DAY TRIP cancelled`, or for each of its stops, numbered
+/// from 1, `DAY TRIP K STOP ARRIVAL DEPARTURE`, `DAY TRIP K STOP skipped` or `DAY TRIP K STOP absent`, days as
+/// `YYYY-MM-DD` and times as `YYYY-MM-DDThh:mm:ssZ`; then `aside I FAULT` for each entity that was set aside; and last
 /// `taken T passed P aside N`. Err for want of memory.
 pub fn show_lines(
     alloc: Global,

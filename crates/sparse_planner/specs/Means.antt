@@ -1,4 +1,5 @@
--- What it is that a list of updates says how a trip's stops read, and that another list has an update wherever it has one.
+-- What it is that a list of updates says how a trip's stops read, and that another list has an update wherever it has
+-- one.
 use Rattle.std.specs.Prelude.{◌≡◌, ◌==◌, ℕ, IsTrue, List, Ok, ⊤}
 use Rattle.std.specs.List.{list_any}
 use Rattle.gw_base.specs.declared.messages.StopUpdate.{StopUpdate}
@@ -26,7 +27,8 @@ HasPlace place places = IsTrue (list_any (λ other. other == place) places)
 -- every list of updates that says the same has an update at each place of these
 abbrev pub IsLeast : Run → List StopUpdate → List StopReading → Type 0
 IsLeast run updates readings =
-    (mine : SaysStops run updates readings) (others : List StopUpdate) (theirs : SaysStops run others readings) (place : ℕ)
+    (mine : SaysStops run updates readings) (others : List StopUpdate) (theirs : SaysStops run others readings)
+    (place : ℕ)
     → HasPlace place mine.at → HasPlace place theirs.at
 
 abbrev pub IsLeastOf : Run → List StopUpdate → JourneyReading → Type 0

@@ -21,7 +21,8 @@ is_skipped (Timed arrival departure) = false
 abbrev pub same_reading : StopReading → StopReading → Bool
 same_reading Absent Absent = true
 same_reading Skipped Skipped = true
-same_reading (Timed arrival departure) (Timed other_arrival other_departure) = int_eq arrival other_arrival && int_eq departure other_departure
+same_reading (Timed arrival departure) (Timed other_arrival other_departure) =
+    int_eq arrival other_arrival && int_eq departure other_departure
 same_reading Absent Skipped = false
 same_reading Absent (Timed arrival departure) = false
 same_reading Skipped Absent = false
@@ -34,12 +35,13 @@ abbrev pub nearest : List (StopRow × StopReading) → Option (StopRow × StopRe
 nearest [] = None
 nearest (stop ∷ stops) = option_or (nearest stops) (if is_skipped stop.1 then None else Some stop)
 
--- what a stop supplies to one behind it on a day that starts at that second: nothing where it is absent, else the planned
--- times with the delay of its departure
+-- what a stop supplies to one behind it on a day that starts at that second: nothing where it is absent, else the
+-- planned times with the delay of its departure
 abbrev pub supplied_by : ℤ → StopRow → StopRow → StopReading → StopReading
 supplied_by start row earlier Absent = Absent
 supplied_by start row earlier Skipped = Absent
-supplied_by start row earlier (Timed arrival departure) = later_by (planned start row) (departure -ℤ (planned start earlier).1)
+supplied_by start row earlier (Timed arrival departure) =
+    later_by (planned start row) (departure -ℤ (planned start earlier).1)
 
 -- what the stops before a stop supply to it
 abbrev pub supply : ℤ → StopRow → Option (StopRow × StopReading) → StopReading
@@ -56,8 +58,10 @@ event planned time = Some (record { delay = Some (time -ℤ planned); time = Som
 
 -- the update of a stop: SKIPPED, NO_DATA where it is absent, or both events
 abbrev pub update : ℤ → StopRow → StopReading → StopUpdate
-update start row Absent = record { sequence = Some row.sequence; arrival = None; departure = None; stop_id = None; relation = pos 2 }
-update start row Skipped = record { sequence = Some row.sequence; arrival = None; departure = None; stop_id = None; relation = pos 1 }
+update start row Absent =
+    record { sequence = Some row.sequence; arrival = None; departure = None; stop_id = None; relation = pos 2 }
+update start row Skipped =
+    record { sequence = Some row.sequence; arrival = None; departure = None; stop_id = None; relation = pos 1 }
 update start row (Timed arrival departure) = record {
   sequence = Some row.sequence;
   arrival = event (planned start row).0 arrival;
@@ -70,7 +74,8 @@ update start row (Timed arrival departure) = record {
 abbrev pub updates_from : ℤ → List (StopRow × StopReading) → List (StopRow × StopReading) → List StopUpdate
 updates_from start before [] = []
 updates_from start before (stop ∷ stops) =
-    (if needs_update start before stop then update start stop.0 stop.1 ∷ [] else []) ++ updates_from start (before ++ stop ∷ []) stops
+    (if needs_update start before stop then update start stop.0 stop.1 ∷ [] else [])
+    ++ updates_from start (before ++ stop ∷ []) stops
 
 -- the shortest list for a journey of these stops that reads so; none for a cancelled one
 abbrev pub shortest : ℤ → List StopRow → JourneyReading → List StopUpdate

@@ -35,7 +35,8 @@ IsRun bytes groups = (items : List Item) × Concatenates IsItem items bytes × (
 -- ten bytes that all have the high bit set
 abbrev pub BeginsLong : List ℕ → Type 0
 BeginsLong bytes =
-    (front : List ℕ) × (rest : List ℕ) × (bytes ≡ front ++ rest) × (length front ≡ 10) × AllByRecursion (λ byte. 128 ≤ byte) front
+    (front : List ℕ) × (rest : List ℕ) × (bytes ≡ front ++ rest) × (length front ≡ 10)
+    × AllByRecursion (λ byte. 128 ≤ byte) front
 
 -- a sound tag whose payload begins with a varint, and then such bytes
 abbrev pub BeginsLongPayload : List ℕ → Type 0
@@ -51,7 +52,8 @@ BeginsUnsound bytes =
 -- the end of a group that doesn't close the innermost of these open groups, or that comes while none is open
 abbrev pub BeginsEnd : List ℕ → List ℕ → Type 0
 BeginsEnd groups bytes =
-    (end : List ℕ) × (rest : List ℕ) × (number : ℕ) × (bytes ≡ end ++ rest) × IsItem (Ends number) end × (open_after_end groups number ≡ None)
+    (end : List ℕ) × (rest : List ℕ) × (number : ℕ) × (bytes ≡ end ++ rest) × IsItem (Ends number) end
+    × (open_after_end groups number ≡ None)
 
 -- the start of a group where 64 are open
 abbrev pub BeginsDeep : List ℕ → List ℕ → Type 0
@@ -67,7 +69,8 @@ HasKind BadGroup groups tail = BeginsEnd groups tail
 HasKind DeepGroup groups tail = BeginsDeep groups tail
 -- otherwise it is empty or ends inside an item
 HasKind Truncated groups tail =
-    ¬ (BeginsLong tail ⊎ BeginsLongPayload tail) × ¬ BeginsUnsound tail × ¬ BeginsEnd groups tail × ¬ BeginsDeep groups tail
+    ¬ (BeginsLong tail ⊎ BeginsLongPayload tail) × ¬ BeginsUnsound tail × ¬ BeginsEnd groups tail
+    × ¬ BeginsDeep groups tail
 
 -- the longest run that the bytes begin with, and the tail behind it
 pub record IsLongestRun (bytes run tail groups : List ℕ) : Type 0 where

@@ -110,10 +110,14 @@ pub record IsGroup (Spells : WireField → List ℕ → Type 0) (number : ℕ) (
 -- a field's spelling, where it is said what spells a group of a number; each other field is one item
 abbrev pub IsFieldWith : (ℕ → List ℕ → Type 0) → ℕ → Payload → List ℕ → Type 0
 IsFieldWith SpellsGroup number Group bytes = SpellsGroup number bytes
-IsFieldWith SpellsGroup number (Varint value) bytes = IsItem (Holds (record { number = number; payload = Varint value })) bytes
-IsFieldWith SpellsGroup number (Fixed64 value) bytes = IsItem (Holds (record { number = number; payload = Fixed64 value })) bytes
-IsFieldWith SpellsGroup number (Bytes body) bytes = IsItem (Holds (record { number = number; payload = Bytes body })) bytes
-IsFieldWith SpellsGroup number (Fixed32 value) bytes = IsItem (Holds (record { number = number; payload = Fixed32 value })) bytes
+IsFieldWith SpellsGroup number (Varint value) bytes =
+    IsItem (Holds (record { number = number; payload = Varint value })) bytes
+IsFieldWith SpellsGroup number (Fixed64 value) bytes =
+    IsItem (Holds (record { number = number; payload = Fixed64 value })) bytes
+IsFieldWith SpellsGroup number (Bytes body) bytes =
+    IsItem (Holds (record { number = number; payload = Bytes body })) bytes
+IsFieldWith SpellsGroup number (Fixed32 value) bytes =
+    IsItem (Holds (record { number = number; payload = Fixed32 value })) bytes
 
 -- a group where so many groups may be open at once, itself among them
 unfoldable pub IsGroupWithin : ℕ → ℕ → List ℕ → Type 0

@@ -1,5 +1,5 @@
--- Reading from the front of bytes, as the private functions are told: a value and the bytes behind it, or what is wrong.
--- No public contract cites it. Each of these is proved to be what the grammar says.
+-- Reading from the front of bytes, as the private functions are told: a value and the bytes behind it, or what is
+-- wrong. No public contract cites it. Each of these is proved to be what the grammar says.
 use Rattle.std.specs.Prelude.{◌≡◌, ℕ, zero, suc, ◌+◌, ◌*◌, ◌/◌, ◌%◌, ◌^◌, ◌&&◌, List, [], ◌∷◌, ◌++◌, length, take, drop, Result, Ok, Err, nat_lt, nat_le, if◌then◌else◌}
 use Rattle.std.specs.Int.{Width, w32, w64, byte_len, from_le_bytes}
 use Rattle.gw_base.specs.declared.wire_kind.WireKind.{WireKind}
@@ -77,7 +77,8 @@ kind_of_block (Ends number) = BadGroup
 abbrev pub EndsGroup : ℕ → List ℕ → List ℕ → Type 0
 EndsGroup number bytes rest =
     (inside : List ℕ) × (bytes ≡ inside ++ rest)
-    × ((start : List ℕ) → IsItem (holding number Group) start → IsSpelling 64 (record { number = number; payload = Group }) (start ++ inside))
+    × ((start : List ℕ) → IsItem (holding number Group) start
+    → IsSpelling 64 (record { number = number; payload = Group }) (start ++ inside))
 
 -- behind the start of a group of this number the bytes break in this way
 abbrev pub BreaksInGroup : ℕ → List ℕ → WireKind → Type 0

@@ -8,7 +8,8 @@ ghost use Rattle.wire_fields.specs.Spelling.{varint, varint_field, bytes_field};
 
 /// Bytes are at most one list of fields.
 pub fn fields_are_one()
-    ensures { (bytes : List ℕ) (fields others : List WireField) → AreFields bytes fields → AreFields bytes others → fields ≡ others }
+    ensures { (bytes : List ℕ) (fields others : List WireField) → AreFields bytes fields → AreFields bytes others
+        → fields ≡ others }
 {}
 
 /// Bytes break at most at one place and in one way.
@@ -19,8 +20,10 @@ pub fn the_break_is_one()
 
 /// Bytes are a list of fields or break, and never both.
 pub fn fields_or_a_break()
-    ensures one { (bytes : List ℕ) → ((fields : List WireField) × AreFields bytes fields) ⊎ ((at : ℕ) × (kind : WireKind) × IsBroken bytes at kind) }
-    ensures not_both { (bytes : List ℕ) (fields : List WireField) (at : ℕ) (kind : WireKind) → AreFields bytes fields → ¬ IsBroken bytes at kind }
+    ensures one { (bytes : List ℕ) → ((fields : List WireField) × AreFields bytes fields)
+        ⊎ ((at : ℕ) × (kind : WireKind) × IsBroken bytes at kind) }
+    ensures not_both { (bytes : List ℕ) (fields : List WireField) (at : ℕ) (kind : WireKind) → AreFields bytes fields
+        → ¬ IsBroken bytes at kind }
 {}
 
 /// A list of fields behind a list of fields is a list of fields.

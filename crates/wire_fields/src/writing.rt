@@ -107,7 +107,8 @@ pub fn put_field_varint(buf: &mut Buf, number: u32, value: u64)
     put_both(buf, u64::from(number) * 8, value);
 }
 
-/// Writes what stands before the bytes of a field of that number that holds so many bytes (wire type 2). Takes no memory.
+/// Writes what stands before the bytes of a field of that number that holds so many bytes (wire type 2). Takes no
+/// memory.
 #[inline(always)]
 pub fn put_bytes_head(buf: &mut Buf, number: u32, len: u64)
     requires first { 1 ≤ number }
