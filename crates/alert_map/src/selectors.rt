@@ -6,14 +6,12 @@ ghost use Rattle.service_day.specs.DayTexts.{compact_text};
 ghost use Rattle.alert_map.specs.Known.{IsEachKnown, IsKnown};
 ghost use Rattle.alert_map.specs.Alerts as spec;
 
+use gw_base::trip_relation::SCHEDULED;
 use gw_base::{Boxed, List, Selector, Text, TripDescriptor};
 use journey_model::Ref;
 use service_day::{Day, day_compact};
 use std::alloc::{AllocError, Global};
 use stop_schedule::Timetable;
-
-// The schedule_relationship of a trip that runs as planned.
-const SCHEDULED: i32 = 0;
 
 // The selector of a route.
 fn route_selector(alloc: Global, route_id: &str) -> Result<Selector, AllocError>

@@ -2,12 +2,15 @@
 //! outside (files, sinks, a door of connections, a clock) with objects in memory that keep them.
 #![tactic(auto)]
 
+pub mod alert_cause;
+pub mod alert_effect;
 mod boxed;
 mod buffer;
 mod clock;
 mod connections;
 mod door;
 mod files;
+pub mod incrementality;
 mod list;
 mod member;
 mod memory_clock;
@@ -18,9 +21,11 @@ mod messages;
 mod moment;
 mod required;
 mod sink;
+pub mod stop_relation;
 #[cfg(test)]
 mod tests;
 mod text;
+pub mod trip_relation;
 mod uses;
 mod wire_kind;
 

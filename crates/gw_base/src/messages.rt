@@ -48,7 +48,7 @@ pub struct TripDescriptor {
     pub trip_id: Option<Text>,
     /// The service day, as `YYYYMMDD`.
     pub start_date: Option<Text>,
-    /// SCHEDULED 0, ADDED 1, UNSCHEDULED 2, CANCELED 3.
+    /// SCHEDULED 0, ADDED 1, UNSCHEDULED 2, CANCELED 3; `trip_relation` names those that are read.
     pub relation: i32,
     /// The `route_id` of the schedule.
     pub route_id: Option<Text>,
@@ -65,7 +65,7 @@ pub struct StopUpdate {
     pub departure: Option<Event>,
     /// The `stop_id` of the schedule.
     pub stop_id: Option<Text>,
-    /// SCHEDULED 0, SKIPPED 1, NO_DATA 2, UNSCHEDULED 3.
+    /// SCHEDULED 0, SKIPPED 1, NO_DATA 2, UNSCHEDULED 3; `stop_relation` names those that are read.
     pub relation: i32,
 }
 

@@ -5,14 +5,10 @@ ghost use Rattle.std.specs.List.{list_all};
 ghost use Rattle.journey_model.specs.Schedules.{IsServable};
 ghost use Rattle.latest_store.specs.Entities as spec;
 
+use gw_base::trip_relation::{CANCELED, SCHEDULED};
 use gw_base::{Entity, List, StopUpdate, Text, TripDescriptor, TripUpdate};
 use journey_model::{JourneyReading, StopReading};
 use std::alloc::{AllocError, Global};
-
-// SCHEDULED and CANCELED (GTFS Realtime, TripDescriptor, schedule_relationship).
-const SCHEDULED: i32 = 0;
-
-const CANCELED: i32 = 3;
 
 // The text of a day's digits.
 pub(crate) fn digits(date: &[u8; 8]) -> &str

@@ -7,7 +7,8 @@ ghost use Rattle.propagation.specs.Answers.{Propagates};
 
 use crate::dating::{day_named, recorded_in, trip_named};
 use crate::update_fault::UpdateFault;
-use crate::updates::{CANCELED, SCHEDULED, propagate};
+use crate::updates::propagate;
+use gw_base::trip_relation::{CANCELED, SCHEDULED};
 use gw_base::{Entity, Feed, TripUpdate};
 use journey_model::{Context, DatedReading, DatedTrip, Fault};
 use service_day::Day;

@@ -11,17 +11,11 @@ ghost use Rattle.propagation.specs.Saying.{ArePlanned, is_read, placed_all, plac
 use crate::events::{event_time, planned_at, said_times};
 use crate::room::with_room;
 use crate::update_fault::UpdateFault;
+use gw_base::stop_relation::{NO_DATA, SCHEDULED, SKIPPED};
 use gw_base::{List, StopUpdate, Text};
 use journey_model::{DatedTrip, Fault, MatchFault, NamedStop, match_update};
 use std::alloc::Global;
 use stop_schedule::{StopNo, Timetable, TripNo};
-
-// The relations of an update that are read.
-const SCHEDULED: i32 = 0;
-
-const SKIPPED: i32 = 1;
-
-const NO_DATA: i32 = 2;
 
 /// What an update says at its place.
 #[derive(Clone, Copy, Debug, PartialEq, Eq)]

@@ -9,15 +9,10 @@ use crate::placing::placed_all;
 use crate::propagating::readings;
 use crate::update_fault::UpdateFault;
 use gw_base::TripUpdate;
+use gw_base::trip_relation::{CANCELED, SCHEDULED};
 use journey_model::{DatedTrip, Fault, JourneyReading};
 use std::alloc::Global;
 use stop_schedule::Timetable;
-
-/// The relation of an update to a trip that runs as planned.
-pub(crate) const SCHEDULED: i32 = 0;
-
-/// The relation of an update to a trip that doesn't run.
-pub(crate) const CANCELED: i32 = 3;
 
 // What the updates of the stops of a trip say.
 fn stops_said(

@@ -11,17 +11,11 @@ ghost use Rattle.journey_model.specs.declared.readings.StopReading.TheVariants.{
 ghost use Rattle.sparse_planner.specs.Means.{IsLeastOf, Says};
 ghost use Rattle.sparse_planner.specs.Shortest as spec;
 
+use gw_base::stop_relation::{NO_DATA, SCHEDULED, SKIPPED};
 use gw_base::{Event, List, StopUpdate};
 use journey_model::{DatedTrip, JourneyReading, StopReading};
 use std::alloc::{AllocError, Global};
 use stop_schedule::StopRow;
-
-// The schedule_relationship of an update (GTFS Realtime, StopTimeUpdate.ScheduleRelationship).
-const SCHEDULED: i32 = 0;
-
-const SKIPPED: i32 = 1;
-
-const NO_DATA: i32 = 2;
 
 // The planned arrival and departure of a stop, in seconds since 1970.
 fn planned_times(start: i64, row: &StopRow) -> (i64, i64)
