@@ -1,0 +1,6 @@
+pub mod Again
+pub mod Kept
+pub mod Senses
+pub mod SituationTree
+pub mod Sx
+pub mod Taken
