@@ -1,10 +1,11 @@
 -- What selectors name, kind by kind: how many they are, and that the timetable has them.
 use Rattle.std.proofs.Common.{◌≡◌, ◌∙◌, ℕ, ◌+◌, ◌≤◌, ◌<◌, List, [], ◌∷◌, ◌++◌, length, map, Option, Some, None, refl, ap, sym, subst, append_assoc, arith}
-use Rattle.std.specs.List.{All, AllByRecursion, filter, filter_map, position}
-use Rattle.std.specs.Prelude.{cons_option, option_map, option_and_then, ℤ}
+use Rattle.std.specs.List.{All, AllByRecursion, cons_option, filter, filter_map, position}
+use Rattle.std.specs.Prelude.{◌==◌, Bool, true, false, cond, option_map, option_and_then, ℤ}
 use Rattle.std.specs.Str.{bytes_eq}
+use Rattle.std.proofs.lemmas.Bool.Decides.{nat_tests}
 use Rattle.std.proofs.lemmas.List.{append-nil}
-use Rattle.std.proofs.lemmas.List.Elements.{All-filter, All-from_recursion}
+use Rattle.std.proofs.lemmas.List.Elements.{All-filter, All-from_recursion, filter-append}
 use Rattle.std.proofs.lemmas.List.Quantifiers.{position-Some}
 use Rattle.gw_base.specs.declared.messages.Selector.{Selector}
 use Rattle.gw_base.specs.declared.messages.TripDescriptor.{TripDescriptor}
@@ -55,11 +56,11 @@ count_is found all is = rw is (many all)
 
 few : (table : Table) (selectors : List Selector) → length (all_named table selectors) ≤ length selectors
 few table [] = omega arith
-few table (one ∷ others) = by (named table one)
+few table (one ∷ others) = by (named table one) (few table others)
   where
-    by : (o : Option Ref) → length (cons_option o (all_named table others)) ≤ length (one ∷ others)
-    by None = omega (arith, few table others)
-    by (Some ref) = omega (arith, few table others)
+    by : (o : Option Ref) → length (all_named table others) ≤ length others → length (cons_option o (all_named table others)) ≤ length (one ∷ others)
+    by None rest = omega (arith, rest)
+    by (Some ref) rest = omega (arith, rest)
 
 pub few_named : (table : Table) (selectors : List Selector) (found : NamedRefs) → found ≡ refs_of (all_named table selectors)
     → count_of found ≤ length selectors
@@ -68,7 +69,9 @@ few_named table selectors found is = omega (arith, count_is found (all_named tab
 -- nothing is named where none is
 pub none_is : (all : List Ref) → none_named (length all) ≡ affects_fault all
 none_is [] = refl
-none_is (one ∷ others) = refl
+none_is (one ∷ others) =
+    let some : (length (one ∷ others) == 0) ≡ false = grind (arith, nat_tests) in
+    rw some refl
 
 -- ---- the timetable has them
 
@@ -132,3 +135,73 @@ all_known table selectors found is =
     let all = All-from_recursion (IsKnown table) (all_named table selectors) (each_known table selectors) in
     rw is (All-filter is_route (IsKnown table) (all_named table selectors) all,
     (All-filter is_stop (IsKnown table) (all_named table selectors) all, All-filter is_journey (IsKnown table) (all_named table selectors) all))
+
+-- ---- by kind, and by kind again
+
+-- of elements that pass one test and never another
+within : (p q : Ref → Bool) → ((one : Ref) → q one ≡ true → p one ≡ true) → (all : List Ref) → filter p (filter q all) ≡ filter q all
+within p q same [] = refl
+within p q same (one ∷ others) = by (q one) refl (within p q same others)
+  where
+    by : (b : Bool) → q one ≡ b → filter p (filter q others) ≡ filter q others → filter p (cond b (one ∷ filter q others) (filter q others)) ≡ cond b (one ∷ filter q others) (filter q others)
+    by true e rest = rw (same one e) (ap (λ l. one ∷ l) rest)
+    by false e rest = rest
+
+apart : (p q : Ref → Bool) → ((one : Ref) → q one ≡ true → p one ≡ false) → (all : List Ref) → filter p (filter q all) ≡ []
+apart p q other [] = refl
+apart p q other (one ∷ others) = by (q one) refl (apart p q other others)
+  where
+    by : (b : Bool) → q one ≡ b → filter p (filter q others) ≡ [] → filter p (cond b (one ∷ filter q others) (filter q others)) ≡ []
+    by true e rest = rw (other one e) rest
+    by false e rest = rest
+
+kinds_again : (p : Ref → Bool) (a b c : List Ref) (a' b' c' : List Ref) → filter p a ≡ a' → filter p b ≡ b' → filter p c ≡ c' → filter p (a ++ b ++ c) ≡ a' ++ b' ++ c'
+kinds_again p a b c a' b' c' x y z = rw (filter-append p (a ++ b) c, filter-append p a b, x, y, z) refl
+
+-- of all that is named by kind the lines, the stops and the journeys
+pub routes_again : (all : List Ref) → filter is_route (filter is_route all ++ filter is_stop all ++ filter is_journey all) ≡ filter is_route all
+routes_again all =
+    kinds_again is_route (filter is_route all) (filter is_stop all) (filter is_journey all) (filter is_route all) [] []
+    (within is_route is_route (λ one h. h) all) (apart is_route is_stop stop_no_route all) (apart is_route is_journey journey_no_route all)
+    ∙ append-nil (filter is_route all ++ []) ∙ append-nil (filter is_route all)
+  where
+    stop_no_route : (one : Ref) → is_stop one ≡ true → is_route one ≡ false
+    stop_no_route (Route route) h = absurd (cc)
+    stop_no_route (Stop stop) h = refl
+    stop_no_route (Journey trip day) h = refl
+
+    journey_no_route : (one : Ref) → is_journey one ≡ true → is_route one ≡ false
+    journey_no_route (Route route) h = absurd (cc)
+    journey_no_route (Stop stop) h = refl
+    journey_no_route (Journey trip day) h = refl
+
+pub stops_again : (all : List Ref) → filter is_stop (filter is_route all ++ filter is_stop all ++ filter is_journey all) ≡ filter is_stop all
+stops_again all =
+    kinds_again is_stop (filter is_route all) (filter is_stop all) (filter is_journey all) [] (filter is_stop all) []
+    (apart is_stop is_route route_no_stop all) (within is_stop is_stop (λ one h. h) all) (apart is_stop is_journey journey_no_stop all)
+    ∙ append-nil (filter is_stop all)
+  where
+    route_no_stop : (one : Ref) → is_route one ≡ true → is_stop one ≡ false
+    route_no_stop (Route route) h = refl
+    route_no_stop (Stop stop) h = absurd (cc)
+    route_no_stop (Journey trip day) h = refl
+
+    journey_no_stop : (one : Ref) → is_journey one ≡ true → is_stop one ≡ false
+    journey_no_stop (Route route) h = refl
+    journey_no_stop (Stop stop) h = absurd (cc)
+    journey_no_stop (Journey trip day) h = refl
+
+pub journeys_again : (all : List Ref) → filter is_journey (filter is_route all ++ filter is_stop all ++ filter is_journey all) ≡ filter is_journey all
+journeys_again all =
+    kinds_again is_journey (filter is_route all) (filter is_stop all) (filter is_journey all) [] [] (filter is_journey all)
+    (apart is_journey is_route route_no_journey all) (apart is_journey is_stop stop_no_journey all) (within is_journey is_journey (λ one h. h) all)
+  where
+    route_no_journey : (one : Ref) → is_route one ≡ true → is_journey one ≡ false
+    route_no_journey (Route route) h = refl
+    route_no_journey (Stop stop) h = refl
+    route_no_journey (Journey trip day) h = absurd (cc)
+
+    stop_no_journey : (one : Ref) → is_stop one ≡ true → is_journey one ≡ false
+    stop_no_journey (Route route) h = refl
+    stop_no_journey (Stop stop) h = refl
+    stop_no_journey (Journey trip day) h = absurd (cc)

@@ -162,10 +162,10 @@ reason None = refl
 reason (Some name) = simp append_assoc
 
 period : (one : ValidPeriod) → compact_text (period_tree one) ≡ period_text one
+unfolding escape_byte led period_text
 period one = by one.end one.start
   where
     by : (end start : Option ℕ) → compact_text (period_tree (record { start = start; end = end })) ≡ period_text (record { start = start; end = end })
-    unfolding escape_byte led period_text
     by None None = refl
     by None (Some start) = simp append_assoc
     by (Some end) None = simp append_assoc
@@ -203,7 +203,7 @@ five a b c d e =
 -- the pieces of a situation, as its members come and by subject
 situation_pieces : (affects word created description reason number summary periods end : List ℕ)
     → affects ++ ((word ++ (created ++ description) ++ reason ++ (number ++ summary) ++ periods) ++ end)
-    ≡ (affects ++ word ++ created) ++ (description ++ reason ++ number ++ summary) ++ (periods ++ end)
+    ≡ (affects ++ word ++ created) ++ ((description ++ reason) ++ (number ++ summary)) ++ (periods ++ end)
 situation_pieces affects word created description reason number summary periods end = simp append_assoc
 
 -- the members of a situation behind what it affects

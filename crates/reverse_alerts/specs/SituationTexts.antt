@@ -31,10 +31,13 @@ line_text id = led (codes "{\"LineRef\":") id ++ codes "}"
 abbrev pub stop_point_text : List ℕ → List ℕ
 stop_point_text id = led (codes "{\"StopPointRef\":") id ++ codes "}"
 
-abbrev pub journey_text : ℤ → List ℕ → List ℕ
-journey_text day id =
+abbrev pub framed_text : ℤ → List ℕ → List ℕ
+framed_text day id =
     led (codes "{\"FramedVehicleJourneyRef\":{\"DataFrameRef\":") (dashed_text day)
-    ++ led (codes ",\"DatedVehicleJourneyRef\":") id ++ codes "}}"
+    ++ led (codes ",\"DatedVehicleJourneyRef\":") id
+
+abbrev pub journey_text : ℤ → List ℕ → List ℕ
+journey_text day id = framed_text day id ++ codes "}}"
 
 abbrev pub ref_text : Table → Ref → List ℕ
 ref_text table (Route route) = line_text (id_of table.routes route.0)
@@ -111,10 +114,14 @@ what_text table moment lines stops journeys effect =
     affects_text table lines stops journeys ++ condition_text (condition_of effect)
     ++ led_moment (codes ",\"CreationTime\":") moment
 
+abbrev pub cause_text : ℤ → Option (List ℕ) → List ℕ
+cause_text cause description = led_if (codes ",\"Description\":") description ++ reason_text (reason_of cause)
+
+abbrev pub number_text : List ℕ → Option (List ℕ) → List ℕ
+number_text number summary = led (codes ",\"SituationNumber\":") number ++ led_if (codes ",\"Summary\":") summary
+
 abbrev pub why_text : List ℕ → ℤ → Option (List ℕ) → Option (List ℕ) → List ℕ
-why_text number cause summary description =
-    led_if (codes ",\"Description\":") description ++ reason_text (reason_of cause)
-    ++ led (codes ",\"SituationNumber\":") number ++ led_if (codes ",\"Summary\":") summary
+why_text number cause summary description = cause_text cause description ++ number_text number summary
 
 unfoldable pub situation_text : Table → ℤ → Situation → List ℕ
 situation_text table moment one =
@@ -129,11 +136,13 @@ situations_text later table moment (one ∷ others) =
     comma_if later ++ situation_text table moment one ++ situations_text true table moment others
 
 -- the delivery up to its situations, and what stands behind them
-abbrev pub head_text : ℤ → List ℕ
-head_text moment =
+abbrev pub frame_text : ℤ → List ℕ
+frame_text moment =
     led_moment (codes "{\"Siri\":{\"ServiceDelivery\":{\"ResponseTimestamp\":") moment
     ++ led_moment (codes ",\"SituationExchangeDelivery\":[{\"ResponseTimestamp\":") moment
-    ++ codes ",\"Situations\":{\"PtSituationElement\":["
+
+abbrev pub head_text : ℤ → List ℕ
+head_text moment = frame_text moment ++ codes ",\"Situations\":{\"PtSituationElement\":["
 
 abbrev pub tail_text : List ℕ
 tail_text = codes "},\"version\":\"2.0\"}]}}}"

@@ -1,7 +1,8 @@
 //! What an alert says that a situation can say again. The functions meet `specs/Senses.antt`.
-ghost use Rattle.std.specs.Prelude.{◌≡◌, map};
+ghost use Rattle.std.specs.Prelude.{◌≡◌, All, map};
 ghost use Rattle.std.specs.Option.{option_copied};
 ghost use Rattle.reverse_alerts.specs.Senses as spec;
+ghost use Rattle.reverse_alerts.specs.SituationTexts as texts;
 
 use gw_base::{Period, Translation};
 
@@ -33,7 +34,8 @@ fn is_open(period: &Period) -> bool
 
 /// The periods in which an alert holds: none where it always does.
 pub(crate) fn holding(periods: &[Period]) -> &[Period]
-    ensures { map spec.valid_period result.now ≡ spec.holding periods.now }
+    ensures periods { map spec.valid_period result.now ≡ spec.holding periods.now }
+    ensures told { All texts.IsTold periods.now → All texts.IsTold result.now }
 {
     for period in periods {
         if is_open(period) {

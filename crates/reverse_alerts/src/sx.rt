@@ -23,8 +23,9 @@ fn sx_of_full(
 {
     context.table.is_sound();
     let _ = moment.secs();
-    have_utf8(context.table, feed.entities.as_slice());
-    match write_all(alloc, context.table, moment, feed.entities.as_slice()) {
+    let entities = feed.entities.as_slice();
+    have_utf8(context.table, entities);
+    match write_all(alloc, context.table, moment, entities) {
         Ok(both) => Ok(both),
         Err(_) => Err(SxFault::Memory),
     }

@@ -29,16 +29,23 @@ fn put_stop_point(out: &mut Bytes, id: &str) -> Result<(), AllocError>
     out.push(b'}')
 }
 
-// Adds a journey by its service day and the id of its trip.
-fn put_journey(out: &mut Bytes, day: Day, id: &str) -> Result<(), AllocError>
-    ensures { OnOk result (out.new ≡ out.old ++ spec.journey_text day id.now) }
+// Adds a service day and the id of a trip.
+fn put_framed(out: &mut Bytes, day: Day, id: &str) -> Result<(), AllocError>
+    ensures { OnOk result (out.new ≡ out.old ++ spec.framed_text day id.now) }
 {
     put_text(
         out,
         b"{\"FramedVehicleJourneyRef\":{\"DataFrameRef\":",
         &day_text(day),
     )?;
-    put_text(out, b",\"DatedVehicleJourneyRef\":", id.as_bytes())?;
+    put_text(out, b",\"DatedVehicleJourneyRef\":", id.as_bytes())
+}
+
+// Adds a journey by its service day and the id of its trip.
+fn put_journey(out: &mut Bytes, day: Day, id: &str) -> Result<(), AllocError>
+    ensures { OnOk result (out.new ≡ out.old ++ spec.journey_text day id.now) }
+{
+    put_framed(out, day, id)?;
     out.extend(b"}}")
 }
 
@@ -141,6 +148,7 @@ fn put_kinds(out: &mut Bytes, table: &Timetable, found: &NamedRefs) -> Result<()
 }
 
 /// Adds what a situation affects, with which it begins.
+#[tactic(auto, unfolding(crate::specs::SituationTexts::affects_text))]
 pub(crate) fn put_affects(
     out: &mut Bytes,
     table: &Timetable,

@@ -14,7 +14,7 @@ ghost use Rattle.reverse_alerts.specs.Taken.{situation_of};
 use crate::selectors::NamedRefs;
 use crate::senses::{cause_of, effect_of, first_text, holding};
 use crate::write_affects::put_affects;
-use gw_base::{Alert, Bytes, Moment, Period};
+use gw_base::{Alert, Bytes, Moment, Period, Translation};
 use siri_calls::{put_comma, put_moment, put_text};
 use std::alloc::AllocError;
 use stop_schedule::Timetable;
@@ -157,19 +157,30 @@ fn put_what(
     put_moment(out, b",\"CreationTime\":", &moment.secs())
 }
 
-// Adds the number of a situation, its cause and its texts.
+// Adds the longer text of a situation and its cause.
+fn put_cause(out: &mut Bytes, cause: &i32, description: &[Translation]) -> Result<(), AllocError>
+    ensures { OnOk result (out.new ≡ out.old
+        ++ spec.cause_text cause.now (senses.first_text description.now)) }
+{
+    put_if(out, b",\"Description\":", first_text(description))?;
+    put_reason(out, cause)
+}
+
+// Adds the number of a situation and its short text.
+fn put_number(out: &mut Bytes, id: &str, header: &[Translation]) -> Result<(), AllocError>
+    ensures { OnOk result (out.new ≡ out.old ++ spec.number_text id.now (senses.first_text header.now)) }
+{
+    put_text(out, b",\"SituationNumber\":", id.as_bytes())?;
+    put_if(out, b",\"Summary\":", first_text(header))
+}
+
+// Adds the cause of a situation, its number and its texts.
 fn put_why(out: &mut Bytes, id: &str, cause: &i32, alert: &Alert) -> Result<(), AllocError>
     ensures { OnOk result (out.new ≡ out.old ++ spec.why_text id.now cause.now
         (senses.first_text alert.now.header) (senses.first_text alert.now.description)) }
 {
-    put_if(
-        out,
-        b",\"Description\":",
-        first_text(alert.description.as_slice()),
-    )?;
-    put_reason(out, cause)?;
-    put_text(out, b",\"SituationNumber\":", id.as_bytes())?;
-    put_if(out, b",\"Summary\":", first_text(alert.header.as_slice()))
+    put_cause(out, cause, alert.description.as_slice())?;
+    put_number(out, id, alert.header.as_slice())
 }
 
 // Adds when a situation holds, with which it ends.
@@ -183,7 +194,6 @@ fn put_when(out: &mut Bytes, periods: &[Period]) -> Result<(), AllocError>
 }
 
 /// Adds the situation of an alert by the id of its entity and what its selectors name, at that moment.
-#[tactic(auto, unfolding(crate::specs::SituationTexts::situation_text))]
 pub(crate) fn put_situation(
     out: &mut Bytes,
     table: &Timetable,

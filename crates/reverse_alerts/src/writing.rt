@@ -1,5 +1,5 @@
 //! The delivery of a feed's alerts, written one entity after the other. The functions meet `specs/Progress.antt`.
-ghost use Rattle.std.specs.Prelude.{◌≡◌, ◌++◌, ◌<◌, All, None, Some, Err, Ok, nat_lt, length, IfOk, OnOk};
+ghost use Rattle.std.specs.Prelude.{◌≡◌, ◌-◌, ◌++◌, ◌<◌, All, None, Some, Err, Ok, nat_lt, length, IfOk, OnOk};
 ghost use Rattle.std.specs.Option.{option_copied};
 ghost use Rattle.gw_base.specs.Count.{last_count};
 ghost use Rattle.serde_json.specs.Written.{comma_if};
@@ -30,6 +30,13 @@ pub(crate) struct Writing {
     pub(crate) report: Report,
     /// What the selectors of the last alert name.
     pub(crate) found: NamedRefs,
+}
+
+// How many selectors are passed over, of which so many name something.
+fn passed_over(all: usize, named: usize) -> u64
+    ensures { result ≡ all - named }
+{
+    all.saturating_sub(named) as u64
 }
 
 // Counts what is passed over. The count stays at its last value.
@@ -88,9 +95,10 @@ impl Writing {
         ensures report { OnOk result (self.new.report
             ≡ spec.with_passed (selectors_passed (seen table.now) alert.now.selectors) self.old.report) }
     {
+        let all = alert.selectors.len();
         find_named(&mut self.found, table, alert.selectors.as_slice())?;
         let named = count(&self.found);
-        pass(&mut self.report, (alert.selectors.len() - named) as u64);
+        pass(&mut self.report, passed_over(all, named));
         Ok(named)
     }
 
@@ -144,23 +152,30 @@ impl Writing {
     }
 }
 
+// Adds a delivery up to its situations, but for the names that lead to them.
+fn put_frame(out: &mut Bytes, moment: Moment) -> Result<(), AllocError>
+    ensures { OnOk result (out.new ≡ out.old ++ texts.frame_text moment) }
+{
+    let secs = moment.secs();
+    put_moment(
+        out,
+        b"{\"Siri\":{\"ServiceDelivery\":{\"ResponseTimestamp\":",
+        &secs,
+    )?;
+    put_moment(
+        out,
+        b",\"SituationExchangeDelivery\":[{\"ResponseTimestamp\":",
+        &secs,
+    )
+}
+
 // A delivery up to its situations, and the report on no entity.
 fn begin(alloc: Global, moment: Moment) -> Result<Writing, AllocError>
     ensures text { IfOk result (λ writing. writing.text ≡ texts.head_text moment) }
     ensures report { IfOk result (λ writing. writing.report ≡ spec.no_report) }
 {
     let mut text = List::new(alloc);
-    let secs = moment.secs();
-    put_moment(
-        &mut text,
-        b"{\"Siri\":{\"ServiceDelivery\":{\"ResponseTimestamp\":",
-        &secs,
-    )?;
-    put_moment(
-        &mut text,
-        b",\"SituationExchangeDelivery\":[{\"ResponseTimestamp\":",
-        &secs,
-    )?;
+    put_frame(&mut text, moment)?;
     text.extend(b",\"Situations\":{\"PtSituationElement\":[")?;
     Ok(Writing {
         text,
