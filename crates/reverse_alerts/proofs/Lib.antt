@@ -1,0 +1,5 @@
+pub mod Blocks
+pub mod DayRange
+pub mod Grouped
+pub mod Names
+pub mod Sayable
