@@ -1,5 +1,17 @@
+pub mod AlertSenses
 pub mod Blocks
 pub mod DayRange
+pub mod FoundForms
+pub mod FromAlerts
 pub mod Grouped
 pub mod Names
+pub mod PlainTree
+pub mod ReadAffects
+pub mod ReadForms
+pub mod ReadPeriods
+pub mod ReadRefs
+pub mod ReadSituation
 pub mod Sayable
+pub mod SaysAgain
+pub mod SenseAgain
+pub mod SituationParts

@@ -20,7 +20,7 @@ is_bound None = true
 is_bound (Some secs) = is_moment (pos secs)
 
 abbrev pub is_period : ValidPeriod → Bool
-is_period period = (is_some period.start || is_some period.end) && is_bound period.start && is_bound period.end
+is_period period = (is_some period.start || is_some period.end) && (is_bound period.start && is_bound period.end)
 
 -- what is referred to is there, and on a day
 abbrev pub CanSay : Table → Ref → Type 0
