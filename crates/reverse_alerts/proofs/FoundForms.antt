@@ -145,7 +145,7 @@ period-found zone tree all e =
     subst (λ all. list_all is_period all ≡ true) same
     (kept-found (seconds first.0) (seconds last.0) (moment-found zone Member.StartTime tree first.0 first.1) (moment-found zone Member.EndTime tree last.0 last.1))
 
-all-append : {A : Type 0} (test : A → Bool) (xs ys : List A) → list_all test xs ≡ true → list_all test ys ≡ true → list_all test (xs ++ ys) ≡ true
+pub all-append : {A : Type 0} (test : A → Bool) (xs ys : List A) → list_all test xs ≡ true → list_all test ys ≡ true → list_all test (xs ++ ys) ≡ true
 all-append test [] ys first second = second
 all-append test (x ∷ xs) ys first second =
     let here = and_parts (test x) (list_all test xs) first in

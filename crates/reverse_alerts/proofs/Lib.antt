@@ -1,8 +1,11 @@
-pub mod AlertSenses
+pub mod AlertSense
 pub mod Blocks
+pub mod ComesBack
 pub mod DayRange
 pub mod FoundForms
+pub mod FoundRefs
 pub mod FromAlerts
+pub mod FromSituations
 pub mod Grouped
 pub mod Names
 pub mod PlainTree
@@ -11,7 +14,7 @@ pub mod ReadForms
 pub mod ReadPeriods
 pub mod ReadRefs
 pub mod ReadSituation
+pub mod SaidAgain
 pub mod Sayable
-pub mod SaysAgain
-pub mod SenseAgain
+pub mod SensesAgain
 pub mod SituationParts

@@ -30,7 +30,7 @@ use Rattle.reverse_alerts.proofs.ReadAffects.{affected-read, references-read}
 use Rattle.reverse_alerts.proofs.ReadForms.{bound, down, none-read, object-read, object_in, objects_in, repeated-read, step-from, text-if-any-read, text-read}
 use Rattle.reverse_alerts.proofs.ReadPeriods.{periods-read}
 use Rattle.reverse_alerts.proofs.ReadRefs.{said}
-use Rattle.reverse_alerts.proofs.Sayable.{IsCause, IsEffect, IsSayable, additional, delays, detour, is_filled, modified, no_service, other, technical, unknown, unknown_effect, weather}
+use Rattle.reverse_alerts.proofs.Sayable.{IsCause, IsEffect, IsSayable, additional, delays, detour, is_filled, modified, no_service, other, technical, unknown_cause, unknown_effect, weather}
 use Rattle.reverse_alerts.proofs.SituationParts.{HasParts, Trees, consequences_tree, has-parts, reason_if, trees_of}
 
 -- ---- what it says before what it affects
@@ -74,7 +74,7 @@ said-read zone table moment tree one h has =
 abbrev consequence_tree : List ℕ → Data
 consequence_tree word = object_of ((codes "Condition", string word) ∷ [])
 
-abbrev effect_way : List (Data → Result (List Data) Fault)
+abbrev pub effect_way : List (Data → Result (List Data) Fault)
 effect_way = object_in Member.Consequences ∷ objects_in Member.Consequence ∷ []
 
 effect-by : (tree : Data) (all : List Data) (told : Option (List ℕ)) → down effect_way (tree ∷ []) ≡ Ok all → condition all ≡ Ok told
@@ -123,7 +123,7 @@ ReadsCause tree number = get (codes "EquipmentReason") tree ≡ reason_if (pos 3
     → get (codes "PersonnelReason") tree ≡ None → get (codes "MiscellaneousReason") tree ≡ reason_if (pos 2) number → senses.cause tree ≡ number
 
 cause-read : (tree : Data) (number : ℤ) → IsCause number → ReadsCause tree number
-cause-read tree number (unknown e) = subst (ReadsCause tree) (sym e) (λ a b c d. cause-by tree None None None a b c d)
+cause-read tree number (unknown_cause e) = subst (ReadsCause tree) (sym e) (λ a b c d. cause-by tree None None None a b c d)
 cause-read tree number (other e) = subst (ReadsCause tree) (sym e) (λ a b c d. cause-by tree None None (Some (string (codes "unknown"))) a b c d)
 cause-read tree number (technical e) = subst (ReadsCause tree) (sym e) (λ a b c d. cause-by tree (Some (string (codes "unknown"))) None None a b c d)
 cause-read tree number (weather e) = subst (ReadsCause tree) (sym e) (λ a b c d. cause-by tree None (Some (string (codes "unknown"))) None a b c d)

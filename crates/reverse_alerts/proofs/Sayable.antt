@@ -36,7 +36,7 @@ is_filled (Some (byte ∷ bytes)) = true
 
 -- a cause that a reason tells, and an effect that a condition tells
 pub data IsCause (cause : ℤ) : Type 0 where
-  unknown : cause ≡ pos 1 → IsCause cause
+  unknown_cause : cause ≡ pos 1 → IsCause cause
   other : cause ≡ pos 2 → IsCause cause
   technical : cause ≡ pos 3 → IsCause cause
   weather : cause ≡ pos 8 → IsCause cause
@@ -68,10 +68,10 @@ IsCause-cause_of cause = by (int_eq cause (pos 3)) (int_eq cause (pos 8)) (int_l
     by true b c = technical refl
     by false true c = weather refl
     by false false true = other refl
-    by false false false = unknown refl
+    by false false false = unknown_cause refl
 
 pub cause_of-same : (cause : ℤ) → IsCause cause → cause_of cause ≡ cause
-cause_of-same cause (unknown e) = ap cause_of e ∙ sym e
+cause_of-same cause (unknown_cause e) = ap cause_of e ∙ sym e
 cause_of-same cause (other e) = ap cause_of e ∙ sym e
 cause_of-same cause (technical e) = ap cause_of e ∙ sym e
 cause_of-same cause (weather e) = ap cause_of e ∙ sym e

@@ -8,7 +8,7 @@ use Rattle.siri_calls.specs.DeliveryTree.{array_of, moment_tree, object_of}
 use Rattle.reverse_alerts.specs.SituationTree.{Named, affects_tree, condition_of, consequences_of, period_tree, periods_member, reason_member, reason_of, situation_tree, text_member}
 use Rattle.reverse_alerts.proofs.Blocks.{block, blocks, found, or-none}
 use Rattle.reverse_alerts.proofs.ReadForms.{array_if_any}
-use Rattle.reverse_alerts.proofs.Sayable.{IsCause, other, technical, unknown, weather}
+use Rattle.reverse_alerts.proofs.Sayable.{IsCause, other, technical, unknown_cause, weather}
 
 -- what stands in it
 pub record Trees : Type 0 where
@@ -79,7 +79,7 @@ HasReasons rest cause = reason_member (reason_of cause) ++ rest
     ++ (block (codes "EquipmentReason") (reason_if (pos 3) cause) ++ (block (codes "MiscellaneousReason") (reason_if (pos 2) cause) ++ rest))
 
 reasons : (rest : Named) (cause : ℤ) → IsCause cause → HasReasons rest cause
-reasons rest cause (unknown e) = subst (HasReasons rest) (sym e) refl
+reasons rest cause (unknown_cause e) = subst (HasReasons rest) (sym e) refl
 reasons rest cause (other e) = subst (HasReasons rest) (sym e) refl
 reasons rest cause (technical e) = subst (HasReasons rest) (sym e) refl
 reasons rest cause (weather e) = subst (HasReasons rest) (sym e) refl
@@ -91,9 +91,9 @@ pub situation-parts : (table : Table) (moment : ℤ) (one : Situation) → IsCau
     → situation_tree table moment one ≡ object_of (blocks (parts (trees_of table moment one)))
 situation-parts table moment one h =
     let of = trees_of table moment one in
-    let x = (codes "Affects", of.affects) in
-    let t = (codes "CreationTime", of.creation) in
-    let n = (codes "SituationNumber", of.number) in
+    let x : List ℕ × Data = (codes "Affects", of.affects) in
+    let t : List ℕ × Data = (codes "CreationTime", of.creation) in
+    let n : List ℕ × Data = (codes "SituationNumber", of.number) in
     let reason = reason_member (reason_of one.cause) in
     let c = consequences-block (condition_of one.effect) in
     let d = text-block (codes "Description") one.description in

@@ -1,8 +1,10 @@
 //! The alerts of a GTFS Realtime feed become the SIRI delivery of situations that says the same.
 #![tactic(auto)]
 
+mod coming_back;
 mod sx;
 mod sx_fault;
 
+pub use coming_back::what_was_read_comes_back;
 pub use sx::sx_of;
 pub use sx_fault::SxFault;

@@ -14,7 +14,7 @@ use Rattle.reverse_alerts.specs.Sx.{alert_sense}
 use Rattle.reverse_alerts.specs.Taken.{alert_given, alert_in, alerts, entity_verdict, fault_of, given, situation_of, situations}
 use Rattle.reverse_alerts.proofs.FromAlerts.{of-alert, sayable-alert}
 use Rattle.reverse_alerts.proofs.Grouped.{journeys-of, of-kinds, routes-of, stops-of}
-use Rattle.reverse_alerts.proofs.SenseAgain.{sense-again, sense_of}
+use Rattle.reverse_alerts.proofs.AlertSense.{sense-again, sense_of}
 
 -- the sense from which a situation was made
 same-sense : (table : Table) (id : List ℕ) (source : Alert) → sense_of (situation_of id (sense table source)) ≡ sense table source
