@@ -89,7 +89,7 @@ none_yet table moment left passes text = record {
   text_is = refl;
   taken_is = omega arith;
   few = omega arith;
-  passed_is = refl;
+  passed_is = omega arith;
   within = omega arith;
   aside_is = refl;
 }

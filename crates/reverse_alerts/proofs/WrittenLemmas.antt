@@ -64,27 +64,34 @@ refs : (table : Table) (all : List Ref) (later : Bool) → items_text later (ite
 refs table [] later = refl
 refs table (one ∷ others) later = in_front (comma_if later) _ _ _ _ (ref table one) (refs table others true)
 
+-- what closes the items of a kind
+close_network : (lead all : List ℕ) → lead ++ ((((all ++ codes "}") ++ codes "]") ++ codes "}") ++ []) ≡ lead ++ all ++ codes "}]}"
+close_network lead all = simp append_assoc
+
+close_object : (lead all : List ℕ) → lead ++ ((all ++ codes "}") ++ []) ≡ lead ++ all ++ codes "}"
+close_object lead all = simp append_assoc
+
 -- all of a kind, by the text of its items
 lines_by : (later : Bool) (trees : Items) (all : List ℕ) → items_text false trees ≡ all
     → front later ((codes "Networks", object_of ((codes "AffectedNetwork", array_of (object_of ((codes "AffectedLine", array trees) ∷ []) ∷ [])) ∷ [])) ∷ [])
     ≡ comma_if later ++ codes "\"Networks\":{\"AffectedNetwork\":[{\"AffectedLine\":[" ++ all ++ codes "}]}"
 unfolding escape_byte
-lines_by true trees all same = rw same (simp append_assoc)
-lines_by false trees all same = rw same (simp append_assoc)
+lines_by true trees all same = rw same (close_network (codes ",\"Networks\":{\"AffectedNetwork\":[{\"AffectedLine\":[") all)
+lines_by false trees all same = rw same (close_network (codes "\"Networks\":{\"AffectedNetwork\":[{\"AffectedLine\":[") all)
 
 stops_by : (later : Bool) (trees : Items) (all : List ℕ) → items_text false trees ≡ all
     → front later ((codes "StopPoints", object_of ((codes "AffectedStopPoint", array trees) ∷ [])) ∷ [])
     ≡ comma_if later ++ codes "\"StopPoints\":{\"AffectedStopPoint\":[" ++ all ++ codes "}"
 unfolding escape_byte
-stops_by true trees all same = rw same (simp append_assoc)
-stops_by false trees all same = rw same (simp append_assoc)
+stops_by true trees all same = rw same (close_object (codes ",\"StopPoints\":{\"AffectedStopPoint\":[") all)
+stops_by false trees all same = rw same (close_object (codes "\"StopPoints\":{\"AffectedStopPoint\":[") all)
 
 journeys_by : (later : Bool) (trees : Items) (all : List ℕ) → items_text false trees ≡ all
     → front later ((codes "VehicleJourneys", object_of ((codes "AffectedVehicleJourney", array trees) ∷ [])) ∷ [])
     ≡ comma_if later ++ codes "\"VehicleJourneys\":{\"AffectedVehicleJourney\":[" ++ all ++ codes "}"
 unfolding escape_byte
-journeys_by true trees all same = rw same (simp append_assoc)
-journeys_by false trees all same = rw same (simp append_assoc)
+journeys_by true trees all same = rw same (close_object (codes ",\"VehicleJourneys\":{\"AffectedVehicleJourney\":[") all)
+journeys_by false trees all same = rw same (close_object (codes "\"VehicleJourneys\":{\"AffectedVehicleJourney\":[") all)
 
 lines : (table : Table) (later : Bool) (all : List Ref)
     → front later (lines_member (ref_trees table all)) ≡ kind_text table later (codes "\"Networks\":{\"AffectedNetwork\":[{\"AffectedLine\":[") all (codes "}]}")
@@ -265,6 +272,12 @@ situations table moment (one ∷ others) later = in_front (comma_if later) _ _ _
 
 -- ---- the delivery
 
+-- the pieces of a delivery, as its objects nest and in a row
+delivery_pieces : (service moment exchange situations all close version end : List ℕ)
+    → service ++ (((moment ++ (exchange ++ (((moment ++ (situations ++ ((all ++ close) ++ version))) ++ end) ++ close))) ++ close) ++ close)
+    ≡ (service ++ moment ++ (exchange ++ moment) ++ situations) ++ all ++ (close ++ version ++ end ++ close ++ close ++ close)
+delivery_pieces service moment exchange situations all close version end = simp append_assoc
+
 delivery_by : (moment : ℤ) (trees : Items) (all : List ℕ) → items_text false trees ≡ all
     → compact_text (object_of ((codes "Siri", object_of ((codes "ServiceDelivery", object_of (
     (codes "ResponseTimestamp", moment_tree moment)
@@ -276,7 +289,10 @@ delivery_by : (moment : ℤ) (trees : Items) (all : List ℕ) → items_text fal
     ∷ [])) ∷ [])) ∷ []))
     ≡ head_text moment ++ all ++ tail_text
 unfolding escape_byte led
-delivery_by moment trees all same = rw same (simp append_assoc)
+delivery_by moment trees all same =
+    rw same (delivery_pieces (codes "{\"Siri\":{\"ServiceDelivery\":{\"ResponseTimestamp\":") (quoted (moment_text moment))
+    (codes ",\"SituationExchangeDelivery\":[{\"ResponseTimestamp\":") (codes ",\"Situations\":{\"PtSituationElement\":[") all (codes "}")
+    (codes ",\"version\":\"2.0\"}") (codes "]"))
 
 -- the text of a delivery is its head, its situations and its tail
 pub delivery : (table : Table) (moment : ℤ) (all : List Situation)

@@ -1,5 +1,5 @@
--- What a selector of an alert names that a situation can say (GTFS Realtime reference, EntitySelector): just one of a route, a stop
--- and a trip on a day, which the timetable has. An agency beside it isn't looked at.
+-- What a selector of an alert names that a situation can say (GTFS Realtime reference, EntitySelector): just one of a
+-- route, a stop and a trip on a day, which the timetable has. An agency beside it isn't looked at.
 use Rattle.std.specs.Prelude.{ℕ, ℤ, Bool, true, false, List, length, ◌-◌, position, Option, Some, None, option_map, option_and_then}
 use Rattle.std.specs.List.{filter_map}
 use Rattle.std.specs.Str.{bytes_eq}
@@ -28,7 +28,8 @@ journey_dated table id date = option_and_then (journey_on table id) (day_of Comp
 
 abbrev pub journey_named : Table → TripDescriptor → Option Ref
 journey_named table trip =
-    option_and_then (λ id. option_and_then (journey_dated table id) (filled_text trip.start_date)) (filled_text trip.trip_id)
+    option_and_then (λ id. option_and_then (journey_dated table id) (filled_text trip.start_date))
+    (filled_text trip.trip_id)
 
 -- of a route, a trip and a stop just one has to be there
 abbrev pub one_named : Table → Option (List ℕ) → Option TripDescriptor → Option (List ℕ) → Option Ref

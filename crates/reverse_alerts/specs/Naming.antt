@@ -26,7 +26,8 @@ with_named (Some one) found = with_ref found one
 
 -- the timetable has all that is named
 abbrev pub AreKnown : Table → NamedRefs → Type 0
-AreKnown table found = IsEachKnown table found.routes × (IsEachKnown table found.stops × IsEachKnown table found.journeys)
+AreKnown table found =
+    IsEachKnown table found.routes × (IsEachKnown table found.stops × IsEachKnown table found.journeys)
 
 -- how many are named
 abbrev pub count_of : NamedRefs → ℕ

@@ -1,4 +1,5 @@
--- What an alert says that a situation can say again (GTFS Realtime reference, Alert, Cause, Effect, TimeRange, TranslatedString).
+-- What an alert says that a situation can say again (GTFS Realtime reference, Alert, Cause, Effect, TimeRange,
+-- TranslatedString).
 use Rattle.std.specs.Prelude.{◌&&◌, ◌||◌, ℕ, ℤ, pos, Bool, is_none, int_le, List, [], ◌∷◌, map, Option, Some, None, if◌then◌else◌}
 use Rattle.std.specs.List.{filter, list_any}
 use Rattle.std.specs.Ordering.{int_eq}
@@ -11,7 +12,8 @@ use Rattle.journey_model.specs.declared.situation.Ref.{Ref}
 use Rattle.journey_model.specs.declared.situation.ValidPeriod.{ValidPeriod}
 use Rattle.reverse_alerts.specs.Kept.{all_named, is_journey, is_route, is_stop}
 
--- when it holds, in seconds since 1970: where one period has neither start nor end it always does, and then no period is named
+-- when it holds, in seconds since 1970: where one period has neither start nor end it always does, and then no period
+-- is named
 abbrev pub is_open : Period → Bool
 is_open period = is_none period.start && is_none period.end
 
@@ -21,16 +23,16 @@ valid_period period = record { start = period.start; end = period.end }
 abbrev pub holding : List Period → List ValidPeriod
 holding periods = if list_any is_open periods then [] else map valid_period periods
 
--- the cause: TECHNICAL_PROBLEM 3 and WEATHER 8 as they are, the other known ones from OTHER_CAUSE 2 to MEDICAL_EMERGENCY 12 as
--- OTHER_CAUSE, and all others as UNKNOWN_CAUSE 1
+-- the cause: TECHNICAL_PROBLEM 3 and WEATHER 8 as they are, the other known ones from OTHER_CAUSE 2 to
+-- MEDICAL_EMERGENCY 12 as OTHER_CAUSE, and all others as UNKNOWN_CAUSE 1
 abbrev pub cause_of : ℤ → ℤ
 cause_of cause =
     if int_eq cause (pos 3) then pos 3 else
     (if int_eq cause (pos 8) then pos 8 else
     (if int_le (pos 2) cause && int_le cause (pos 12) then pos 2 else pos 1))
 
--- the effect: NO_SERVICE 1, SIGNIFICANT_DELAYS 3, DETOUR 4, ADDITIONAL_SERVICE 5 and MODIFIED_SERVICE 6 as they are, and all
--- others as UNKNOWN_EFFECT 8
+-- the effect: NO_SERVICE 1, SIGNIFICANT_DELAYS 3, DETOUR 4, ADDITIONAL_SERVICE 5 and MODIFIED_SERVICE 6 as they are,
+-- and all others as UNKNOWN_EFFECT 8
 abbrev pub effect_of : ℤ → ℤ
 effect_of effect = if int_eq effect (pos 1) || (int_le (pos 3) effect && int_le effect (pos 6)) then effect else pos 8
 
@@ -39,8 +41,8 @@ abbrev pub first_text : List Translation → Option (List ℕ)
 first_text [] = None
 first_text (first ∷ others) = filled_text (Some first.text)
 
--- what an alert says: when it holds, the routes, stops and journeys that it names, each in order, why, with what effect, and in
--- which words
+-- what an alert says: when it holds, the routes, stops and journeys that it names, each in order, why, with what
+-- effect, and in which words
 pub record Sense : Type 0 where
   pub periods : List ValidPeriod
   pub routes : List Ref

@@ -97,7 +97,8 @@ start_lead (Some secs) = codes ",\"StartTime\":"
 
 unfoldable pub period_text : ValidPeriod → List ℕ
 period_text period =
-    codes "{" ++ moment_if (codes "\"EndTime\":") period.end ++ moment_if (start_lead period.end) period.start ++ codes "}"
+    codes "{" ++ moment_if (codes "\"EndTime\":") period.end ++ moment_if (start_lead period.end) period.start
+    ++ codes "}"
 
 -- periods from one on, and the bracket that closes them
 abbrev pub periods_text : Bool → List ValidPeriod → List ℕ

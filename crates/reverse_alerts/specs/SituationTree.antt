@@ -1,5 +1,6 @@
--- The delivery that says situations (SIRI 2.0, SituationExchangeDelivery, PtSituationElement; in JSON after SIRI Lite): its tree and
--- its text. The members of each object come in the order of their names' bytes, each only where there is something to say.
+-- The delivery that says situations (SIRI 2.0, SituationExchangeDelivery, PtSituationElement; in JSON after SIRI
+-- Lite): its tree and its text. The members of each object come in the order of their names' bytes, each only where
+-- there is something to say.
 use Rattle.std.specs.Prelude.{ℕ, ℤ, pos, List, [], ◌∷◌, ◌++◌, map, codes, Option, Some, None, if◌then◌else◌}
 use Rattle.std.specs.List.{filter}
 use Rattle.std.specs.Ordering.{int_eq}
@@ -31,7 +32,8 @@ if_any (tree ∷ trees) named = named
 
 -- what a situation refers to: a line, a stop, and a journey by its trip and its service day
 abbrev pub journey_members : ℤ → List ℕ → Named
-journey_members day id = (codes "DataFrameRef", string (dashed_text day)) ∷ (codes "DatedVehicleJourneyRef", string id) ∷ []
+journey_members day id =
+    (codes "DataFrameRef", string (dashed_text day)) ∷ (codes "DatedVehicleJourneyRef", string id) ∷ []
 
 abbrev pub ref_tree : Table → Ref → Data
 ref_tree table (Route route) = object_of ((codes "LineRef", string (id_of table.routes route.0)) ∷ [])
@@ -49,7 +51,8 @@ lines_member trees = if_any trees (
     (codes "AffectedNetwork", array_of (object_of ((codes "AffectedLine", array_of trees) ∷ []) ∷ [])) ∷ [])) ∷ [])
 
 abbrev pub stops_member : List Data → Named
-stops_member trees = if_any trees ((codes "StopPoints", object_of ((codes "AffectedStopPoint", array_of trees) ∷ [])) ∷ [])
+stops_member trees =
+    if_any trees ((codes "StopPoints", object_of ((codes "AffectedStopPoint", array_of trees) ∷ [])) ∷ [])
 
 abbrev pub journeys_member : List Data → Named
 journeys_member trees =
@@ -93,7 +96,8 @@ bound_member name None = []
 bound_member name (Some secs) = (name, moment_tree (pos secs)) ∷ []
 
 abbrev pub period_tree : ValidPeriod → Data
-period_tree period = object_of (bound_member (codes "EndTime") period.end ++ bound_member (codes "StartTime") period.start)
+period_tree period =
+    object_of (bound_member (codes "EndTime") period.end ++ bound_member (codes "StartTime") period.start)
 
 abbrev pub periods_member : List Data → Named
 periods_member trees = if_any trees ((codes "ValidityPeriod", array_of trees) ∷ [])
@@ -111,10 +115,14 @@ situation_tree table moment one = object_of (
     ++ periods_member (map period_tree one.periods))
 
 -- the delivery with the situations, and the service delivery with it
+abbrev pub elements_tree : Table → ℤ → List Situation → Data
+elements_tree table moment all =
+    object_of ((codes "PtSituationElement", array_of (map (situation_tree table moment) all)) ∷ [])
+
 abbrev pub exchange_tree : Table → ℤ → List Situation → Data
 exchange_tree table moment all = object_of (
     (codes "ResponseTimestamp", moment_tree moment)
-    ∷ (codes "Situations", object_of ((codes "PtSituationElement", array_of (map (situation_tree table moment) all)) ∷ []))
+    ∷ (codes "Situations", elements_tree table moment all)
     ∷ (codes "version", string (codes "2.0"))
     ∷ [])
 

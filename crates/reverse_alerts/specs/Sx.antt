@@ -1,5 +1,5 @@
--- The SIRI delivery of situations that says what a feed's alerts say (SIRI 2.0, SituationExchangeDelivery; GTFS Realtime reference,
--- Alert).
+-- The SIRI delivery of situations that says what a feed's alerts say (SIRI 2.0, SituationExchangeDelivery; GTFS
+-- Realtime reference, Alert).
 use Rattle.std.specs.Prelude.{◌≡◌, ℕ, ℤ, pos, Bool, List, map, MatchBool, Result, Ok, Err}
 use Rattle.std.specs.Ordering.{int_eq}
 use Rattle.gw_base.specs.declared.messages.Feed.{Feed}
@@ -23,8 +23,8 @@ is_differential feed = int_eq feed.incrementality (pos 1)
 abbrev pub alert_sense : Table → Situation → Sense
 alert_sense table one = sense table (alert table one)
 
--- the text says the situations of a feed's alerts that are taken, in order, and says them when it is read again: each is served, and
--- its alert has the sense of the one that it came from. The report is that on the feed's entities
+-- the text says the situations of a feed's alerts that are taken, in order, and says them when it is read again: each
+-- is served, and its alert has the sense of the one that it came from. The report is that on the feed's entities
 pub record IsSx (schedule : Schedule) (feed : Feed) (moment : ℤ) (text : List ℕ) (report : Report) : Type 0 where
   pub reports : report ≡ report_on schedule.table feed.entities
   pub is_text : text ≡ delivery_text schedule.table moment (situations schedule.table feed.entities)

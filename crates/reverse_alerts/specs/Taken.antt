@@ -1,5 +1,5 @@
--- What becomes of the entities of a feed: the situation that an alert is, or the fault for which it is set aside (GTFS Realtime
--- reference, FeedEntity; SIRI 2.0, PtSituationElement).
+-- What becomes of the entities of a feed: the situation that an alert is, or the fault for which it is set aside (GTFS
+-- Realtime reference, FeedEntity; SIRI 2.0, PtSituationElement).
 use Rattle.std.specs.Prelude.{ℕ, ℤ, ◌+◌, pos, min, true, List, [], ◌∷◌, ◌++◌, length, map, sum_by, Option, Some, None, is_some, option_map, Result, Ok, Err, if◌then◌else◌}
 use Rattle.std.specs.List.{filter_map}
 use Rattle.std.specs.Option.{option_or}
@@ -58,7 +58,8 @@ affects_fault (ref ∷ refs) = None
 -- the first fault of an alert
 abbrev pub fault_of : Table → List ℕ → Alert → Option Fault
 fault_of table id alert =
-    option_or (number_fault id) (option_or (periods_fault alert.periods) (affects_fault (all_named table alert.selectors)))
+    option_or (number_fault id)
+    (option_or (periods_fault alert.periods) (affects_fault (all_named table alert.selectors)))
 
 -- what an alert is
 abbrev pub unless_fault : Option Fault → Situation → Result Situation Fault
@@ -95,7 +96,8 @@ aside_from number (None ∷ all) = aside_from (number + 1) all
 aside_from number (Some (Ok one) ∷ all) = aside_from (number + 1) all
 aside_from number (Some (Err fault) ∷ all) = (number, fault) ∷ aside_from (number + 1) all
 
--- how many entities and selectors are passed, those of alerts that are set aside too; a count of 64 bits stays at its last value
+-- how many entities and selectors are passed, those of alerts that are set aside too; a count of 64 bits stays at its
+-- last value
 abbrev pub passed_of : Table → Option Alert → ℕ
 passed_of table None = 1
 passed_of table (Some alert) = selectors_passed table alert.selectors

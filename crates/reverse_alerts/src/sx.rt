@@ -31,9 +31,9 @@ fn sx_of_full(
     }
 }
 
-/// The SIRI delivery that says at that moment what the alerts of a feed say, and the report on the feed's entities (SIRI 2.0,
-/// SituationExchangeDelivery; GTFS Realtime reference, Alert). Differential exactly where the feed's incrementality is 1; Memory
-/// for want of memory.
+/// The SIRI delivery that says at that moment what the alerts of a feed say, and the report on the feed's entities
+/// (SIRI 2.0, SituationExchangeDelivery; GTFS Realtime reference, Alert). Differential exactly where the feed's
+/// incrementality is 1; Memory for want of memory.
 pub fn sx_of(
     alloc: Global,
     feed: &Feed,

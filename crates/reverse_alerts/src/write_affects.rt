@@ -148,7 +148,6 @@ fn put_kinds(out: &mut Bytes, table: &Timetable, found: &NamedRefs) -> Result<()
 }
 
 /// Adds what a situation affects, with which it begins.
-#[tactic(auto, unfolding(crate::specs::SituationTexts::affects_text))]
 pub(crate) fn put_affects(
     out: &mut Bytes,
     table: &Timetable,

@@ -2,6 +2,7 @@
 //! `specs/SituationTexts.antt`.
 ghost use Rattle.std.specs.Prelude.{◌≡◌, ◌++◌, false, All, codes, map, OnOk};
 ghost use Rattle.std.specs.Option.{option_copied};
+ghost use Rattle.siri_calls.specs.DeliveryTexts.{led_moment};
 ghost use Rattle.stop_schedule.specs.Seen.{seen};
 ghost use Rattle.reverse_alerts.specs.Kept.{all_named};
 ghost use Rattle.reverse_alerts.specs.Naming.{AreKnown, refs_of};
@@ -140,30 +141,60 @@ fn put_valid(out: &mut Bytes, periods: &[Period]) -> Result<(), AllocError>
     put_periods(out, periods)
 }
 
+// Adds the effect of an alert.
+fn put_effect(out: &mut Bytes, alert: &Alert) -> Result<(), AllocError>
+    ensures { OnOk result (out.new ≡ out.old
+        ++ spec.condition_text (tree.condition_of (senses.effect_of alert.now.effect))) }
+{
+    let effect = effect_of(&alert.effect);
+    put_condition(out, &effect)
+}
+
+// Adds that a situation was made at that moment.
+fn put_created(out: &mut Bytes, moment: Moment) -> Result<(), AllocError>
+    ensures { OnOk result (out.new ≡ out.old ++ led_moment (codes ",\"CreationTime\":") moment) }
+{
+    let secs = moment.secs();
+    put_moment(out, b",\"CreationTime\":", &secs)
+}
+
 // Adds what a situation affects, its effect, and that it was made at that moment.
 fn put_what(
     out: &mut Bytes,
     table: &Timetable,
     moment: Moment,
-    effect: &i32,
+    alert: &Alert,
     found: &NamedRefs,
 ) -> Result<(), AllocError>
     requires { AreKnown (seen table.now) found.now }
     ensures { OnOk result (out.new ≡ out.old ++ spec.what_text (seen table.now) moment
-        found.now.routes found.now.stops found.now.journeys effect.now) }
+        found.now.routes found.now.stops found.now.journeys (senses.effect_of alert.now.effect)) }
 {
     put_affects(out, table, found)?;
-    put_condition(out, effect)?;
-    put_moment(out, b",\"CreationTime\":", &moment.secs())
+    put_effect(out, alert)?;
+    put_created(out, moment)
+}
+
+// Adds the cause of an alert.
+fn put_cause(out: &mut Bytes, alert: &Alert) -> Result<(), AllocError>
+    ensures { OnOk result (out.new ≡ out.old
+        ++ spec.reason_text (tree.reason_of (senses.cause_of alert.now.cause))) }
+{
+    let cause = cause_of(&alert.cause);
+    put_reason(out, &cause)
 }
 
 // Adds the longer text of a situation and its cause.
-fn put_cause(out: &mut Bytes, cause: &i32, description: &[Translation]) -> Result<(), AllocError>
-    ensures { OnOk result (out.new ≡ out.old
-        ++ spec.cause_text cause.now (senses.first_text description.now)) }
+fn put_description(out: &mut Bytes, alert: &Alert) -> Result<(), AllocError>
+    ensures { OnOk result (out.new ≡ out.old ++ spec.cause_text (senses.cause_of alert.now.cause)
+        (senses.first_text alert.now.description)) }
 {
-    put_if(out, b",\"Description\":", first_text(description))?;
-    put_reason(out, cause)
+    put_if(
+        out,
+        b",\"Description\":",
+        first_text(alert.description.as_slice()),
+    )?;
+    put_cause(out, alert)
 }
 
 // Adds the number of a situation and its short text.
@@ -175,11 +206,11 @@ fn put_number(out: &mut Bytes, id: &str, header: &[Translation]) -> Result<(), A
 }
 
 // Adds the cause of a situation, its number and its texts.
-fn put_why(out: &mut Bytes, id: &str, cause: &i32, alert: &Alert) -> Result<(), AllocError>
-    ensures { OnOk result (out.new ≡ out.old ++ spec.why_text id.now cause.now
+fn put_why(out: &mut Bytes, id: &str, alert: &Alert) -> Result<(), AllocError>
+    ensures { OnOk result (out.new ≡ out.old ++ spec.why_text id.now (senses.cause_of alert.now.cause)
         (senses.first_text alert.now.header) (senses.first_text alert.now.description)) }
 {
-    put_cause(out, cause, alert.description.as_slice())?;
+    put_description(out, alert)?;
     put_number(out, id, alert.header.as_slice())
 }
 
@@ -207,7 +238,7 @@ pub(crate) fn put_situation(
     ensures { OnOk result (out.new ≡ out.old ++ spec.situation_text (seen table.now) moment
         (situation_of id.now (senses.sense (seen table.now) alert.now))) }
 {
-    put_what(out, table, moment, &effect_of(&alert.effect), found)?;
-    put_why(out, id, &cause_of(&alert.cause), alert)?;
+    put_what(out, table, moment, alert, found)?;
+    put_why(out, id, alert)?;
     put_when(out, alert.periods.as_slice())
 }

@@ -16,8 +16,8 @@ type Optional = Option<&'static str>;
 // A selector: its agency, its route, its stop, and its trip with its id and its start_date.
 type Named = (Optional, Optional, Optional, Option<(Optional, Optional)>);
 
-// An entity: its id, whether it is to be deleted, and what its alert says: when, of what, its cause and its effect, and the
-// translations of its header and its description.
+// An entity: its id, whether it is to be deleted, and what its alert says: when, of what, its cause and its effect,
+// and the translations of its header and its description.
 type Row = (
     &'static str,
     bool,
@@ -40,7 +40,9 @@ const R1: Named = (None, Some("R1"), None, None);
 
 // What a delivery begins and ends with.
 const HEAD: &str =
-    "{\"Siri\":{\"ServiceDelivery\":{\"ResponseTimestamp\":\"2024-05-01T06:00:00Z\",\"SituationExchangeDelivery\":[{\"ResponseTimestamp\":\"2024-05-01T06:00:00Z\",\"Situations\":{\"PtSituationElement\":[";
+    "{\"Siri\":{\"ServiceDelivery\":{\"ResponseTimestamp\":\"2024-05-01T06:00:00Z\",\
+        \"SituationExchangeDelivery\":[{\"ResponseTimestamp\":\"2024-05-01T06:00:00Z\",\"Situations\":{\
+        \"PtSituationElement\":[";
 
 const TAIL: &str = "]},\"version\":\"2.0\"}]}}}";
 
@@ -56,7 +58,11 @@ static CASES: [(&[Row], &str, &str); 14] = [
             (&["Late"], &[]),
         )],
         "1 0",
-        "{\"Affects\":{\"Networks\":{\"AffectedNetwork\":[{\"AffectedLine\":[{\"LineRef\":\"R1\"}]}]}},\"Consequences\":{\"Consequence\":[{\"Condition\":\"delayed\"}]},\"CreationTime\":\"2024-05-01T06:00:00Z\",\"EquipmentReason\":\"unknown\",\"SituationNumber\":\"alert:S1\",\"Summary\":\"Late\",\"ValidityPeriod\":[{\"StartTime\":\"2024-05-01T00:00:00Z\"}]}",
+        "{\"Affects\":{\"Networks\":{\"AffectedNetwork\":[{\"AffectedLine\":[{\"LineRef\":\"R1\"}]}]}},\
+            \"Consequences\":{\"Consequence\":[{\"Condition\":\"delayed\"}]},\
+            \"CreationTime\":\"2024-05-01T06:00:00Z\",\"EquipmentReason\":\"unknown\",\
+            \"SituationNumber\":\"alert:S1\",\"Summary\":\"Late\",\"ValidityPeriod\":[{\
+            \"StartTime\":\"2024-05-01T00:00:00Z\"}]}",
     ),
     (
         &[(
@@ -112,7 +118,12 @@ static CASES: [(&[Row], &str, &str); 14] = [
             (&[], &[]),
         )],
         "1 1",
-        "{\"Affects\":{\"Networks\":{\"AffectedNetwork\":[{\"AffectedLine\":[{\"LineRef\":\"R2\"},{\"LineRef\":\"R1\"}]}]},\"StopPoints\":{\"AffectedStopPoint\":[{\"StopPointRef\":\"B\"}]},\"VehicleJourneys\":{\"AffectedVehicleJourney\":[{\"FramedVehicleJourneyRef\":{\"DataFrameRef\":\"2024-05-01\",\"DatedVehicleJourneyRef\":\"T2\"}},{\"FramedVehicleJourneyRef\":{\"DataFrameRef\":\"9999-12-31\",\"DatedVehicleJourneyRef\":\"T1\"}}]}},\"CreationTime\":\"2024-05-01T06:00:00Z\",\"SituationNumber\":\"1\"}",
+        "{\"Affects\":{\"Networks\":{\"AffectedNetwork\":[{\"AffectedLine\":[{\"LineRef\":\"R2\"},{\
+            \"LineRef\":\"R1\"}]}]},\"StopPoints\":{\"AffectedStopPoint\":[{\"StopPointRef\":\"B\"}]},\
+            \"VehicleJourneys\":{\"AffectedVehicleJourney\":[{\"FramedVehicleJourneyRef\":{\
+            \"DataFrameRef\":\"2024-05-01\",\"DatedVehicleJourneyRef\":\"T2\"}},{\
+            \"FramedVehicleJourneyRef\":{\"DataFrameRef\":\"9999-12-31\",\"DatedVehicleJourneyRef\":\"T1\"}}\
+            ]}},\"CreationTime\":\"2024-05-01T06:00:00Z\",\"SituationNumber\":\"1\"}",
     ),
     (
         &[
@@ -165,7 +176,12 @@ static CASES: [(&[Row], &str, &str); 14] = [
             ),
         ],
         "2 1",
-        "{\"Affects\":{\"Networks\":{\"AffectedNetwork\":[{\"AffectedLine\":[{\"LineRef\":\"R1\"}]}]}},\"CreationTime\":\"2024-05-01T06:00:00Z\",\"SituationNumber\":\"1\",\"ValidityPeriod\":[{\"EndTime\":\"1970-01-01T00:00:00Z\",\"StartTime\":\"1970-01-01T00:01:00Z\"},{\"EndTime\":\"9998-12-31T23:59:59Z\"}]},{\"Affects\":{\"Networks\":{\"AffectedNetwork\":[{\"AffectedLine\":[{\"LineRef\":\"R1\"}]}]}},\"CreationTime\":\"2024-05-01T06:00:00Z\",\"SituationNumber\":\"1\"}",
+        "{\"Affects\":{\"Networks\":{\"AffectedNetwork\":[{\"AffectedLine\":[{\"LineRef\":\"R1\"}]}]}},\
+            \"CreationTime\":\"2024-05-01T06:00:00Z\",\"SituationNumber\":\"1\",\"ValidityPeriod\":[{\
+            \"EndTime\":\"1970-01-01T00:00:00Z\",\"StartTime\":\"1970-01-01T00:01:00Z\"},{\
+            \"EndTime\":\"9998-12-31T23:59:59Z\"}]},{\"Affects\":{\"Networks\":{\"AffectedNetwork\":[{\
+            \"AffectedLine\":[{\"LineRef\":\"R1\"}]}]}},\"CreationTime\":\"2024-05-01T06:00:00Z\",\
+            \"SituationNumber\":\"1\"}",
     ),
     (
         &[
@@ -174,7 +190,15 @@ static CASES: [(&[Row], &str, &str); 14] = [
             ("1", false, &[], &[R1], (4, 3), (&[], &[])),
         ],
         "3 0",
-        "{\"Affects\":{\"Networks\":{\"AffectedNetwork\":[{\"AffectedLine\":[{\"LineRef\":\"R1\"}]}]}},\"Consequences\":{\"Consequence\":[{\"Condition\":\"noService\"}]},\"CreationTime\":\"2024-05-01T06:00:00Z\",\"MiscellaneousReason\":\"unknown\",\"SituationNumber\":\"1\"},{\"Affects\":{\"Networks\":{\"AffectedNetwork\":[{\"AffectedLine\":[{\"LineRef\":\"R1\"}]}]}},\"CreationTime\":\"2024-05-01T06:00:00Z\",\"EquipmentReason\":\"unknown\",\"SituationNumber\":\"1\"},{\"Affects\":{\"Networks\":{\"AffectedNetwork\":[{\"AffectedLine\":[{\"LineRef\":\"R1\"}]}]}},\"Consequences\":{\"Consequence\":[{\"Condition\":\"delayed\"}]},\"CreationTime\":\"2024-05-01T06:00:00Z\",\"MiscellaneousReason\":\"unknown\",\"SituationNumber\":\"1\"}",
+        "{\"Affects\":{\"Networks\":{\"AffectedNetwork\":[{\"AffectedLine\":[{\"LineRef\":\"R1\"}]}]}},\
+            \"Consequences\":{\"Consequence\":[{\"Condition\":\"noService\"}]},\
+            \"CreationTime\":\"2024-05-01T06:00:00Z\",\"MiscellaneousReason\":\"unknown\",\
+            \"SituationNumber\":\"1\"},{\"Affects\":{\"Networks\":{\"AffectedNetwork\":[{\"AffectedLine\":[{\
+            \"LineRef\":\"R1\"}]}]}},\"CreationTime\":\"2024-05-01T06:00:00Z\",\
+            \"EquipmentReason\":\"unknown\",\"SituationNumber\":\"1\"},{\"Affects\":{\"Networks\":{\
+            \"AffectedNetwork\":[{\"AffectedLine\":[{\"LineRef\":\"R1\"}]}]}},\"Consequences\":{\
+            \"Consequence\":[{\"Condition\":\"delayed\"}]},\"CreationTime\":\"2024-05-01T06:00:00Z\",\
+            \"MiscellaneousReason\":\"unknown\",\"SituationNumber\":\"1\"}",
     ),
     (
         &[
@@ -183,7 +207,16 @@ static CASES: [(&[Row], &str, &str); 14] = [
             ("1", false, &[], &[R1], (9, 6), (&[], &[])),
         ],
         "3 0",
-        "{\"Affects\":{\"Networks\":{\"AffectedNetwork\":[{\"AffectedLine\":[{\"LineRef\":\"R1\"}]}]}},\"Consequences\":{\"Consequence\":[{\"Condition\":\"diverted\"}]},\"CreationTime\":\"2024-05-01T06:00:00Z\",\"MiscellaneousReason\":\"unknown\",\"SituationNumber\":\"1\"},{\"Affects\":{\"Networks\":{\"AffectedNetwork\":[{\"AffectedLine\":[{\"LineRef\":\"R1\"}]}]}},\"Consequences\":{\"Consequence\":[{\"Condition\":\"additionalService\"}]},\"CreationTime\":\"2024-05-01T06:00:00Z\",\"EnvironmentReason\":\"unknown\",\"SituationNumber\":\"1\"},{\"Affects\":{\"Networks\":{\"AffectedNetwork\":[{\"AffectedLine\":[{\"LineRef\":\"R1\"}]}]}},\"Consequences\":{\"Consequence\":[{\"Condition\":\"altered\"}]},\"CreationTime\":\"2024-05-01T06:00:00Z\",\"MiscellaneousReason\":\"unknown\",\"SituationNumber\":\"1\"}",
+        "{\"Affects\":{\"Networks\":{\"AffectedNetwork\":[{\"AffectedLine\":[{\"LineRef\":\"R1\"}]}]}},\
+            \"Consequences\":{\"Consequence\":[{\"Condition\":\"diverted\"}]},\
+            \"CreationTime\":\"2024-05-01T06:00:00Z\",\"MiscellaneousReason\":\"unknown\",\
+            \"SituationNumber\":\"1\"},{\"Affects\":{\"Networks\":{\"AffectedNetwork\":[{\"AffectedLine\":[{\
+            \"LineRef\":\"R1\"}]}]}},\"Consequences\":{\"Consequence\":[{\
+            \"Condition\":\"additionalService\"}]},\"CreationTime\":\"2024-05-01T06:00:00Z\",\
+            \"EnvironmentReason\":\"unknown\",\"SituationNumber\":\"1\"},{\"Affects\":{\"Networks\":{\
+            \"AffectedNetwork\":[{\"AffectedLine\":[{\"LineRef\":\"R1\"}]}]}},\"Consequences\":{\
+            \"Consequence\":[{\"Condition\":\"altered\"}]},\"CreationTime\":\"2024-05-01T06:00:00Z\",\
+            \"MiscellaneousReason\":\"unknown\",\"SituationNumber\":\"1\"}",
     ),
     (
         &[
@@ -192,7 +225,12 @@ static CASES: [(&[Row], &str, &str); 14] = [
             ("1", false, &[], &[R1], (0, 0), (&[], &[])),
         ],
         "3 0",
-        "{\"Affects\":{\"Networks\":{\"AffectedNetwork\":[{\"AffectedLine\":[{\"LineRef\":\"R1\"}]}]}},\"CreationTime\":\"2024-05-01T06:00:00Z\",\"MiscellaneousReason\":\"unknown\",\"SituationNumber\":\"1\"},{\"Affects\":{\"Networks\":{\"AffectedNetwork\":[{\"AffectedLine\":[{\"LineRef\":\"R1\"}]}]}},\"CreationTime\":\"2024-05-01T06:00:00Z\",\"SituationNumber\":\"1\"},{\"Affects\":{\"Networks\":{\"AffectedNetwork\":[{\"AffectedLine\":[{\"LineRef\":\"R1\"}]}]}},\"CreationTime\":\"2024-05-01T06:00:00Z\",\"SituationNumber\":\"1\"}",
+        "{\"Affects\":{\"Networks\":{\"AffectedNetwork\":[{\"AffectedLine\":[{\"LineRef\":\"R1\"}]}]}},\
+            \"CreationTime\":\"2024-05-01T06:00:00Z\",\"MiscellaneousReason\":\"unknown\",\
+            \"SituationNumber\":\"1\"},{\"Affects\":{\"Networks\":{\"AffectedNetwork\":[{\"AffectedLine\":[{\
+            \"LineRef\":\"R1\"}]}]}},\"CreationTime\":\"2024-05-01T06:00:00Z\",\"SituationNumber\":\"1\"},{\
+            \"Affects\":{\"Networks\":{\"AffectedNetwork\":[{\"AffectedLine\":[{\"LineRef\":\"R1\"}]}]}},\
+            \"CreationTime\":\"2024-05-01T06:00:00Z\",\"SituationNumber\":\"1\"}",
     ),
     (
         &[
@@ -201,22 +239,33 @@ static CASES: [(&[Row], &str, &str); 14] = [
             ("1", false, &[], &[R1], (5, 13), (&[], &[])),
         ],
         "3 0",
-        "{\"Affects\":{\"Networks\":{\"AffectedNetwork\":[{\"AffectedLine\":[{\"LineRef\":\"R1\"}]}]}},\"CreationTime\":\"2024-05-01T06:00:00Z\",\"SituationNumber\":\"1\"},{\"Affects\":{\"Networks\":{\"AffectedNetwork\":[{\"AffectedLine\":[{\"LineRef\":\"R1\"}]}]}},\"CreationTime\":\"2024-05-01T06:00:00Z\",\"SituationNumber\":\"1\"},{\"Affects\":{\"Networks\":{\"AffectedNetwork\":[{\"AffectedLine\":[{\"LineRef\":\"R1\"}]}]}},\"CreationTime\":\"2024-05-01T06:00:00Z\",\"MiscellaneousReason\":\"unknown\",\"SituationNumber\":\"1\"}",
+        "{\"Affects\":{\"Networks\":{\"AffectedNetwork\":[{\"AffectedLine\":[{\"LineRef\":\"R1\"}]}]}},\
+            \"CreationTime\":\"2024-05-01T06:00:00Z\",\"SituationNumber\":\"1\"},{\"Affects\":{\
+            \"Networks\":{\"AffectedNetwork\":[{\"AffectedLine\":[{\"LineRef\":\"R1\"}]}]}},\
+            \"CreationTime\":\"2024-05-01T06:00:00Z\",\"SituationNumber\":\"1\"},{\"Affects\":{\
+            \"Networks\":{\"AffectedNetwork\":[{\"AffectedLine\":[{\"LineRef\":\"R1\"}]}]}},\
+            \"CreationTime\":\"2024-05-01T06:00:00Z\",\"MiscellaneousReason\":\"unknown\",\
+            \"SituationNumber\":\"1\"}",
     ),
     (
         &[("1", false, &[], &[R1], (1, 8), (&["", "b"], &["", "b"]))],
         "1 0",
-        "{\"Affects\":{\"Networks\":{\"AffectedNetwork\":[{\"AffectedLine\":[{\"LineRef\":\"R1\"}]}]}},\"CreationTime\":\"2024-05-01T06:00:00Z\",\"SituationNumber\":\"1\"}",
+        "{\"Affects\":{\"Networks\":{\"AffectedNetwork\":[{\"AffectedLine\":[{\"LineRef\":\"R1\"}]}]}},\
+            \"CreationTime\":\"2024-05-01T06:00:00Z\",\"SituationNumber\":\"1\"}",
     ),
     (
         &[("1", false, &[], &[R1], (1, 8), (&["a", "b"], &["c", "d"]))],
         "1 0",
-        "{\"Affects\":{\"Networks\":{\"AffectedNetwork\":[{\"AffectedLine\":[{\"LineRef\":\"R1\"}]}]}},\"CreationTime\":\"2024-05-01T06:00:00Z\",\"Description\":\"c\",\"SituationNumber\":\"1\",\"Summary\":\"a\"}",
+        "{\"Affects\":{\"Networks\":{\"AffectedNetwork\":[{\"AffectedLine\":[{\"LineRef\":\"R1\"}]}]}},\
+            \"CreationTime\":\"2024-05-01T06:00:00Z\",\"Description\":\"c\",\"SituationNumber\":\"1\",\
+            \"Summary\":\"a\"}",
     ),
     (
         &[("1", false, &[], &[R1], (1, 8), (&["\"\\\u{8}\u{c}\n\r\t"], &["\u{0}\u{1f}/\u{7f}é"]))],
         "1 0",
-        "{\"Affects\":{\"Networks\":{\"AffectedNetwork\":[{\"AffectedLine\":[{\"LineRef\":\"R1\"}]}]}},\"CreationTime\":\"2024-05-01T06:00:00Z\",\"Description\":\"\\u0000\\u001f/\u{7f}é\",\"SituationNumber\":\"1\",\"Summary\":\"\\\"\\\\\\b\\f\\n\\r\\t\"}",
+        "{\"Affects\":{\"Networks\":{\"AffectedNetwork\":[{\"AffectedLine\":[{\"LineRef\":\"R1\"}]}]}},\
+            \"CreationTime\":\"2024-05-01T06:00:00Z\",\"Description\":\"\\u0000\\u001f/\u{7f}é\",\
+            \"SituationNumber\":\"1\",\"Summary\":\"\\\"\\\\\\b\\f\\n\\r\\t\"}",
     ),
     (&[], "0 0", ""),
 ];

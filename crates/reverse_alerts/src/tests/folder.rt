@@ -19,7 +19,8 @@ static FOLDER: [(&str, &[u8]); 6] = [
     ),
     (
         "g/stop_times.txt",
-        b"trip_id,arrival_time,departure_time,stop_id,stop_sequence\nT1,08:00:00,08:00:00,A,1\nT2,09:00:00,09:00:00,B,1\n",
+        b"trip_id,arrival_time,departure_time,stop_id,stop_sequence\nT1,08:00:00,08:00:00,A,1\nT2,09:00:00,\
+            09:00:00,B,1\n",
     ),
 ];
 

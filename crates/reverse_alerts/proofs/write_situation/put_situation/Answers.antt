@@ -16,7 +16,7 @@ put_when-requires c = rw c.as_slice.ensures.same c.requires.told
 pub returns : goal.returns
 returns c =
     on_ok_weaker c.put_when.result
-    (λ e. three_pieces c.args.out.now _ _ _ _ _ _ (rw c.effect_of.ensures at c.in_ok-put_what.ensures) (rw c.cause_of.ensures at c.in_ok-put_why.ensures)
+    (λ e. three_pieces c.args.out.now _ _ _ _ _ _ c.in_ok-put_what.ensures c.in_ok-put_why.ensures
     (rw c.as_slice.ensures.same at e)
     ∙ ap (λ l. c.args.out.now ++ l) (three_parts (seen c.args.table.now) c.args.moment c.args.id.now c.args.alert.now c.args.found.now c.requires.named))
     c.put_when.ensures

@@ -10,8 +10,8 @@ loop-number-init c =
 
 pub loop-number-preserved : goal.loop-number-preserved
 loop-number-preserved c =
-    run_goes_on (seen c.args.table.now) c.args.moment c.args.entities.now c.loop-number.number c.entity-item.result
-    c.loop-number.writing.text _ c.loop-number.writing.report _ c.loop-number-test.true c.entity-item.is c.loop-number.invariant
+    run_goes_on (seen c.args.table.now) c.args.moment c.args.entities.now c.loop-number.number c.index-entities-number.result
+    c.loop-number.writing.text _ c.loop-number.writing.report _ c.loop-number-test.true c.index-entities-number.is c.loop-number.invariant
     c.in_ok-take_entity.ensures.text c.in_ok-take_entity.ensures.report
 
 pub returns-clause-text : goal.returns-clause-text
