@@ -133,8 +133,10 @@ each_known table (one ∷ others) =
 pub all_known : (table : Table) (selectors : List Selector) (found : NamedRefs) → found ≡ refs_of (all_named table selectors) → AreKnown table found
 all_known table selectors found is =
     let all = All-from_recursion (IsKnown table) (all_named table selectors) (each_known table selectors) in
-    rw is (All-filter is_route (IsKnown table) (all_named table selectors) all,
-    (All-filter is_stop (IsKnown table) (all_named table selectors) all, All-filter is_journey (IsKnown table) (all_named table selectors) all))
+    rw is (
+      All-filter is_route (IsKnown table) (all_named table selectors) all,
+      (All-filter is_stop (IsKnown table) (all_named table selectors) all, All-filter is_journey (IsKnown table) (all_named table selectors) all),
+    )
 
 -- ---- by kind, and by kind again
 

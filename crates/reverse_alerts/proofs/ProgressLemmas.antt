@@ -127,7 +127,7 @@ run_goes_on table moment all number entity text text' report report' within is h
     sum_by-drop_more (passed_in table) all number entity within ∙ ap (λ y. passed_in table y + sum_by (passed_in table) (drop (number + 1) all)) (sym is) in
     let whole = head_text moment ++ situations_text false table moment (situations table all) in
     let now : LeftOf table moment (entity_verdict table entity ∷ verdicts table (drop (number + 1) all)) (passed_in table entity + sum_by (passed_in table) (drop (number + 1) all))
-        whole (length (situations table all)) (passed_count table all) (aside_from 0 (verdicts table all)) number text report =
+    whole (length (situations table all)) (passed_count table all) (aside_from 0 (verdicts table all)) number text report =
     subst (λ p. LeftOf table moment (entity_verdict table entity ∷ verdicts table (drop (number + 1) all)) p whole (length (situations table all)) (passed_count table all)
     (aside_from 0 (verdicts table all)) number text report) sum
     (subst (λ (l : List Entity). LeftOf table moment (verdicts table l) (sum_by (passed_in table) (drop number all)) whole (length (situations table all)) (passed_count table all)

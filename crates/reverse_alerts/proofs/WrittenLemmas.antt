@@ -256,7 +256,7 @@ situation table moment one =
     let ms = lines_member (ref_trees table a) ++ stops_member (ref_trees table b) ++ journeys_member (ref_trees table c) in
     let affects = codes "{\"Affects\":{" ++ kinds_text table a b c ++ codes "}" in
     let all : compact_text (situation_tree table moment one)
-        ≡ (123 ∷ ((comma_if false ++ (quoted (codes "Affects") ++ 58 ∷ compact_text (object_of ms))) ++ front true (behind moment one))) ++ codes "}" =
+    ≡ (123 ∷ ((comma_if false ++ (quoted (codes "Affects") ++ 58 ∷ compact_text (object_of ms))) ++ front true (behind moment one))) ++ codes "}" =
     ap (λ l. 123 ∷ l) (all_members false ((codes "Affects", object_of ms) ∷ behind moment one)) in
     all
     ∙ ap (λ l. l ++ codes "}") (affects_by ms (kinds_text table a b c) (front true (behind moment one)) (kinds table a b c) ∙ ap (λ l. affects ++ l) (behind_text moment one))
@@ -279,14 +279,23 @@ delivery_pieces : (service moment exchange situations all close version end : Li
 delivery_pieces service moment exchange situations all close version end = simp append_assoc
 
 delivery_by : (moment : ℤ) (trees : Items) (all : List ℕ) → items_text false trees ≡ all
-    → compact_text (object_of ((codes "Siri", object_of ((codes "ServiceDelivery", object_of (
-    (codes "ResponseTimestamp", moment_tree moment)
-    ∷ (codes "SituationExchangeDelivery", array_of (object_of (
-    (codes "ResponseTimestamp", moment_tree moment)
-    ∷ (codes "Situations", object_of ((codes "PtSituationElement", array trees) ∷ []))
-    ∷ (codes "version", string (codes "2.0"))
-    ∷ []) ∷ []))
-    ∷ [])) ∷ [])) ∷ []))
+    → compact_text (object_of ((
+      codes "Siri",
+      object_of ((
+        codes "ServiceDelivery",
+        object_of (
+            (codes "ResponseTimestamp", moment_tree moment)
+            ∷ (
+              codes "SituationExchangeDelivery",
+              array_of (object_of (
+                  (codes "ResponseTimestamp", moment_tree moment)
+                  ∷ (codes "Situations", object_of ((codes "PtSituationElement", array trees) ∷ []))
+                  ∷ (codes "version", string (codes "2.0"))
+                  ∷ []) ∷ []),
+            )
+            ∷ []),
+      ) ∷ []),
+    ) ∷ []))
     ≡ head_text moment ++ all ++ tail_text
 unfolding escape_byte led
 delivery_by moment trees all same =

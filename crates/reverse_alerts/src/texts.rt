@@ -13,8 +13,7 @@ use stop_schedule::Timetable;
 // A text is UTF-8.
 fn is_utf8(text: &str)
     ensures { IsUtf8 text.now }
-{
-}
+{}
 
 // So is one that may be missing.
 fn is_utf8_if(text: Option<&str>)

@@ -77,7 +77,7 @@ impl Writing {
         requires told { All texts.IsTold alert.now.periods }
         ensures text { OnOk result (self.new.text ≡ self.old.text
             ++ (comma_if (nat_lt 0 self.old.report.taken) ++ texts.situation_text (seen table.now)
-                moment (taken.situation_of id.now (sense (seen table.now) alert.now)))) }
+            moment (taken.situation_of id.now (sense (seen table.now) alert.now)))) }
         ensures report { OnOk result (self.new.report ≡ spec.with_verdict 0
             (Some (Ok (taken.situation_of id.now (sense (seen table.now) alert.now)))) self.old.report) }
     {
@@ -114,10 +114,10 @@ impl Writing {
         requires { self.old.report.taken < last_count }
         ensures text { OnOk result (self.new.text ≡ self.old.text
             ++ spec.added_text (nat_lt 0 self.old.report.taken) (seen table.now) moment
-                (Some (taken.verdict (seen table.now) id.now alert.now))) }
+            (Some (taken.verdict (seen table.now) id.now alert.now))) }
         ensures report { OnOk result (self.new.report
             ≡ spec.with_verdict number (Some (taken.verdict (seen table.now) id.now alert.now))
-                (spec.with_passed (selectors_passed (seen table.now) alert.now.selectors) self.old.report)) }
+            (spec.with_passed (selectors_passed (seen table.now) alert.now.selectors) self.old.report)) }
     {
         let named = self.find(table, alert)?;
         match fault_of(id, alert, named) {
@@ -137,10 +137,10 @@ impl Writing {
         requires { self.old.report.taken < last_count }
         ensures text { OnOk result (self.new.text ≡ self.old.text
             ++ spec.added_text (nat_lt 0 self.old.report.taken) (seen table.now) moment
-                (taken.entity_verdict (seen table.now) entity.now)) }
+            (taken.entity_verdict (seen table.now) entity.now)) }
         ensures report { OnOk result (self.new.report
             ≡ spec.with_verdict number (taken.entity_verdict (seen table.now) entity.now)
-                (spec.with_passed (taken.passed_in (seen table.now) entity.now) self.old.report)) }
+            (spec.with_passed (taken.passed_in (seen table.now) entity.now) self.old.report)) }
     {
         match alert_in(entity) {
             Some(alert) => self.take_alert(table, moment, number, entity.id.as_str(), alert),

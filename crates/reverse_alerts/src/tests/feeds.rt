@@ -39,8 +39,7 @@ const PAST: u64 = 253_370_764_800;
 const R1: Named = (None, Some("R1"), None, None);
 
 // What a delivery begins and ends with.
-const HEAD: &str =
-    "{\"Siri\":{\"ServiceDelivery\":{\"ResponseTimestamp\":\"2024-05-01T06:00:00Z\",\
+const HEAD: &str = "{\"Siri\":{\"ServiceDelivery\":{\"ResponseTimestamp\":\"2024-05-01T06:00:00Z\",\
         \"SituationExchangeDelivery\":[{\"ResponseTimestamp\":\"2024-05-01T06:00:00Z\",\"Situations\":{\
         \"PtSituationElement\":[";
 
@@ -127,14 +126,7 @@ static CASES: [(&[Row], &str, &str); 14] = [
     ),
     (
         &[
-            (
-                "",
-                false,
-                &[(Some(PAST), None)],
-                &[],
-                (1, 8),
-                (&[], &[]),
-            ),
+            ("", false, &[(Some(PAST), None)], &[], (1, 8), (&[], &[])),
             (
                 "1",
                 false,
@@ -261,7 +253,14 @@ static CASES: [(&[Row], &str, &str); 14] = [
             \"Summary\":\"a\"}",
     ),
     (
-        &[("1", false, &[], &[R1], (1, 8), (&["\"\\\u{8}\u{c}\n\r\t"], &["\u{0}\u{1f}/\u{7f}é"]))],
+        &[(
+            "1",
+            false,
+            &[],
+            &[R1],
+            (1, 8),
+            (&["\"\\\u{8}\u{c}\n\r\t"], &["\u{0}\u{1f}/\u{7f}é"]),
+        )],
         "1 0",
         "{\"Affects\":{\"Networks\":{\"AffectedNetwork\":[{\"AffectedLine\":[{\"LineRef\":\"R1\"}]}]}},\
             \"CreationTime\":\"2024-05-01T06:00:00Z\",\"Description\":\"\\u0000\\u001f/\u{7f}é\",\
@@ -319,10 +318,7 @@ fn selectors(alloc: Global, rows: &[Named]) -> Result<List<Selector>, AllocError
 }
 
 // Periods.
-fn periods(
-    alloc: Global,
-    rows: &[(Option<u64>, Option<u64>)],
-) -> Result<List<Period>, AllocError> {
+fn periods(alloc: Global, rows: &[(Option<u64>, Option<u64>)]) -> Result<List<Period>, AllocError> {
     let mut all = List::new(alloc);
     for (start, end) in rows {
         all.push(Period {

@@ -36,9 +36,11 @@ fn files(alloc: Global, folder: &[(&str, &[u8])]) -> Result<MemoryFiles, AllocEr
 /// The timetable of the folder.
 pub(crate) fn table(rt: &impl Abort, alloc: Global) -> Result<Timetable, AllocError> {
     let mut files = files(alloc, &FOLDER)?;
-    Ok(read_timetable(alloc, &mut files, "g")
-        .ok()
-        .expect(rt, "a timetable"))
+    Ok(
+        read_timetable(alloc, &mut files, "g")
+            .ok()
+            .expect(rt, "a timetable"),
+    )
 }
 
 /// The zone of its times.

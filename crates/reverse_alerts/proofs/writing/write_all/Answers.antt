@@ -17,11 +17,11 @@ loop-number-preserved c =
 pub returns-clause-text : goal.returns-clause-text
 returns-clause-text c =
     let ends = run_ends (seen c.args.table.now) c.args.moment c.args.entities.now c.loop-number.number c.loop-number.writing.text c.loop-number.writing.report
-        c.loop-number-test.false c.loop-number.invariant in
+    c.loop-number-test.false c.loop-number.invariant in
     c.in_ok-extend.ensures.added ∙ ends.0
 
 pub returns-clause-report : goal.returns-clause-report
 returns-clause-report c =
     let ends = run_ends (seen c.args.table.now) c.args.moment c.args.entities.now c.loop-number.number c.loop-number.writing.text c.loop-number.writing.report
-        c.loop-number-test.false c.loop-number.invariant in
+    c.loop-number-test.false c.loop-number.invariant in
     ends.1
