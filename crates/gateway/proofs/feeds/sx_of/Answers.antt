@@ -1,5 +1,5 @@
 -- A feed that is a full dataset has its delivery of situations.
-use Rattle.std.proofs.Common.{◌≡◌, Ok, Err, subst, sym}
+use Rattle.std.proofs.Common.{Ok, subst, sym}
 use Rattle.journey_model.specs.Schedules.{schedule_of}
 use Rattle.gateway.specs.Done.{Done}
 use Rattle.gateway.specs.Work.{SxOf}
