@@ -1,5 +1,5 @@
 #!/usr/bin/env python3
-"""Makes the inputs of bench/compare, each in a folder of its own:
+"""Makes the inputs of bench/compare and bench/alerts, each in a folder of its own:
 
     bench/inputs.py FOLDER [NAME..]
 
@@ -9,6 +9,8 @@
 | `cancelled` | a folder of 200,000 trips; a delivery of 16.8 MB with 50,000 cancelled journeys |
 | `calls` | a delivery of 13.2 MB with 1,200 journeys of 35 calls, as a producer writes them |
 | `feed` | a feed of 15.8 MB with 11,400 journeys, each with an update at each of its 35 stops |
+| `alerts` | a feed of 16.8 MB with as many alerts as fit, of one to six routes, stops and dated trips, with two texts in two languages each |
+| `bare-alerts` | the same with alerts of one stop and without texts, which are as many as can be |
 | `served` | `calls` for the days round today, with the zone UTC0 |
 
 The same names make the same bytes, but for the days of `served`.
@@ -190,11 +192,58 @@ def make_feed(place, date_of=DAY, start=1_714_514_400):
             update += bytes_field(2, number_field(1, k + 1) + events + stop_id)
         update += number_field(4, start)
         feed.append(bytes_field(2, bytes_field(1, day + b':' + name) + bytes_field(3, update)))
-    body = b''.join(feed)
+    write_feed(place, b''.join(feed))
+
+
+def write_feed(place, body):
     if len(body) > MOST_BODY:
         sys.exit(f'a feed of {len(body)} bytes')
     with open(os.path.join(place, 'feed.pb'), 'wb') as file:
         file.write(body)
+
+
+def selector_of(rnd, trips):
+    """A route, a stop or a trip of the day."""
+    kind = rnd.randrange(4)
+    if kind == 0:
+        return bytes_field(2, b'R%d' % rnd.randrange(ROUTES))
+    if kind == 1:
+        trip = bytes_field(1, b'trip:%06d' % rnd.randrange(trips)) + bytes_field(3, b'%d%02d%02d' % (DAY.year, DAY.month, DAY.day))
+        return bytes_field(4, trip + number_field(4, 0))
+    return bytes_field(5, b'Quay:%05d' % rnd.randrange(STOPS))
+
+
+def translated(words):
+    """A text in two languages, of which the first counts."""
+    return b''.join(bytes_field(1, bytes_field(1, words) + bytes_field(2, language)) for language in (b'en', b'fr'))
+
+
+def alert_of(rnd, number, trips):
+    start = 1_714_514_400 + rnd.randrange(86_400)
+    alert = bytes_field(1, number_field(1, start) + number_field(2, start + 3_600 * rnd.randrange(1, 48)))
+    alert += b''.join(bytes_field(5, selector_of(rnd, trips)) for _ in range(rnd.randrange(1, 7)))
+    alert += number_field(6, rnd.randrange(1, 13)) + number_field(7, rnd.randrange(1, 9))
+    alert += bytes_field(10, translated(b'Line R%d is late, number %d' % (rnd.randrange(ROUTES), number)))
+    told = b'"Buses don\'t call here until further notice.\n' * rnd.randrange(1, 3)
+    return bytes_field(1, b'alert:%08d' % number) + bytes_field(5, alert + bytes_field(11, translated(told)))
+
+
+def bare_alert_of(rnd, number, trips):
+    return bytes_field(1, b'%d' % number) + bytes_field(5, bytes_field(5, bytes_field(5, b'Quay:%05d' % rnd.randrange(STOPS))))
+
+
+def make_alerts(place, one_of=alert_of):
+    """As many alerts as a feed may have, over a folder of few trips, so that its own time is small."""
+    trips = 1_000
+    make_folder(place, trips, 2)
+    rnd = random.Random(trips)
+    feed = bytearray(bytes_field(1, bytes_field(1, b'2.0') + number_field(2, 0) + number_field(3, 1_714_543_200)))
+    number, entity = 0, b''
+    while len(feed) + len(entity) <= MOST_BODY:
+        feed += entity
+        entity = bytes_field(2, one_of(rnd, number, trips))
+        number += 1
+    write_feed(place, bytes(feed))
 
 
 MAKERS = {
@@ -203,6 +252,8 @@ MAKERS = {
     'cancelled': make_cancelled,
     'calls': make_calls,
     'feed': make_feed,
+    'alerts': make_alerts,
+    'bare-alerts': lambda place: make_alerts(place, bare_alert_of),
     'served': make_served,
 }
 

@@ -14,6 +14,7 @@ from .shown import report, shown_lines
 from .situations import read_situations
 from .words import BadWord, read_words, window_of
 from .written_siri import written_delivery
+from .written_situations import situations_of, written_situations
 from .zones import ZoneRefused, read_rule, read_zone_file
 
 MOST_BODY_BYTES = 16_777_216
@@ -163,6 +164,10 @@ def read_from_feed(work, files, context):
         raise FurtherFault(f"{work.feed} {fault}") from None
     if feed["header"]["incrementality"] == DIFFERENTIAL:
         raise FurtherFault(f"{work.feed} Differential")
+    if work.command == "to-siri-sx":
+        elements, passed, aside = situations_of(feed, context, work.at)
+        told = report(work.feed, len(elements), passed, aside)
+        return Outcome(0, written_situations(elements, work.at), told.encode())
     reading = readings_of(feed, context)
     if work.command == "show":
         return Outcome(0, shown_lines(reading, context))

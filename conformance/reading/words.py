@@ -90,7 +90,7 @@ def read_words(raw):
     def number(least, most):
         return take(lambda word: number_word(word, least, most))
 
-    work = Work(command=flag("serve", "to-gtfsrt", "to-siri", "show", "make"))
+    work = Work(command=flag("serve", "to-gtfsrt", "to-siri", "to-siri-sx", "show", "make"))
     if work.command == "make":
         flag("--seed")
         work.seed = number(0, MOST_SEED)

@@ -1,16 +1,17 @@
 """A random case of a command, by a seed and a number."""
 
+from .alert_cases import Alerts
 from .case import Case
 from .edges import edge_case
-from .feed_cases import random_feed
+from .feed_cases import Feeds, random_feed
 from .odd import Dice
 from .siri_cases import AT, Journeys, Situations, random_body
 from .worlds import faulty_folder, random_world
 
-COMMANDS = ("to-gtfsrt", "to-siri", "show", "make")
+COMMANDS = ("to-gtfsrt", "to-siri", "to-siri-sx", "show", "make")
 ODD_WORDS = [
     b"", b"\xff", b"to-siri", b"show", b"--et", b"--sx", b"--gtfs", b"--zone-file", b"--zone-rule", b"--feed",
-    b"--at", b"--from", b"--days",
+    b"--at", b"--from", b"--days", b"to-siri-sx",
     b"0", b"1", b"32", b"33", b"0000000001", b"00000000001", b"+1", b"1.0", b"x", b"2024-05-01", b"2024-02-30",
     b"1971-01-01", b"1970-12-31",
     b"9997-12-31", b"9998-01-01", b"20240501", b"2024-05-01T06:00:00Z", b"2024-05-01T06:00:00.0Z",
@@ -37,7 +38,7 @@ def random_case(seed, command, number, with_situations=True):
     dice = Dice(f"{seed} {command} {number}")
     if command == "make":
         return sample_case(dice, with_situations)
-    if dice.one_in(15):
+    if command != "to-siri-sx" and dice.one_in(15):
         return edge_case(dice, command)
     world = random_world(dice)
     subject = dice.weighted(inner=22, folder=5, words=1.5, files=0.5)
@@ -46,8 +47,9 @@ def random_case(seed, command, number, with_situations=True):
     if command == "to-gtfsrt":
         words, files = deliveries_of(dice, world, with_situations)
     else:
-        words = world.words(command, dice.choice(AT) if command == "to-siri" else None)
-        words, files = [*words, "--feed", "feed.pb"], {"feed.pb": random_feed(dice, world)}
+        words = world.words(command, None if command == "show" else dice.choice(AT))
+        maker = Alerts if command == "to-siri-sx" else Feeds
+        words, files = [*words, "--feed", "feed.pb"], {"feed.pb": random_feed(dice, world, maker)}
     files = world.files | files
     words = [word.encode() for word in words]
     if subject == "words":

@@ -258,9 +258,9 @@ class Feeds:
         return b"\x12" + varint(dice, length)
 
 
-def random_feed(dice, world):
+def random_feed(dice, world, kind_of_feed=Feeds):
     """The bytes of one feed."""
-    maker = Feeds(dice, world, dice.choice((0.0, 0.1, 0.3, 0.3, 1.0, 2.0)))
+    maker = kind_of_feed(dice, world, dice.choice((0.0, 0.1, 0.3, 0.3, 1.0, 2.0)))
     data = maker.feed()
     kind = dice.weighted(sound=15, bytes=3, cut=0.7, tail=0.7, other=0.2)
     if kind == "bytes":

@@ -1,2 +1,3 @@
 mod AskLemmas
+mod LimitLemmas
 mod ReadLemmas

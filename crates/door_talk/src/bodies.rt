@@ -1,9 +1,10 @@
 //! The body of a request, read off a door.
-ghost use Rattle.std.specs.Prelude.{◌≡◌, ◌≤◌, ◌<◌, true, [], ℕ, List, length, IfOk, IsErr};
+ghost use Rattle.std.specs.Prelude.{◌≡◌, ◌≤◌, ◌<◌, ◌+◌, true, [], ℕ, List, length, IfOk, IsErr};
 ghost use Rattle.gw_base.specs.Count.{Counts};
 ghost use Rattle.door_talk.specs.Bodies.{ReadsBody};
 ghost use Rattle.door_talk.specs.Requests.{HasRead};
 
+use crate::piece::read_piece;
 use gw_base::{Bytes, Door, Failed};
 use std::alloc::{AllocError, Global};
 
@@ -40,18 +41,18 @@ pub fn read_body<D: Door>(
     requires room { 0 < length piece.old }
     requires front { length body.old ≤ size }
     ensures reads { (bytes : List ℕ) × HasRead (D.beside door.old) (D.beside door.new) bytes
-        × IfOk result (λ it. ReadsBody (D.beside door.new) body.old bytes body.new size it) }
+        × IfOk result (λ it. ReadsBody (D.beside door.new) body.old bytes body.new size it)
+        × (length body.old + length bytes ≤ size) }
+    ensures held { length body.new ≤ size }
     ensures output { D.told door.new ≡ D.told door.old }
     ensures counts { Counts (IsErr result) (D.faults door.old) (D.faults door.new) }
 {
     while body.len() < size {
-        let wanted = (size - body.len()).min(piece.len());
-        let (part, _) = piece.split_at_mut(wanted);
-        let count = door.read(part)?;
+        let count = read_piece(door, piece, size - body.len())?;
         if count == 0 {
             return Ok(BodyRead::Cut);
         }
-        let (came, _) = part.split_at(count);
+        let (came, _) = piece.split_at(count);
         if body.extend(came).is_err() {
             return Ok(BodyRead::NoRoom);
         }

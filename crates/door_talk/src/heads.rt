@@ -3,6 +3,7 @@ ghost use Rattle.std.specs.Prelude.{◌≡◌, ◌≤◌, ◌<◌, true, [], ℕ
 ghost use Rattle.gw_base.specs.Count.{Counts};
 ghost use Rattle.door_talk.specs.Requests.{HasRead, ReadsHead};
 
+use crate::piece::read_piece;
 use gw_base::{Door, Failed};
 use http_talk::{Fed, Head, HeadReader, Refusal};
 
@@ -17,6 +18,9 @@ pub enum HeadRead {
     Cut(Refusal),
 }
 
+/// The most bytes that are read for a head, with the empty lines at its front.
+const HEAD_LIMIT: usize = 16_384;
+
 /// Reads the head of the present connection's request, by pieces that fit in `piece`.
 pub fn read_head<D: Door>(
     reader: &mut HeadReader,
@@ -28,12 +32,14 @@ pub fn read_head<D: Door>(
     requires empty { reader.old ≡ [] }
     ensures room { length piece.new ≡ length piece.old }
     ensures reads { (bytes : List ℕ) × HasRead (D.beside door.old) (D.beside door.new) bytes
-        × IfOk result (λ it. ReadsHead (D.beside door.new) bytes piece.new it) }
+        × IfOk result (λ it. ReadsHead (D.beside door.new) bytes piece.new it)
+        × (length bytes ≤ 16384) }
     ensures output { D.told door.new ≡ D.told door.old }
     ensures counts { Counts (IsErr result) (D.faults door.old) (D.faults door.new) }
 {
+    let mut left = HEAD_LIMIT;
     loop {
-        let count = door.read(piece)?;
+        let count = read_piece(door, piece, left)?;
         if count == 0 {
             return Ok(HeadRead::Cut(reader.end()));
         }
@@ -47,5 +53,6 @@ pub fn read_head<D: Door>(
             }),
             Fed::Refused(why) => return Ok(HeadRead::Refused(why)),
         }
+        left -= count;
     }
 }

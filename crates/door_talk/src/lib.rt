@@ -5,6 +5,7 @@
 mod asked;
 mod bodies;
 mod heads;
+mod piece;
 mod requests;
 #[cfg(test)]
 mod tests;

@@ -1,9 +1,9 @@
 //! A request, read off a door. The definition is `AsksFor` of `specs/Requests.antt`.
-ghost use Rattle.std.specs.Prelude.{◌≡◌, ◌≤◌, ◌<◌, ◌++◌, true, ℕ, List, drop, take, length, IfSome, Ok};
+ghost use Rattle.std.specs.Prelude.{◌≡◌, ◌≤◌, ◌<◌, ◌-◌, ◌++◌, true, ℕ, List, drop, take, length, IfSome, Ok};
 ghost use Rattle.gw_base.specs.Count.{Rose};
 ghost use Rattle.http_talk.specs.Asked.{is_post};
 ghost use Rattle.http_talk.specs.Request.{IsHead};
-ghost use Rattle.door_talk.specs.Requests.{AsksFor, HasMethod, HasRead};
+ghost use Rattle.door_talk.specs.Requests.{AsksFor, HasMethod, HasRead, IsWithin};
 
 use crate::asked::Asked;
 use crate::bodies::{BodyRead, make_room, read_body};
@@ -31,7 +31,9 @@ fn read_post<D: Door>(
     requires post { is_post head.target ≡ true }
     ensures asks { IfSome (D.beside door.old).told (λ told. (input : List ℕ) (count : ℕ) → IsHead input count (Ok head)
         → drop count input ≡ drop from (take to piece.old) ++ told.unread → AsksFor input body.new result) }
-    ensures reads { (bytes : List ℕ) × HasRead (D.beside door.old) (D.beside door.new) bytes }
+    ensures reads { (bytes : List ℕ) × HasRead (D.beside door.old) (D.beside door.new) bytes
+        × (length bytes ≤ head.length - length (drop from (take to piece.old))) }
+    ensures held { length body.new ≤ head.length }
     ensures method { HasMethod result }
     ensures lost { result ≡ Asked.Lost → Rose (D.faults door.old) (D.faults door.new) }
     ensures counts { D.faults door.old ≤ D.faults door.new }
@@ -55,7 +57,9 @@ fn read_post<D: Door>(
     }
 }
 
-/// Reads what the present connection asks for, of which nothing was read yet. The body of a POST is read into `body`.
+/// Reads what the present connection asks for, of which nothing was read yet. The body of a POST is read into `body`, which
+/// then has at most 16,777,216 bytes. No more is read than the 16,384 bytes that a head may have, or the head of a POST
+/// and its body (RFC 9112, section 6.3); a read that isn't at the input's end takes a byte or more, so the reads end.
 pub fn read_request<D: Door>(
     alloc: Global,
     reader: &mut HeadReader,
@@ -64,7 +68,8 @@ pub fn read_request<D: Door>(
 ) -> Asked
     requires present { (D.beside door.old).present ≡ true }
     ensures asks { IfSome (D.beside door.old).told (λ told. AsksFor told.unread body.new result) }
-    ensures reads { (bytes : List ℕ) × HasRead (D.beside door.old) (D.beside door.new) bytes }
+    ensures reads { (bytes : List ℕ) × HasRead (D.beside door.old) (D.beside door.new) bytes × IsWithin bytes }
+    ensures held { length body.old ≤ 16777216 → length body.new ≤ 16777216 }
     ensures method { HasMethod result }
     ensures lost { result ≡ Asked.Lost → Rose (D.faults door.old) (D.faults door.new) }
     ensures counts { D.faults door.old ≤ D.faults door.new }

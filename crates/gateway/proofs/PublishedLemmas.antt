@@ -17,9 +17,9 @@ use Rattle.stop_schedule.specs.declared.table_fault.TableFault.{TableFault}
 use Rattle.feed_messages.specs.Tables.{MeansFeed}
 use Rattle.gateway.specs.Bodies.{differential_end}
 use Rattle.gateway.specs.Done.{Done}
-use Rattle.gateway.specs.Published.{IsFullFeed, IsSetting, IsZone, Publishes, PublishesCounts, PublishesFeed, PublishesLines, PublishesSiri, PublishesTask}
-use Rattle.gateway.specs.Words.{IsJob, Make, NamedZone, Scope, Serve, Show, Task, ToGtfsrt, ToSiri, by_rule, by_file, gtfsrt_task, make_task, serve_job, show_task, siri_task, task_job}
-use Rattle.gateway.specs.Work.{Directory, FileFeed, MakeWork, OverFiles, SettingOf, ShowWork, TaskWork, ToGtfsrtWork, ToSiriWork, Zone, body_limit, folder, full, further, zone_limit}
+use Rattle.gateway.specs.Published.{IsFullFeed, IsSetting, IsZone, Publishes, PublishesCounts, PublishesFeed, PublishesLines, PublishesSiri, PublishesSituations, PublishesTask}
+use Rattle.gateway.specs.Words.{IsJob, Make, NamedZone, Scope, Serve, Show, Task, ToGtfsrt, ToSiri, by_rule, by_file, gtfsrt_task, make_task, serve_job, show_task, siri_task, sx_task, task_job}
+use Rattle.gateway.specs.Work.{Directory, FileFeed, MakeWork, OverFiles, SettingOf, ShowWork, TaskWork, ToGtfsrtWork, ToSiriSxWork, ToSiriWork, Zone, body_limit, folder, full, further, zone_limit}
 use Rattle.gateway.specs.declared.exit.Exit.{Exit}
 use Rattle.gateway.specs.declared.exit.Exit.TheVariants.{Refused}
 use Rattle.gateway_core.specs.declared.setting.Setting.{Setting}
@@ -105,6 +105,21 @@ siri_published files command done before now (setting, setting_is, (feed, read, 
       says = says;
     }
 
+-- and so do its situations
+situations_published : (files : Directory) (command : ToSiri) (done : Done) (before now : Option (List ℕ))
+    → ToSiriSxWork command files (Ok done) → now ≡ with_bytes before done.out → PublishesSituations command files before now
+situations_published files command done before now (setting, setting_is, (feed, read, (report, says, reported))) written =
+    record {
+      setting = setting;
+      over = is_setting command.over None files setting setting_is;
+      feed = feed;
+      read = is_full_feed command.feed files feed read;
+      text = done.out;
+      written = written;
+      report = report;
+      says = says;
+    }
+
 -- and so do its lines
 lines_published : (files : Directory) (command : Show) (done : Done) (before now : Option (List ℕ))
     → ShowWork command files (Ok done) → now ≡ with_bytes before done.out → PublishesLines command files before now
@@ -130,6 +145,7 @@ pub publishes_task : (files : Directory) (task : Task) (done : Done) (before now
     → PublishesTask task files before now
 publishes_task files (gtfsrt_task command) done before now work written = feed_published files command done before now work written
 publishes_task files (siri_task command) done before now work written = siri_published files command done before now work written
+publishes_task files (sx_task command) done before now work written = situations_published files command done before now work written
 publishes_task files (show_task command) done before now work written = lines_published files command done before now work written
 publishes_task files (make_task command) done before now work written = counts_published command done before now work written
 
@@ -144,6 +160,7 @@ pub publishes : (files : Option Directory) (task : Task) (done : Done) (before n
     → OverFiles task files (λ told. PublishesTask task told before now)
 publishes files (gtfsrt_task command) done before now work written = told_published files (gtfsrt_task command) done before now work written
 publishes files (siri_task command) done before now work written = told_published files (siri_task command) done before now work written
+publishes files (sx_task command) done before now work written = told_published files (sx_task command) done before now work written
 publishes files (show_task command) done before now work written = told_published files (show_task command) done before now work written
 publishes files (make_task command) done before now work written = counts_published command done before now work written
 

@@ -11,7 +11,7 @@ use Rattle.gateway.specs.Forms.{beginning, connection_count, day_count, decimal_
 use Rattle.gateway.specs.Tables.{Command, Pair, with_name, ArePairs, IsAccepted}
 use Rattle.gateway.specs.Windowed.{CanRun, HasWindow}
 use Rattle.gateway.specs.Work.{reads_files}
-use Rattle.gateway.specs.Words.{IsJob, Job, Make, SaysMake, SaysScope, SaysServe, SaysShow, SaysToGtfsrt, SaysToSiri, Scope, Serve, Show, Task, ToGtfsrt, ToSiri, at_pair, commands, connections_pair, feed_pair, gtfsrt_task, keep_pair, listen_pair, make, make_task, no_pair, over_a_folder, serve, serve_job, show, show_task, siri_task, task_job, to_gtfsrt, to_siri, zone_by}
+use Rattle.gateway.specs.Words.{IsJob, Job, Make, SaysMake, SaysScope, SaysServe, SaysShow, SaysToGtfsrt, SaysToSiri, SaysToSiriSx, Scope, Serve, Show, Task, ToGtfsrt, ToSiri, at_pair, commands, connections_pair, feed_pair, gtfsrt_task, keep_pair, listen_pair, make, make_task, no_pair, over_a_folder, serve, serve_job, show, show_task, siri_task, sx_task, task_job, to_gtfsrt, to_siri, to_siri_sx, zone_by}
 use Rattle.gateway.proofs.FormLemmas.{beginning_range, cond_then}
 use Rattle.gateway.proofs.TableLemmas.{HasPair, pair_of, double}
 use Rattle.service_day.specs.Utc.{utc_of}
@@ -104,6 +104,19 @@ siri_read name words named pairs =
       record { name = ap Some named; over = over.1; at = ap (option_and_then utc_of) at.5 ∙ second.1; feed = feed.5 },
     )
 
+sx_read : (name : List ℕ) (words : List (List ℕ)) → name ≡ codes "to-siri-sx" → ArePairs to_siri_sx 0 name words
+    → (command : ToSiri) × SaysToSiriSx (name ∷ words) command
+unfolding to_siri_sx
+sx_read name words named pairs =
+    let over = scoped (codes "to-siri-sx") (at_pair ∷ feed_pair ∷ []) no_pair name words pairs in
+    let pair = pair_in (codes "to-siri-sx") (at_pair ∷ feed_pair ∷ []) no_pair name words pairs in
+    let at = pair 4 (omega arith) in
+    let feed = pair 5 (omega arith) in
+    let second = some_of (utc_of at.2) at.7 in (
+      record { over = over.0; at = second.0; feed = feed.2 },
+      record { name = ap Some named; over = over.1; at = ap (option_and_then utc_of) at.5 ∙ second.1; feed = feed.5 },
+    )
+
 show_read : (name : List ℕ) (words : List (List ℕ)) → name ≡ codes "show" → ArePairs show 0 name words
     → (command : Show) × SaysShow (name ∷ words) command
 unfolding show
@@ -135,32 +148,38 @@ make_read name words named pairs =
 
 -- an accepted list can be read
 pub read : (words : List (List ℕ)) → IsAccepted commands words → (job : Job) × IsJob words job
-unfolding commands serve to_gtfsrt to_siri show make
+unfolding commands serve to_gtfsrt to_siri to_siri_sx show make
 read [] is = absurd is
 read (name ∷ words) is =
     by (pointwise nat_eq (codes "serve") name) (pointwise nat_eq (codes "to-gtfsrt") name) (pointwise nat_eq (codes "to-siri") name)
-    (pointwise nat_eq (codes "show") name) (pointwise nat_eq (codes "make") name) refl refl refl refl refl is
+    (pointwise nat_eq (codes "to-siri-sx") name) (pointwise nat_eq (codes "show") name) (pointwise nat_eq (codes "make") name)
+    refl refl refl refl refl refl is
   where
-    by : (s a b c m : Bool) → pointwise nat_eq (codes "serve") name ≡ s → pointwise nat_eq (codes "to-gtfsrt") name ≡ a
-        → pointwise nat_eq (codes "to-siri") name ≡ b → pointwise nat_eq (codes "show") name ≡ c → pointwise nat_eq (codes "make") name ≡ m
-        → IsSomeAnd (cond s (Some serve) (cond a (Some to_gtfsrt) (cond b (Some to_siri) (cond c (Some show) (cond m (Some make) None))))) (λ command. ArePairs command 0 name words)
+    by : (s a b x c m : Bool) → pointwise nat_eq (codes "serve") name ≡ s → pointwise nat_eq (codes "to-gtfsrt") name ≡ a
+        → pointwise nat_eq (codes "to-siri") name ≡ b → pointwise nat_eq (codes "to-siri-sx") name ≡ x
+        → pointwise nat_eq (codes "show") name ≡ c → pointwise nat_eq (codes "make") name ≡ m
+        → IsSomeAnd (cond s (Some serve) (cond a (Some to_gtfsrt) (cond b (Some to_siri) (cond x (Some to_siri_sx)
+        (cond c (Some show) (cond m (Some make) None)))))) (λ command. ArePairs command 0 name words)
         → (job : Job) × IsJob (name ∷ words) job
-    by true a b c m es ea eb ec em pairs =
+    by true a b x c m es ea eb ex ec em pairs =
         let found = serve_read name words (sym (same_text _ _ (sym es))) pairs in
         (serve_job found.0, record { accepted = is; says = found.1 })
-    by false true b c m es ea eb ec em pairs =
+    by false true b x c m es ea eb ex ec em pairs =
         let found = gtfsrt_read name words (sym (same_text _ _ (sym ea))) pairs in
         (task_job (gtfsrt_task found.0), record { accepted = is; says = found.1 })
-    by false false true c m es ea eb ec em pairs =
+    by false false true x c m es ea eb ex ec em pairs =
         let found = siri_read name words (sym (same_text _ _ (sym eb))) pairs in
         (task_job (siri_task found.0), record { accepted = is; says = found.1 })
-    by false false false true m es ea eb ec em pairs =
+    by false false false true c m es ea eb ex ec em pairs =
+        let found = sx_read name words (sym (same_text _ _ (sym ex))) pairs in
+        (task_job (sx_task found.0), record { accepted = is; says = found.1 })
+    by false false false false true m es ea eb ex ec em pairs =
         let found = show_read name words (sym (same_text _ _ (sym ec))) pairs in
         (task_job (show_task found.0), record { accepted = is; says = found.1 })
-    by false false false false true es ea eb ec em pairs =
+    by false false false false false true es ea eb ex ec em pairs =
         let found = make_read name words (sym (same_text _ _ (sym em))) pairs in
         (task_job (make_task found.0), record { accepted = is; says = found.1 })
-    by false false false false false es ea eb ec em pairs = absurd pairs
+    by false false false false false false es ea eb ex ec em pairs = absurd pairs
 
 -- ---- which command a list is by its name
 
@@ -174,6 +193,7 @@ pub serve_of : (words : List (List ℕ)) (job : Job) → IsJob words job → sli
 serve_of words (serve_job command) is named = (command, is.says)
 serve_of words (task_job (gtfsrt_task command)) is named = absurd (name_differs (slice_get words 0) named is.says.name refl)
 serve_of words (task_job (siri_task command)) is named = absurd (name_differs (slice_get words 0) named is.says.name refl)
+serve_of words (task_job (sx_task command)) is named = absurd (name_differs (slice_get words 0) named is.says.name refl)
 serve_of words (task_job (show_task command)) is named = absurd (name_differs (slice_get words 0) named is.says.name refl)
 serve_of words (task_job (make_task command)) is named = absurd (name_differs (slice_get words 0) named is.says.name refl)
 
@@ -182,6 +202,7 @@ pub gtfsrt_of : (words : List (List ℕ)) (job : Job) → IsJob words job → sl
 gtfsrt_of words (serve_job command) is named = absurd (name_differs (slice_get words 0) named is.says.name refl)
 gtfsrt_of words (task_job (gtfsrt_task command)) is named = (command, is.says)
 gtfsrt_of words (task_job (siri_task command)) is named = absurd (name_differs (slice_get words 0) named is.says.name refl)
+gtfsrt_of words (task_job (sx_task command)) is named = absurd (name_differs (slice_get words 0) named is.says.name refl)
 gtfsrt_of words (task_job (show_task command)) is named = absurd (name_differs (slice_get words 0) named is.says.name refl)
 gtfsrt_of words (task_job (make_task command)) is named = absurd (name_differs (slice_get words 0) named is.says.name refl)
 
@@ -190,30 +211,43 @@ pub siri_of : (words : List (List ℕ)) (job : Job) → IsJob words job → slic
 siri_of words (serve_job command) is named = absurd (name_differs (slice_get words 0) named is.says.name refl)
 siri_of words (task_job (gtfsrt_task command)) is named = absurd (name_differs (slice_get words 0) named is.says.name refl)
 siri_of words (task_job (siri_task command)) is named = (command, is.says)
+siri_of words (task_job (sx_task command)) is named = absurd (name_differs (slice_get words 0) named is.says.name refl)
 siri_of words (task_job (show_task command)) is named = absurd (name_differs (slice_get words 0) named is.says.name refl)
 siri_of words (task_job (make_task command)) is named = absurd (name_differs (slice_get words 0) named is.says.name refl)
+
+pub sx_of : (words : List (List ℕ)) (job : Job) → IsJob words job → slice_get words 0 ≡ Some (codes "to-siri-sx")
+    → (command : ToSiri) × SaysToSiriSx words command
+sx_of words (serve_job command) is named = absurd (name_differs (slice_get words 0) named is.says.name refl)
+sx_of words (task_job (gtfsrt_task command)) is named = absurd (name_differs (slice_get words 0) named is.says.name refl)
+sx_of words (task_job (siri_task command)) is named = absurd (name_differs (slice_get words 0) named is.says.name refl)
+sx_of words (task_job (sx_task command)) is named = (command, is.says)
+sx_of words (task_job (show_task command)) is named = absurd (name_differs (slice_get words 0) named is.says.name refl)
+sx_of words (task_job (make_task command)) is named = absurd (name_differs (slice_get words 0) named is.says.name refl)
 
 pub make_of : (words : List (List ℕ)) (job : Job) → IsJob words job → slice_get words 0 ≡ Some (codes "make")
     → (command : Make) × SaysMake words command
 make_of words (serve_job command) is named = absurd (name_differs (slice_get words 0) named is.says.name refl)
 make_of words (task_job (gtfsrt_task command)) is named = absurd (name_differs (slice_get words 0) named is.says.name refl)
 make_of words (task_job (siri_task command)) is named = absurd (name_differs (slice_get words 0) named is.says.name refl)
+make_of words (task_job (sx_task command)) is named = absurd (name_differs (slice_get words 0) named is.says.name refl)
 make_of words (task_job (show_task command)) is named = absurd (name_differs (slice_get words 0) named is.says.name refl)
 make_of words (task_job (make_task command)) is named = (command, is.says)
 
 pub show_of : (words : List (List ℕ)) (job : Job) → IsJob words job → slice_get words 0 ≢ Some (codes "serve")
-    → slice_get words 0 ≢ Some (codes "to-gtfsrt") → slice_get words 0 ≢ Some (codes "to-siri") → slice_get words 0 ≢ Some (codes "make")
-    → (command : Show) × SaysShow words command
-show_of words (serve_job command) is server first other made = absurd (server is.says.name)
-show_of words (task_job (gtfsrt_task command)) is server first other made = absurd (first is.says.name)
-show_of words (task_job (siri_task command)) is server first other made = absurd (other is.says.name)
-show_of words (task_job (show_task command)) is server first other made = (command, is.says)
-show_of words (task_job (make_task command)) is server first other made = absurd (made is.says.name)
+    → slice_get words 0 ≢ Some (codes "to-gtfsrt") → slice_get words 0 ≢ Some (codes "to-siri") → slice_get words 0 ≢ Some (codes "to-siri-sx")
+    → slice_get words 0 ≢ Some (codes "make") → (command : Show) × SaysShow words command
+show_of words (serve_job command) is server first other alerts made = absurd (server is.says.name)
+show_of words (task_job (gtfsrt_task command)) is server first other alerts made = absurd (first is.says.name)
+show_of words (task_job (siri_task command)) is server first other alerts made = absurd (other is.says.name)
+show_of words (task_job (sx_task command)) is server first other alerts made = absurd (alerts is.says.name)
+show_of words (task_job (show_task command)) is server first other alerts made = (command, is.says)
+show_of words (task_job (make_task command)) is server first other alerts made = absurd (made is.says.name)
 
 -- words of `serve` are those of no other command
 pub not_both : (words : List (List ℕ)) (command : Serve) (task : Task) → IsJob words (serve_job command) → IsJob words (task_job task) → ⊥
 not_both words command (gtfsrt_task other) is and = name_differs (slice_get words 0) is.says.name and.says.name refl
 not_both words command (siri_task other) is and = name_differs (slice_get words 0) is.says.name and.says.name refl
+not_both words command (sx_task other) is and = name_differs (slice_get words 0) is.says.name and.says.name refl
 not_both words command (show_task other) is and = name_differs (slice_get words 0) is.says.name and.says.name refl
 not_both words command (make_task other) is and = name_differs (slice_get words 0) is.says.name and.says.name refl
 
@@ -221,6 +255,7 @@ not_both words command (make_task other) is and = name_differs (slice_get words 
 pub reads_none : (words : List (List ℕ)) (task : Task) (command : Make) → IsJob words (task_job task) → IsJob words (task_job (make_task command)) → reads_files task ≡ false
 reads_none words (gtfsrt_task other) command is and = absurd (name_differs (slice_get words 0) is.says.name and.says.name refl)
 reads_none words (siri_task other) command is and = absurd (name_differs (slice_get words 0) is.says.name and.says.name refl)
+reads_none words (sx_task other) command is and = absurd (name_differs (slice_get words 0) is.says.name and.says.name refl)
 reads_none words (show_task other) command is and = absurd (name_differs (slice_get words 0) is.says.name and.says.name refl)
 reads_none words (make_task other) command is and = refl
 
@@ -283,7 +318,7 @@ has_window title further repeated name words scope pairs is =
 
 -- a server has one
 pub serves : (words : List (List ℕ)) (command : Serve) → IsJob words (serve_job command) → HasWindow command.over.from command.over.days
-unfolding commands serve to_gtfsrt to_siri show make
+unfolding commands serve to_gtfsrt to_siri to_siri_sx show make
 serves [] command is = absurd is.accepted
 serves (name ∷ words) command is =
     has_window (codes "serve") (keep_pair ∷ listen_pair ∷ connections_pair ∷ []) no_pair name words command.over
@@ -291,7 +326,7 @@ serves (name ∷ words) command is =
 
 -- and the other commands can be carried out
 pub can_run : (words : List (List ℕ)) (task : Task) → IsJob words (task_job task) → CanRun task
-unfolding commands serve to_gtfsrt to_siri show make
+unfolding commands serve to_gtfsrt to_siri to_siri_sx show make
 can_run [] task is = absurd is.accepted
 can_run (name ∷ words) (gtfsrt_task command) is =
     has_window (codes "to-gtfsrt") (at_pair ∷ []) to_gtfsrt.repeated name words command.over
@@ -299,6 +334,9 @@ can_run (name ∷ words) (gtfsrt_task command) is =
 can_run (name ∷ words) (siri_task command) is =
     has_window (codes "to-siri") (at_pair ∷ feed_pair ∷ []) no_pair name words command.over
     (named_pairs (codes "to-siri") to_siri name words refl is.accepted is.says.name) is.says.over
+can_run (name ∷ words) (sx_task command) is =
+    has_window (codes "to-siri-sx") (at_pair ∷ feed_pair ∷ []) no_pair name words command.over
+    (named_pairs (codes "to-siri-sx") to_siri_sx name words refl is.accepted is.says.name) is.says.over
 can_run (name ∷ words) (show_task command) is =
     has_window (codes "show") (feed_pair ∷ []) no_pair name words command.over
     (named_pairs (codes "show") show name words refl is.accepted is.says.name) is.says.over

@@ -1,5 +1,5 @@
--- What the commands publish, in the words of the two standards (SIRI 2.0, EstimatedVehicleJourney; GTFS Realtime 2.0,
--- FeedMessage).
+-- What the commands publish, in the words of the two standards (SIRI 2.0, EstimatedVehicleJourney, PtSituationElement; GTFS Realtime
+-- 2.0, FeedMessage).
 use Rattle.std.specs.Prelude.{◌≡◌, ◌≢◌, ℕ, pos, List, Option, Some, None, Ok, IfSome}
 use Rattle.gw_base.specs.Directory.{bytes_of}
 use Rattle.gw_base.specs.Told.{with_bytes}
@@ -14,12 +14,13 @@ use Rattle.journey_model.specs.declared.report.Report.{Report}
 use Rattle.propagation.specs.Feeds.{IsReading}
 use Rattle.propagation.specs.declared.feeds.FeedReading.{FeedReading}
 use Rattle.show_command.specs.Lines.{shown}
+use Rattle.reverse_alerts.specs.Sx.{IsSx}
 use Rattle.reverse_calls.specs.Siri.{IsSiri}
 use Rattle.gateway_core.specs.Arrivals.{moments_of, present, schedule_at}
 use Rattle.gateway_core.specs.Deliveries.{schedule_in}
 use Rattle.gateway_core.specs.Gives.{GivesEach}
 use Rattle.gateway_core.specs.Recording.{IsRebuiltOf}
-use Rattle.gateway.specs.Words.{IsJob, Job, Make, NamedZone, Scope, Show, Task, ToGtfsrt, ToSiri, by_rule, by_file, gtfsrt_task, make_task, serve_job, show_task, siri_task, task_job}
+use Rattle.gateway.specs.Words.{IsJob, Job, Make, NamedZone, Scope, Show, Task, ToGtfsrt, ToSiri, by_rule, by_file, gtfsrt_task, make_task, serve_job, show_task, siri_task, sx_task, task_job}
 use Rattle.gateway.specs.Work.{Arrived, Arrives, Directory, OverFiles, nothing}
 use Rattle.gateway_core.specs.declared.setting.Setting.{Setting}
 use Rattle.sample_run.specs.Counts.{counts_text}
@@ -73,6 +74,18 @@ pub record PublishesSiri (command : ToSiri) (files : Directory) (before now : Op
   pub report : Report
   pub says : IsSiri (schedule_in setting) feed command.at text report
 
+-- standard output got the delivery that says the alerts of the file's feed: read again it gives just the situations of those that
+-- are taken, in order, each of which is served, and the alert of each has the sense of the one that it came from
+pub record PublishesSituations (command : ToSiri) (files : Directory) (before now : Option (List ℕ)) : Type 0 where
+  pub setting : Setting
+  pub over : IsSetting command.over None files setting
+  pub feed : Feed
+  pub read : IsFullFeed command.feed files feed
+  pub text : List ℕ
+  pub written : now ≡ with_bytes before text
+  pub report : Report
+  pub says : IsSx (schedule_in setting) feed command.at text report
+
 -- standard output got the lines of what the file's feed says of each journey
 pub record PublishesLines (command : Show) (files : Directory) (before now : Option (List ℕ)) : Type 0 where
   pub setting : Setting
@@ -93,6 +106,7 @@ pub record PublishesCounts (command : Make) (before now : Option (List ℕ)) : T
 abbrev pub PublishesTask : Task → Directory → Option (List ℕ) → Option (List ℕ) → Type 0
 PublishesTask (gtfsrt_task command) = PublishesFeed command
 PublishesTask (siri_task command) = PublishesSiri command
+PublishesTask (sx_task command) = PublishesSituations command
 PublishesTask (show_task command) = PublishesLines command
 PublishesTask (make_task command) = λ files. PublishesCounts command
 

@@ -63,6 +63,13 @@ to_siri = record {
   repeated = no_pair;
 }
 
+unfoldable pub to_siri_sx : Command
+to_siri_sx = record {
+  name = codes "to-siri-sx";
+  pairs = over_a_folder (at_pair ∷ feed_pair ∷ []);
+  repeated = no_pair;
+}
+
 unfoldable pub show : Command
 show = record {
   name = codes "show";
@@ -78,7 +85,7 @@ make = record {
 }
 
 unfoldable pub commands : List Command
-commands = serve ∷ to_gtfsrt ∷ to_siri ∷ show ∷ make ∷ []
+commands = serve ∷ to_gtfsrt ∷ to_siri ∷ to_siri_sx ∷ show ∷ make ∷ []
 
 -- a zone by a POSIX rule, or by a TZif file of that path
 pub data NamedZone : Type 0 where
@@ -111,7 +118,8 @@ pub record ToGtfsrt : Type 0 where
   pub at : ℤ
   pub more : List (List ℕ)
 
--- what the words of `to-siri` say: what it works over, the second at which the delivery is made, and the feed's file
+-- what the words of `to-siri` and of `to-siri-sx` say: what it works over, the second at which the delivery is made, and the feed's
+-- file
 pub record ToSiri : Type 0 where
   pub over : Scope
   pub at : ℤ
@@ -132,6 +140,7 @@ pub record Make : Type 0 where
 pub data Task : Type 0 where
   gtfsrt_task : ToGtfsrt → Task
   siri_task : ToSiri → Task
+  sx_task : ToSiri → Task
   show_task : Show → Task
   make_task : Make → Task
 
@@ -166,6 +175,12 @@ pub record SaysToSiri (words : List (List ℕ)) (command : ToSiri) : Type 0 wher
   pub at : option_and_then utc_of (slice_get words 10) ≡ Some command.at
   pub feed : slice_get words 12 ≡ Some command.feed
 
+pub record SaysToSiriSx (words : List (List ℕ)) (command : ToSiri) : Type 0 where
+  pub name : slice_get words 0 ≡ Some (codes "to-siri-sx")
+  pub over : SaysScope words command.over
+  pub at : option_and_then utc_of (slice_get words 10) ≡ Some command.at
+  pub feed : slice_get words 12 ≡ Some command.feed
+
 pub record SaysShow (words : List (List ℕ)) (command : Show) : Type 0 where
   pub name : slice_get words 0 ≡ Some (codes "show")
   pub over : SaysScope words command.over
@@ -180,6 +195,7 @@ pub record SaysMake (words : List (List ℕ)) (command : Make) : Type 0 where
 abbrev pub SaysTask : List (List ℕ) → Task → Type 0
 SaysTask words (gtfsrt_task command) = SaysToGtfsrt words command
 SaysTask words (siri_task command) = SaysToSiri words command
+SaysTask words (sx_task command) = SaysToSiriSx words command
 SaysTask words (show_task command) = SaysShow words command
 SaysTask words (make_task command) = SaysMake words command
 

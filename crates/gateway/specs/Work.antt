@@ -14,6 +14,7 @@ use Rattle.journey_model.specs.declared.report.Report.{Report}
 use Rattle.propagation.specs.Feeds.{IsReading}
 use Rattle.propagation.specs.declared.feeds.FeedReading.{FeedReading}
 use Rattle.show_command.specs.Lines.{shown as shown_lines}
+use Rattle.reverse_alerts.specs.Sx.{IsSx}
 use Rattle.reverse_calls.specs.Siri.{HasTooMany, IsSiri}
 use Rattle.service_day.specs.Windows.{IsWindow}
 use Rattle.service_day.specs.Zones.{IsRuleZone, IsBadRule, IsTableZone, IsBadTable}
@@ -44,7 +45,7 @@ use Rattle.siri_situations.specs.Deliveries.{ReadsSituations}
 use Rattle.gateway.specs.Bodies.{body_end, differential_end, feed_end, many_calls_end}
 use Rattle.gateway.specs.Done.{Done}
 use Rattle.gateway.specs.Samples.{sample_end}
-use Rattle.gateway.specs.Words.{Make, NamedZone, Scope, Show, Task, ToGtfsrt, ToSiri, by_rule, by_file, gtfsrt_task, make_task, show_task, siri_task}
+use Rattle.gateway.specs.Words.{Make, NamedZone, Scope, Show, Task, ToGtfsrt, ToSiri, by_rule, by_file, gtfsrt_task, make_task, show_task, siri_task, sx_task}
 use Rattle.gateway.specs.declared.exit.Exit.{Exit}
 use Rattle.gateway.specs.declared.exit.Exit.TheVariants.{Refused}
 
@@ -232,6 +233,23 @@ ToSiriWork command files = do
   setting ← SettingOf command.over None files
   SiriOfFile command.at setting command.feed files
 
+-- the delivery of the situations that a feed's alerts are, and the report on its entities
+abbrev pub SxOf : ℤ → Setting → List ℕ → Feed → Result Done Exit → Type 0
+SxOf at setting name feed (Ok done) =
+    (report : Report) × IsSx (schedule_in setting) feed at done.out report × (done.err ≡ feed_report name report)
+SxOf at setting name feed (Err end) = ⊥
+
+abbrev pub SxOfFile : ℤ → Setting → List ℕ → Directory → Result Done Exit → Type 0
+SxOfFile at setting name files = do
+  feed ← FileFeed name files
+  SxOf at setting name feed
+
+-- the work of `to-siri-sx`
+abbrev pub ToSiriSxWork : ToSiri → Directory → Result Done Exit → Type 0
+ToSiriSxWork command files = do
+  setting ← SettingOf command.over None files
+  SxOfFile command.at setting command.feed files
+
 -- the lines of what a feed says
 abbrev pub LinesOf : Setting → Feed → Result Done Exit → Type 0
 LinesOf setting feed (Ok done) =
@@ -261,6 +279,7 @@ MakeWork command (Err end) =
 abbrev pub TaskWork : Task → Directory → Result Done Exit → Type 0
 TaskWork (gtfsrt_task command) = ToGtfsrtWork command
 TaskWork (siri_task command) = ToSiriWork command
+TaskWork (sx_task command) = ToSiriSxWork command
 TaskWork (show_task command) = ShowWork command
 TaskWork (make_task command) = λ files. MakeWork command
 
@@ -268,6 +287,7 @@ TaskWork (make_task command) = λ files. MakeWork command
 abbrev pub OverFiles : Task → Option Directory → (Directory → Type 0) → Type 0
 OverFiles (gtfsrt_task command) told Says = IfSome told Says
 OverFiles (siri_task command) told Says = IfSome told Says
+OverFiles (sx_task command) told Says = IfSome told Says
 OverFiles (show_task command) told Says = IfSome told Says
 OverFiles (make_task command) told Says = Says []
 
@@ -275,5 +295,6 @@ OverFiles (make_task command) told Says = Says []
 abbrev pub reads_files : Task → Bool
 reads_files (gtfsrt_task command) = true
 reads_files (siri_task command) = true
+reads_files (sx_task command) = true
 reads_files (show_task command) = true
 reads_files (make_task command) = false

@@ -1,9 +1,9 @@
 -- What a command that was read says.
-use Rattle.gateway.specs.Words.{Job, NamedZone, Scope as Said, Serve, Task as SaidTask, by_rule, by_file, gtfsrt_task, make_task, serve_job, show_task, siri_task, task_job}
+use Rattle.gateway.specs.Words.{Job, NamedZone, Scope as Said, Serve, Task as SaidTask, by_rule, by_file, gtfsrt_task, make_task, serve_job, show_task, siri_task, sx_task, task_job}
 use Rattle.gateway.specs.declared.words.Scope.{Scope}
 use Rattle.gateway.specs.declared.words.Server.{Server}
 use Rattle.gateway.specs.declared.words.Task.{Task}
-use Rattle.gateway.specs.declared.words.Task.TheVariants.{ToGtfsrt, ToSiri, Show, Make}
+use Rattle.gateway.specs.declared.words.Task.TheVariants.{ToGtfsrt, ToSiri, ToSiriSx, Show, Make}
 use Rattle.gateway.specs.declared.words.Work.{Work}
 use Rattle.gateway.specs.declared.words.Work.TheVariants as work
 use Rattle.gateway.specs.declared.words.ZoneWord.{ZoneWord}
@@ -26,6 +26,7 @@ server_of server = record { over = scope_of server.over; keep = server.keep; lis
 abbrev pub task_of : Task → SaidTask
 task_of (ToGtfsrt over at more) = gtfsrt_task (record { over = scope_of over; at = at; more = more.now })
 task_of (ToSiri over at feed) = siri_task (record { over = scope_of over; at = at; feed = feed.now })
+task_of (ToSiriSx over at feed) = sx_task (record { over = scope_of over; at = at; feed = feed.now })
 task_of (Show over feed) = show_task (record { over = scope_of over; feed = feed.now })
 task_of (Make seed trips stops) = make_task (record { seed = seed; trips = trips; stops = stops })
 

@@ -5,11 +5,12 @@ use std::env::{Env, FillError};
 
 /// What `--help` prints. The launcher shows it from here before the program is proved.
 pub const USAGE: &str = "\
-usage: gateway serve     SCHEDULE --keep K --listen ADDRESS --connections C
-       gateway to-gtfsrt SCHEDULE --at MOMENT [--et FILE | --sx FILE]...
-       gateway to-siri   SCHEDULE --at MOMENT --feed FILE
-       gateway show      SCHEDULE --feed FILE
-       gateway make      --seed X --trips T --stops S
+usage: gateway serve      SCHEDULE --keep K --listen ADDRESS --connections C
+       gateway to-gtfsrt  SCHEDULE --at MOMENT [--et FILE | --sx FILE]...
+       gateway to-siri    SCHEDULE --at MOMENT --feed FILE
+       gateway to-siri-sx SCHEDULE --at MOMENT --feed FILE
+       gateway show       SCHEDULE --feed FILE
+       gateway make       --seed X --trips T --stops S
        gateway --help | --version
 
 SCHEDULE  --gtfs DIR ZONE --from DAY --days N: a GTFS Schedule folder, its zone,
@@ -38,6 +39,10 @@ to-siri makes a SIRI delivery with every call of the journeys of a feed:
   ./gateway to-siri --gtfs examples/sample \\
     --zone-rule CET-1CEST,M3.5.0,M10.5.0/3 --from 2024-05-01 --days 2 \\
     --at 2024-05-01T06:00:00Z --feed examples/late.pb > late.json
+to-siri-sx makes a SIRI delivery of situations of the alerts of a feed:
+  ./gateway to-siri-sx --gtfs examples/sample \\
+    --zone-rule CET-1CEST,M3.5.0,M10.5.0/3 --from 2024-05-01 --days 2 \\
+    --at 2024-05-01T06:00:00Z --feed examples/alert.pb > alert.json
 show prints how each stop of the journeys of a feed reads:
   ./gateway show --gtfs examples/sample \\
     --zone-rule CET-1CEST,M3.5.0,M10.5.0/3 --from 2024-05-01 --days 2 \\

@@ -14,6 +14,7 @@ use gateway_core::{Setting, feed_report};
 use gw_base::{Bytes, Feed, Files, Moment, Text, WireKind};
 use itoa::Buffer;
 use propagation::readings_of;
+use reverse_alerts::SxFault;
 use reverse_calls::ReverseFault;
 use show_command::show_lines;
 use std::alloc::{AllocError, Global};
@@ -145,6 +146,28 @@ pub fn siri_of(
         }
         Err(ReverseFault::Differential) => unreachable!(),
         Err(ReverseFault::Memory) => Err(Exit::Memory),
+    }
+}
+
+/// The delivery of the situations that a feed's alerts are, and the report on its entities.
+pub fn sx_of(
+    alloc: Global,
+    at: Moment,
+    setting: &Setting,
+    name: &str,
+    feed: &Feed,
+) -> Result<Done, Exit>
+    requires { feed.now.incrementality ≢ pos 1 }
+    ensures told { UnlessFree is_free result (steps.SxOf at setting.now name.now feed.now) }
+    ensures calm { ¬ IsErrOf result Exit.Failed }
+{
+    match reverse_alerts::sx_of(alloc, feed, &setting.context(), at) {
+        Ok((out, report)) => {
+            let err = feed_report(alloc, name, &report)?;
+            Ok(Done::texts(out, err))
+        }
+        Err(SxFault::Differential) => unreachable!(),
+        Err(SxFault::Memory) => Err(Exit::Memory),
     }
 }
 

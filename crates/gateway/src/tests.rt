@@ -1,5 +1,6 @@
 //! Each real device once, and the top call over files and sinks in memory. The top call over the real
 //! devices is run by the repository's own checks.
+mod alerts;
 mod deliveries;
 mod door_faults;
 mod doors;

@@ -1,7 +1,7 @@
 //! The words of a command line. Only exactly the lists of words of a command are accepted.
 ghost use Rattle.std.specs.Prelude.{◌≡◌, length, IfOk, IfErr};
 ghost use Rattle.gateway.specs.Words as said;
-ghost use Rattle.gateway.specs.Words.{IsJob, IsRefusedAt, Says, SaysMake, SaysScope, SaysServe, SaysShow, SaysTask, SaysToGtfsrt, SaysToSiri, zone_by};
+ghost use Rattle.gateway.specs.Words.{IsJob, IsRefusedAt, Says, SaysMake, SaysScope, SaysServe, SaysShow, SaysTask, SaysToGtfsrt, SaysToSiri, SaysToSiriSx, zone_by};
 ghost use Rattle.gateway.specs.Works.{job_of, scope_of, server_of, task_of, zone_of};
 
 mod forms;
@@ -71,6 +71,15 @@ pub enum Task<'a> {
     },
     /// `to-siri`: a feed becomes a delivery.
     ToSiri {
+        /// What it works over.
+        over: Scope<'a>,
+        /// The moment at which the delivery is made.
+        at: Moment,
+        /// The feed's file.
+        feed: &'a Text,
+    },
+    /// `to-siri-sx`: the alerts of a feed become a delivery of situations.
+    ToSiriSx {
         /// What it works over.
         over: Scope<'a>,
         /// The moment at which the delivery is made.
@@ -172,7 +181,7 @@ const NONE: Pair = Pair {
 };
 
 // The commands. In a list of words the value of the pair of number n, from 0 on, is the word of number 2n + 2.
-static COMMANDS: [Command; 5] = [
+static COMMANDS: [Command; 6] = [
     Command {
         name: "serve",
         pairs: &[GTFS, ZONE, FROM, DAYS, KEEP, LISTEN, CONNECTIONS],
@@ -188,6 +197,11 @@ static COMMANDS: [Command; 5] = [
     },
     Command {
         name: "to-siri",
+        pairs: &[GTFS, ZONE, FROM, DAYS, AT, FEED],
+        repeated: NONE,
+    },
+    Command {
+        name: "to-siri-sx",
         pairs: &[GTFS, ZONE, FROM, DAYS, AT, FEED],
         repeated: NONE,
     },
@@ -264,6 +278,18 @@ fn to_siri(words: &[Text]) -> Task<'_>
     }
 }
 
+// What the words of `to-siri-sx` say.
+fn to_siri_sx(words: &[Text]) -> Task<'_>
+    requires { (command : said.ToSiri) × SaysToSiriSx words.now command }
+    ensures { SaysTask words.now (task_of result) }
+{
+    Task::ToSiriSx {
+        over: over(words),
+        at: moment(&words[10]).unwrap(),
+        feed: &words[12],
+    }
+}
+
 // What the words of `show` say.
 fn show(words: &[Text]) -> Task<'_>
     requires { (command : said.Show) × SaysShow words.now command }
@@ -296,6 +322,7 @@ fn read(words: &[Text]) -> Work<'_>
         "serve" => Work::Serve(serve(words)),
         "to-gtfsrt" => Work::Task(to_gtfsrt(words)),
         "to-siri" => Work::Task(to_siri(words)),
+        "to-siri-sx" => Work::Task(to_siri_sx(words)),
         "make" => Work::Task(make(words)),
         _ => Work::Task(show(words)),
     }

@@ -12,7 +12,7 @@ ghost use Rattle.gateway.specs.Works.{scope_of, task_of, zone_of};
 use crate::deliveries::deliveries;
 use crate::done::Done;
 use crate::exit::Exit;
-use crate::feeds::{feed_file, lines_of, siri_of};
+use crate::feeds::{feed_file, lines_of, siri_of, sx_of};
 use crate::folder_end::folder_end;
 use crate::reading::{ZONE_LIMIT, further_file};
 use crate::samples::made_line;
@@ -205,6 +205,46 @@ fn to_siri<F: Files>(
     }
 }
 
+// What `to-siri-sx` makes of a feed's file over a setting.
+fn sx_of_file<F: Files>(
+    alloc: Global,
+    files: &mut F,
+    at: Moment,
+    setting: &Setting,
+    name: &str,
+) -> Result<Done, Exit>
+    ensures told { IfSome (F.told files.old) (λ told. UnlessFree is_free result
+        (steps.SxOfFile at setting.now name.now told)) }
+    ensures counts { Counts (IsErrOf result Exit.Failed) (F.faults files.old) (F.faults files.new) }
+    ensures same { F.told files.new ≡ F.told files.old }
+{
+    match feed_file(alloc, files, name) {
+        Ok(feed) => sx_of(alloc, at, setting, name, &feed),
+        Err(end) => Err(end),
+    }
+}
+
+// The work of `to-siri-sx`.
+fn to_siri_sx<F: Files>(
+    alloc: Global,
+    files: &mut F,
+    scope: &Scope<'_>,
+    at: Moment,
+    feed: &str,
+) -> Result<Done, Exit>
+    requires { HasWindow scope.now.from scope.now.days }
+    ensures told { IfSome (F.told files.old) (λ told. UnlessFree is_free result
+        (steps.ToSiriSxWork
+        (record { over = scope_of scope.now; at = at; feed = feed.now }) told)) }
+    ensures counts { Counts (IsErrOf result Exit.Failed) (F.faults files.old) (F.faults files.new) }
+    ensures same { F.told files.new ≡ F.told files.old }
+{
+    match setting(alloc, files, scope, None) {
+        Ok(setting) => sx_of_file(alloc, files, at, &setting, feed),
+        Err(end) => Err(end),
+    }
+}
+
 // What `show` makes of a feed's file over a setting.
 fn lines_of_file<F: Files>(
     alloc: Global,
@@ -249,6 +289,7 @@ pub fn carried_out<F: Files>(alloc: Global, task: &Task<'_>, files: &mut F) -> R
     match task {
         Task::ToGtfsrt { over, at, more } => to_gtfsrt(alloc, files, over, *at, more),
         Task::ToSiri { over, at, feed } => to_siri(alloc, files, over, *at, feed.as_str()),
+        Task::ToSiriSx { over, at, feed } => to_siri_sx(alloc, files, over, *at, feed.as_str()),
         Task::Show { over, feed } => show(alloc, files, over, feed.as_str()),
         Task::Make { seed, trips, stops } => made_line(alloc, *seed, *trips, *stops),
     }

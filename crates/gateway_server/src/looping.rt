@@ -1,5 +1,5 @@
 //! Connections, one after the other. The definitions are those of `specs/Serving.antt`.
-ghost use Rattle.std.specs.Prelude.{◌≡◌, ◌≤◌, ◌⊎◌, ◌++◌, false, [], ℕ, List, OnOk, IsErr};
+ghost use Rattle.std.specs.Prelude.{◌≡◌, ◌≤◌, ◌⊎◌, ◌++◌, false, [], ℕ, List, length, OnOk, IsErr};
 ghost use Rattle.gw_base.specs.Changes.{change};
 ghost use Rattle.gw_base.specs.Connections.{Connections};
 ghost use Rattle.gw_base.specs.Count.{Counts, Rose};
@@ -17,7 +17,7 @@ use std::alloc::Global;
 /// Serves connections until none is to come or so many were served; Failed is a fault of the door in `next`, which ends it.
 /// Where the door tells its connections, each has its entry in the log, which is lawful behind what arrived before it. The entries that
 /// are lost or cut short are, with that fault of the door, no more than the faults that the door counted, and those for which the clock
-/// failed no more than the clock counted.
+/// failed no more than the clock counted. `body` holds at most 16,777,216 bytes, where it did before.
 pub fn serve<D: Door, C: Clock>(
     alloc: Global,
     gate: &mut Gateway,
@@ -39,6 +39,7 @@ pub fn serve<D: Door, C: Clock>(
         → (logged : List entries.Entry) → left.log ≡ told.log ++ logged
         → CountsCauses gate.old.setting arrivals logged (failures result) (D.faults door.old) (D.faults door.new)
         (C.faults clock.old) (C.faults clock.new) }
+    ensures held { length body.old ≤ 16777216 → length body.new ≤ 16777216 }
     ensures absent { (D.beside door.new).present ≡ false }
     ensures setting { gate.new.setting ≡ gate.old.setting }
     ensures counts { Counts (IsErr result) (D.faults door.old) (D.faults door.new) }

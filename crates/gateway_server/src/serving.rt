@@ -1,9 +1,9 @@
 //! One connection, from its first read to its entry in the log. The definitions are those of `specs/Serving.antt`.
-ghost use Rattle.std.specs.Prelude.{◌≡◌, ◌≤◌, true, false, ℕ, List};
+ghost use Rattle.std.specs.Prelude.{◌≡◌, ◌≤◌, true, false, ℕ, List, length};
 ghost use Rattle.gw_base.specs.Changes.{change};
 ghost use Rattle.gw_base.specs.Connections.{Connections};
 ghost use Rattle.gw_base.specs.Count.{Rose};
-ghost use Rattle.door_talk.specs.Requests.{HasRead};
+ghost use Rattle.door_talk.specs.Requests.{HasRead, IsWithin};
 ghost use Rattle.http_talk.specs.Asked.{is_post};
 ghost use Rattle.gateway_core.specs.Arrivals.{Arrival};
 ghost use Rattle.gateway_core.specs.Standing.{Stands};
@@ -84,7 +84,8 @@ fn answer<D: Door>(
         → (arrivals : List Arrival) → Stands gate.old arrivals
         → Answers (Rose (D.faults door.old) (D.faults door.new)) gate.old.setting arrivals told.input moment result
         (D.told door.new) gate.new }
-    ensures reads { (bytes : List ℕ) × HasRead (D.beside door.old) (D.beside door.new) bytes }
+    ensures reads { (bytes : List ℕ) × HasRead (D.beside door.old) (D.beside door.new) bytes × IsWithin bytes }
+    ensures held { length body.old ≤ 16777216 → length body.new ≤ 16777216 }
     ensures setting { gate.new.setting ≡ gate.old.setting }
     ensures counts { D.faults door.old ≤ D.faults door.new }
 {
@@ -108,7 +109,7 @@ fn answer<D: Door>(
 
 /// Serves the present connection: the clock is asked once, the request is read, what is posted is taken and what is asked for is
 /// answered, and the connection is finished, whatever fails (RFC 9112). Where the door tells its connections, the log has one entry
-/// more, which is lawful behind what arrived before.
+/// more, which is lawful behind what arrived before. `body` holds at most 16,777,216 bytes, where it did before.
 pub fn serve_one<D: Door, C: Clock>(
     alloc: Global,
     gate: &mut Gateway,
@@ -122,6 +123,7 @@ pub fn serve_one<D: Door, C: Clock>(
         → (arrivals : List Arrival) → Stands gate.old arrivals
         → Serves (Rose (D.faults door.old) (D.faults door.new)) gate.old arrivals told
         (change C.told C.faults clock.old clock.new) (D.told door.new) (D.beside door.new) gate.new }
+    ensures held { length body.old ≤ 16777216 → length body.new ≤ 16777216 }
     ensures ended { (D.beside door.new).present ≡ false }
     ensures setting { gate.new.setting ≡ gate.old.setting }
     ensures counts { D.faults door.old ≤ D.faults door.new }

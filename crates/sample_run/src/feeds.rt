@@ -22,8 +22,8 @@ use gateway_core::Gateway;
 use gw_base::{Failed, Feed, List, MemorySink};
 use std::alloc::{AllocError, Global};
 
-// The feed of what was taken, in a sink that has just the room for it. One that were written in more room would be told
-// as want of memory.
+// The feed of what was taken, in a sink that has just the room for it. A feed that needed more room would be told as
+// want of memory.
 fn written(alloc: Global, gate: &Gateway) -> Result<MemorySink, AllocError>
     ensures { (arrivals : List Arrival) → Stands gate.now arrivals
         → IfOk result (λ sink. IsRebuiltOf gate.now.setting made_at arrivals sink.written) }

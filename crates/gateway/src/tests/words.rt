@@ -53,7 +53,7 @@ static WRONG: [(usize, &str); 41] = [
 ];
 
 // Lists of words, each with where it stops being the start of an accepted one.
-static LISTS: [(&str, usize); 34] = [
+static LISTS: [(&str, usize); 36] = [
     // A sample's words, and numbers outside of their ranges.
     ("make --seed 0 --trips 1 --stops", 6),
     ("make --trips 1 --seed 0 --stops 2", 1),
@@ -107,6 +107,14 @@ static LISTS: [(&str, usize); 34] = [
         13,
     ),
     (
+        "to-siri-sx --gtfs g --zone-rule x --from 2024-05-01 --days 2 --feed f",
+        9,
+    ),
+    (
+        "to-siri-sx --gtfs g --zone-rule x --from 2024-05-01 --days 2 --at 2024-05-01T06:00:00Z --feed f --sx f",
+        13,
+    ),
+    (
         "show --gtfs g --zone-rule x --from 2024-05-01 --days 2 --at 2024-05-01T06:00:00Z --feed f",
         9,
     ),
@@ -156,7 +164,7 @@ static LISTS: [(&str, usize); 34] = [
 ];
 
 // Lists of words that are accepted.
-static RIGHT: [&str; 17] = [
+static RIGHT: [&str; 18] = [
     // The fewest and the most of a server.
     "serve --gtfs g --zone-rule x --from 2024-05-01 --days 1 --keep 0 --listen a --connections 0000000001",
     "serve --gtfs g --zone-rule x --from 2024-05-01 --days 32 --keep 31 --listen 127.0.0.1:8080 --connections 4294967295",
@@ -175,6 +183,8 @@ static RIGHT: [&str; 17] = [
     "to-gtfsrt --gtfs g --zone-rule CET-1CEST,M3.5.0,M10.5.0/3 --from 2024-02-29 --days 2 --at 2024-05-01T06:00:00Z --et f",
     "to-gtfsrt --gtfs g --zone-rule CET-1CEST,M3.5.0,M10.5.0/3 --from 2024-05-01 --days 2 --at 1970-01-01T00:00:00Z --et f",
     "to-gtfsrt --gtfs g --zone-rule CET-1CEST,M3.5.0,M10.5.0/3 --from 2024-05-01 --days 2 --at 9998-12-31T23:59:59Z --et f",
+    // A feed whose alerts are read.
+    "to-siri-sx --gtfs g --zone-rule x --from 2024-05-01 --days 2 --at 2024-05-01T06:00:00Z --feed f",
     // No delivery, and several.
     "to-gtfsrt --gtfs g --zone-rule CET-1CEST,M3.5.0,M10.5.0/3 --from 2024-05-01 --days 2 --at 2024-05-01T06:00:00Z",
     "to-gtfsrt --gtfs g --zone-rule CET-1CEST,M3.5.0,M10.5.0/3 --from 2024-05-01 --days 2 --at 2024-05-01T06:00:00Z --et f --et h --et f",

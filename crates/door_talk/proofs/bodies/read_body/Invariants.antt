@@ -2,8 +2,8 @@ use Rattle.std.proofs.Common.{◌≡◌, ◌≤◌, ◌-◌, length, drop, take}
 use Rattle.door_talk.specs.Requests.{HasRead}
 use Rattle.door_talk.proofs.bodies.read_body.Given as goal
 
-abbrev pub invariant-loop-body : goal.invariant-loop-body
-invariant-loop-body g l = record {
+abbrev pub invariant-loop-door : goal.invariant-loop-door
+invariant-loop-door g l = record {
   room : length l.piece ≡ length l.fn.piece;
   long : length l.fn.body ≤ length l.body;
   within : length l.body ≤ l.size;
@@ -13,5 +13,5 @@ invariant-loop-body g l = record {
   never_falls : g.D.Sink.faults l.fn.door ≤ g.D.Sink.faults l.door;
 }
 
-abbrev pub decreases-loop-body : goal.decreases-loop-body
-decreases-loop-body g l = l.size - length l.body
+abbrev pub decreases-loop-door : goal.decreases-loop-door
+decreases-loop-door g l = l.size - length l.body

@@ -1,7 +1,8 @@
-use Rattle.std.proofs.Common.{◌∙◌, ◌++◌, drop, subst, sym, take}
+use Rattle.std.proofs.Common.{◌∙◌, ◌++◌, [], arith, drop, subst, sym, take}
 use Rattle.door_talk.specs.Requests.{ReadsHead}
 use Rattle.door_talk.specs.declared.heads.HeadRead.TheVariants as heads
 use Rattle.door_talk.proofs.AskLemmas.{asks_behind, asks_cut, asks_get, asks_refused}
+use Rattle.door_talk.proofs.LimitLemmas.{small_body, within}
 use Rattle.door_talk.proofs.ReadLemmas.{reads_on}
 use Rattle.door_talk.proofs.requests.read_request.Goals as goal
 
@@ -24,7 +25,12 @@ pub returns-else-not-is_post-clause-reads : goal.returns-else-not-is_post-clause
 returns-else-not-is_post-clause-reads g c = (
   c.in-Ok-Ended.ensures.reads.0 ++ c.read_post.ensures.reads.0,
   reads_on (g.D.Sink.beside c.args.door.now) (g.D.Sink.beside c.read_head.new.door) (g.D.Sink.beside c.read_post.new.door) c.in-Ok-Ended.ensures.reads.0 c.read_post.ensures.reads.0 c.in-Ok-Ended.ensures.reads.1 c.read_post.ensures.reads.1,
+  within c.in-Ok-Ended.ensures.reads.0 (drop c.in-Ok-Ended.from (take c.in-Ok-Ended.to c.read_head.new.piece)) c.read_post.ensures.reads.0 read.2 c.in-Ok-Ended.head c.in-Ok-Ended.ensures.reads.3 read.3
+      (sym c.is_post.ensures ∙ c.if-not-is_post.false) read.4 read.5 c.read_post.ensures.reads.2,
 )
+  where
+    read : ReadsHead (g.D.Sink.beside c.read_head.new.door) c.in-Ok-Ended.ensures.reads.0 c.read_head.new.piece (heads.Ended c.in-Ok-Ended.head c.in-Ok-Ended.from c.in-Ok-Ended.to)
+    read = subst (ReadsHead (g.D.Sink.beside c.read_head.new.door) c.in-Ok-Ended.ensures.reads.0 c.read_head.new.piece) c.in-Ok-Ended.field-0-is c.in-Ok-Ended.ensures.reads.2
 
 pub returns-in-Ok-Refused-clause-asks : goal.returns-in-Ok-Refused-clause-asks
 returns-in-Ok-Refused-clause-asks g c =
@@ -37,3 +43,10 @@ returns-in-Ok-Cut-clause-asks g c =
   where
     read : ReadsHead (g.D.Sink.beside c.read_head.new.door) c.in-Ok-Cut.ensures.reads.0 c.read_head.new.piece (heads.Cut c.in-Ok-Cut.why)
     read = subst (ReadsHead (g.D.Sink.beside c.read_head.new.door) c.in-Ok-Cut.ensures.reads.0 c.read_head.new.piece) c.in-Ok-Cut.field-0-is c.in-Ok-Cut.ensures.reads.2
+
+pub returns-else-not-is_post-clause-held : goal.returns-else-not-is_post-clause-held
+returns-else-not-is_post-clause-held g c = λ small.
+    omega (arith, c.read_post.ensures.held, small_body (c.in-Ok-Ended.ensures.reads.0 ++ []) read.2 c.in-Ok-Ended.head (read.3 []))
+  where
+    read : ReadsHead (g.D.Sink.beside c.read_head.new.door) c.in-Ok-Ended.ensures.reads.0 c.read_head.new.piece (heads.Ended c.in-Ok-Ended.head c.in-Ok-Ended.from c.in-Ok-Ended.to)
+    read = subst (ReadsHead (g.D.Sink.beside c.read_head.new.door) c.in-Ok-Ended.ensures.reads.0 c.read_head.new.piece) c.in-Ok-Ended.field-0-is c.in-Ok-Ended.ensures.reads.2

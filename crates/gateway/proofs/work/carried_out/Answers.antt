@@ -7,6 +7,9 @@ to_gtfsrt-requires g c = rw c.in-ToGtfsrt.is at c.requires
 pub to_siri-requires : goal.to_siri-requires
 to_siri-requires g c = rw c.in-ToSiri.is at c.requires
 
+pub to_siri_sx-requires : goal.to_siri_sx-requires
+to_siri_sx-requires g c = rw c.in-ToSiriSx.is at c.requires
+
 pub show-requires : goal.show-requires
 show-requires g c = rw c.in-Show.is at c.requires
 
@@ -18,6 +21,9 @@ returns-in-ToGtfsrt-clause-told g c = rw c.in-ToGtfsrt.is c.to_gtfsrt.ensures.to
 
 pub returns-in-ToSiri-clause-told : goal.returns-in-ToSiri-clause-told
 returns-in-ToSiri-clause-told g c = rw c.in-ToSiri.is (rw c.as_str.ensures.same at c.to_siri.ensures.told)
+
+pub returns-in-ToSiriSx-clause-told : goal.returns-in-ToSiriSx-clause-told
+returns-in-ToSiriSx-clause-told g c = rw c.in-ToSiriSx.is (rw c.as_str-in-ToSiriSx.ensures.same at c.to_siri_sx.ensures.told)
 
 pub returns-in-Show-clause-told : goal.returns-in-Show-clause-told
 returns-in-Show-clause-told g c = rw c.in-Show.is (rw c.as_str-in-Show.ensures.same at c.show.ensures.told)

@@ -49,6 +49,7 @@ loop-left-init g c = record {
   door = le_self (g.D.Sink.faults c.args.door.now);
   clock = le_self (g.C.Clock.faults c.args.clock.now);
   few = le_self c.args.connections;
+  held = λ small. small;
   serves = λ told tells arrivals stands.
       subst (λ (count : ℕ). ServesAll (Rose (g.D.Sink.faults c.args.door.now) (g.D.Sink.faults c.args.door.now)) c.args.gate.now arrivals told (change g.C.Clock.told g.C.Clock.faults c.args.clock.now c.args.clock.now)
       (g.D.Sink.told c.args.door.now) (g.D.Sink.beside c.args.door.now) c.args.gate.now count) (none_yet c.args.connections)
@@ -65,6 +66,7 @@ loop-left-preserved g c = record {
   door = le_both (g.D.Sink.faults c.args.door.now) (g.D.Sink.faults c.next.new.self) (g.D.Sink.faults c.serve_one.new.door) came c.serve_one.ensures.counts;
   clock = le_both (g.C.Clock.faults c.args.clock.now) (g.C.Clock.faults c.loop-left.clock) (g.C.Clock.faults c.serve_one.new.clock) c.loop-left.invariant.clock c.serve_one.ensures.clock;
   few = fewer c.args.connections c.loop-left.left c.loop-left.invariant.few;
+  held = λ small. c.serve_one.ensures.held (c.loop-left.invariant.held small);
   serves = λ told tells arrivals stands.
       subst (λ (count : ℕ). ServesAll (Rose (g.D.Sink.faults c.args.door.now) (g.D.Sink.faults c.serve_one.new.door)) c.args.gate.now arrivals told (change g.C.Clock.told g.C.Clock.faults c.args.clock.now c.serve_one.new.clock)
       (g.D.Sink.told c.serve_one.new.door) (g.D.Sink.beside c.serve_one.new.door) c.serve_one.new.gate count) (one_more c.args.connections c.loop-left.left c.loop-left.invariant.few c.loop-left-test.true)

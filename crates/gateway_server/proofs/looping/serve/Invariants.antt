@@ -1,5 +1,5 @@
 -- the connections so far
-use Rattle.std.proofs.Common.{◌≡◌, ◌≤◌, ◌-◌, false, List}
+use Rattle.std.proofs.Common.{◌≡◌, ◌≤◌, ◌-◌, false, List, length}
 use Rattle.gw_base.specs.Changes.{change}
 use Rattle.gw_base.specs.Connections.{Connections}
 use Rattle.gw_base.specs.Count.{Rose}
@@ -16,6 +16,7 @@ invariant-loop-left g l = record {
   door : g.D.Sink.faults l.fn.door ≤ g.D.Sink.faults l.door;
   clock : g.C.Clock.faults l.fn.clock ≤ g.C.Clock.faults l.clock;
   few : l.left ≤ l.connections;
+  held : length l.fn.body ≤ 16777216 → length l.body ≤ 16777216;
   serves : (told : Connections) → Tells (g.D.Sink.told l.fn.door) (g.D.Sink.beside l.fn.door) told → (arrivals : List Arrival) → Stands l.fn.gate arrivals
       → ServesAll (Rose (g.D.Sink.faults l.fn.door) (g.D.Sink.faults l.door)) l.fn.gate arrivals told (change g.C.Clock.told g.C.Clock.faults l.fn.clock l.clock)
       (g.D.Sink.told l.door) (g.D.Sink.beside l.door) l.gate (l.connections - l.left);
