@@ -63,14 +63,16 @@ moments_of arrivals = map (λ one. one.moment) arrivals
 
 -- the window of so many days from a day on, each with its start in the zone
 abbrev pub window_from : Rules → ℤ → ℕ → DayStarts
-window_from zone first days = record { first = first; starts = map (λ place. start zone (first +ℤ pos place)) (range_with_len 0 days) }
+window_from zone first days =
+    record { first = first; starts = map (λ place. start zone (first +ℤ pos place)) (range_with_len 0 days) }
 
 -- the window then, and what journeys are read over
 abbrev pub window_at : Setting → List ℤ → DayStarts
 window_at setting moments = window_from setting.zone (first_day setting moments) (length setting.window.starts)
 
 abbrev pub schedule_at : Setting → List ℤ → Schedule
-schedule_at setting moments = record { table = seen setting.table; zone = setting.zone; window = window_at setting moments }
+schedule_at setting moments =
+    record { table = seen setting.table; zone = setting.zone; window = window_at setting moments }
 
 -- ---- what is admitted: at most so many keys
 
@@ -81,7 +83,8 @@ most_journeys = 50000
 abbrev pub most_numbers : ℕ
 most_numbers = 5000
 
--- one that arrives has room where one of its key was admitted before, or where fewer keys than the limit have one that counts
+-- one that arrives has room where one of its key was admitted before, or where fewer keys than the limit have one that
+-- counts
 module _ {A : Type 0} (is_same : A → A → Bool) where
   -- of each key the first
   abbrev pub firsts : List A → List A
@@ -89,7 +92,8 @@ module _ {A : Type 0} (is_same : A → A → Bool) where
   firsts (one ∷ others) = one ∷ filter (λ other. not (is_same one other)) (firsts others)
 
   abbrev pub has_room : (A → Bool) → ℕ → List A → A → Bool
-  has_room counts limit before one = list_any (is_same one) before || nat_lt (length (firsts (filter counts before))) limit
+  has_room counts limit before one =
+      list_any (is_same one) before || nat_lt (length (firsts (filter counts before))) limit
 
   -- all that were admitted before, followed by those that have room when they arrive one after the other
   abbrev pub admit : (A → Bool) → ℕ → List A → List A → List A
@@ -126,7 +130,8 @@ admitted setting (one ∷ earlier) =
 
 abbrev pub admitted_situations : List Arrival → List Situation
 admitted_situations [] = []
-admitted_situations (one ∷ earlier) = admit is_same_number always most_numbers (admitted_situations earlier) (situations_of one.gives)
+admitted_situations (one ∷ earlier) =
+    admit is_same_number always most_numbers (admitted_situations earlier) (situations_of one.gives)
 
 -- of the records that were admitted those with days in the window
 abbrev pub present : Setting → List Arrival → List Recorded
@@ -134,7 +139,8 @@ present setting arrivals = filter (is_within (window_at setting (moments_of arri
 
 -- each record can be served over the window that was there when it arrived, and each situation refers to what is there
 pub record CanBeServed (schedule : Schedule) (one : Given) : Type 0 where
-  pub servable : AllByRecursion (λ record_of. IsServable schedule record_of.trip record_of.day record_of.reading) (records_of one)
+  pub servable : AllByRecursion (λ record_of. IsServable schedule record_of.trip record_of.day record_of.reading)
+      (records_of one)
   pub known : AllByRecursion (λ situation. AreKnown schedule.table situation.refs) (situations_of one)
 
 abbrev pub EachCanBeServed : Setting → List Arrival → Type 0

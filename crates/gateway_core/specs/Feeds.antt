@@ -28,16 +28,18 @@ has_lesser_number a b = is_lt (slice_cmp nat_cmp a.number b.number)
 
 -- the entities of a feed: those of journeys, and behind them the alerts of situations
 abbrev pub entities_of : Schedule → List Recorded → List Situation → List Entity
-entities_of schedule records situations = flat_map (messages schedule) records ++ flat_map (alerts schedule.table) situations
+entities_of schedule records situations =
+    flat_map (messages schedule) records ++ flat_map (alerts schedule.table) situations
 
 -- bytes are a full dataset of these entities that is made at that moment, and mean it
 pub record IsFeedOf (at : ℤ) (entities : List Entity) (feed : List ℕ) : Type 0 where
   pub bytes : feed ≡ written_feed at entities
   pub means : MeansFeed feed (full_dataset at entities)
 
--- the feed that is rebuilt from all records and situations taken, made at that moment: the entity of the latest record of each
--- journey, by service day and trip number, and the alert of the newest situation of each number, by number
-pub record IsRebuilt (at : ℤ) (schedule : Schedule) (records : List Recorded) (situations : List Situation) (feed : List ℕ) : Type 0 where
+-- the feed that is rebuilt from all records and situations taken, made at that moment: the entity of the latest record
+-- of each journey, by service day and trip number, and the alert of the newest situation of each number, by number
+pub record IsRebuilt (at : ℤ) (schedule : Schedule) (records : List Recorded) (situations : List Situation)
+    (feed : List ℕ) : Type 0 where
   pub ordered : List Recorded
   pub in_order : are_ordered_by comes_before ordered ≡ true
   pub latest : (trip : ℕ) (day : ℤ) → HasLatest records trip day (find (is_of trip day) ordered)
@@ -48,5 +50,7 @@ pub record IsRebuilt (at : ℤ) (schedule : Schedule) (records : List Recorded) 
 
 -- of two lists of records, and of two of situations, the same count
 pub record CountAlike (records others : List Recorded) (situations further : List Situation) : Type 0 where
-  pub latest : (trip : ℕ) (day : ℤ) (found : Option Recorded) → HasLatest records trip day found → HasLatest others trip day found
-  pub newest : (number : List ℕ) (found : Option Situation) → HasNewest situations number found → HasNewest further number found
+  pub latest : (trip : ℕ) (day : ℤ) (found : Option Recorded) → HasLatest records trip day found
+      → HasLatest others trip day found
+  pub newest : (number : List ℕ) (found : Option Situation) → HasNewest situations number found
+      → HasNewest further number found

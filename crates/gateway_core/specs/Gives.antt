@@ -1,4 +1,5 @@
--- What a feed gives, in the words of the two standards (SIRI 2.0, EstimatedVehicleJourney; GTFS Realtime 2.0, FeedMessage).
+-- What a feed gives, in the words of the two standards (SIRI 2.0, EstimatedVehicleJourney; GTFS Realtime 2.0,
+-- FeedMessage).
 use Rattle.std.specs.Prelude.{◌≡◌, ℕ, ℤ, List, Option, option_map}
 use Rattle.gw_base.specs.declared.messages.Entity.{Entity}
 use Rattle.feed_messages.specs.Tables.{MeansFeed, full_dataset}
@@ -7,12 +8,13 @@ use Rattle.journey_model.specs.Records.{Recorded}
 use Rattle.journey_model.specs.Schedules.{Schedule}
 use Rattle.latest_store.specs.Latest.{HasLatest}
 
--- a feed of these entities gives a trip on a day just the reading of the latest record of that journey, or nothing known of any
--- stop where there is none
+-- a feed of these entities gives a trip on a day just the reading of the latest record of that journey, or nothing
+-- known of any stop where there is none
 abbrev pub GivesLatest : Schedule → ℤ → List Entity → List Recorded → ℕ → ℤ → Type 0
 GivesLatest schedule at entities records trip day =
     (found : Option Recorded) → HasLatest records trip day found
-    → reads schedule (full_dataset at entities) trip day ≡ or_nothing (option_map (λ one. one.reading) found) (nothing_known schedule trip)
+    → reads schedule (full_dataset at entities) trip day
+    ≡ or_nothing (option_map (λ one. one.reading) found) (nothing_known schedule trip)
 
 -- bytes mean a full dataset, made at that moment, that gives each trip on each day just this
 pub record GivesEach (at : ℤ) (schedule : Schedule) (records : List Recorded) (feed : List ℕ) : Type 0 where

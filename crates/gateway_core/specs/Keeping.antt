@@ -7,7 +7,8 @@ use Rattle.latest_store.specs.Latest.{HasLatestOf}
 use Rattle.gateway_core.specs.Feeds.{are_ordered_by}
 
 -- a list has of each key the latest of all, or none where there is none, in the order of the keys
-pub record AreLatest {A Q : Type 0} (is_its : Q → A → Bool) (is_later comes_before : A → A → Bool) (all ordered : List A) : Type 0 where
+pub record AreLatest {A Q : Type 0} (is_its : Q → A → Bool) (is_later comes_before : A → A → Bool)
+    (all ordered : List A) : Type 0 where
   pub in_order : are_ordered_by comes_before ordered ≡ true
   pub latest : (key : Q) → HasLatestOf (is_its key) is_later all (find (is_its key) ordered)
 

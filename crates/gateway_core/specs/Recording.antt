@@ -17,11 +17,13 @@ abbrev pub every_situation : List Arrival → List Situation
 every_situation [] = []
 every_situation (one ∷ earlier) = every_situation earlier ++ situations_of one.gives
 
--- no two different records of one journey have equal moments of recording, no two different situations of one number have equal
--- versions, and there are at most 50,000 journeys and 5,000 numbers
+-- no two different records of one journey have equal moments of recording, no two different situations of one number
+-- have equal versions, and there are at most 50,000 journeys and 5,000 numbers
 pub record AreDecided (arrivals : List Arrival) : Type 0 where
-  pub by_moment : (a b : Recorded) → Contains (every_record arrivals) a → Contains (every_record arrivals) b → is_same_journey a b ≡ true → a.at ≡ b.at → a ≡ b
-  pub by_version : (a b : Situation) → Contains (every_situation arrivals) a → Contains (every_situation arrivals) b → is_same_number a b ≡ true → a.version ≡ b.version → a ≡ b
+  pub by_moment : (a b : Recorded) → Contains (every_record arrivals) a → Contains (every_record arrivals) b
+      → is_same_journey a b ≡ true → a.at ≡ b.at → a ≡ b
+  pub by_version : (a b : Situation) → Contains (every_situation arrivals) a → Contains (every_situation arrivals) b
+      → is_same_number a b ≡ true → a.version ≡ b.version → a ≡ b
   pub few_journeys : length (firsts is_same_journey (every_record arrivals)) ≤ most_journeys
   pub few_numbers : length (firsts is_same_number (every_situation arrivals)) ≤ most_numbers
 
@@ -34,4 +36,5 @@ pub record ArriveAlike (setting : Setting) (arrivals others : List Arrival) : Ty
 -- the feed that is rebuilt of all that arrived
 abbrev pub IsRebuiltOf : Setting → ℤ → List Arrival → List ℕ → Type 0
 IsRebuiltOf setting at arrivals feed =
-    IsRebuilt at (schedule_at setting (moments_of arrivals)) (present setting arrivals) (admitted_situations arrivals) feed
+    IsRebuilt at (schedule_at setting (moments_of arrivals)) (present setting arrivals)
+    (admitted_situations arrivals) feed

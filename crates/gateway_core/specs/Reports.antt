@@ -18,8 +18,10 @@ aside_line file aside = file ++ codes " aside " ++ decimal aside.0 ++ codes " " 
 -- `FILE taken T passed P aside N`
 abbrev pub count_line : List ℕ → ℕ → ℕ → ℕ → List ℕ
 count_line file taken passed aside =
-    file ++ codes " taken " ++ decimal taken ++ codes " passed " ++ decimal passed ++ codes " aside " ++ decimal aside ++ codes "\n"
+    file ++ codes " taken " ++ decimal taken ++ codes " passed " ++ decimal passed ++ codes " aside " ++ decimal aside
+    ++ codes "\n"
 
 -- the report on the items of a file: a line for each that is set aside, and the line of counts
 abbrev pub feed_report : List ℕ → Report → List ℕ
-feed_report file report = flat_map (aside_line file) report.aside ++ count_line file report.taken report.passed (length report.aside)
+feed_report file report =
+    flat_map (aside_line file) report.aside ++ count_line file report.taken report.passed (length report.aside)

@@ -67,26 +67,31 @@ IsVerdictServed table (Ok one) = IsAlertServed table one
 IsVerdictServed table (Err fault) = ⊤
 
 -- after some verdicts: what is kept, and the items that are set aside
-pub record GathersVerdicts (table : Table) (before : List Situation) (verdicts : List (Result Situation Fault)) (entries : List SituationEntry) (aside : List (ℕ × Fault)) : Type 0 where
+pub record GathersVerdicts (table : Table) (before : List Situation) (verdicts : List (Result Situation Fault))
+    (entries : List SituationEntry) (aside : List (ℕ × Fault)) : Type 0 where
   pub entries_are : SituationsAfter table before verdicts entries
   pub aside_are : aside ≡ aside_from 0 (map result_err (situations_with_room before verdicts))
 
 -- after all of them: what is kept, and the report
-pub record GathersSituations (table : Table) (before : List Situation) (verdicts : List (Result Situation Fault)) (passed : ℕ) (entries : List SituationEntry) (report : Report) : Type 0 where
+pub record GathersSituations (table : Table) (before : List Situation) (verdicts : List (Result Situation Fault))
+    (passed : ℕ) (entries : List SituationEntry) (report : Report) : Type 0 where
   pub entries_are : SituationsAfter table before verdicts entries
   pub report_is : report ≡ report_on (situations_with_room before verdicts) passed
 
 -- a body's items are taken over those that were admitted before: what is kept then, and the report
-pub record TakesBody (schedule : Schedule) (before : List Situation) (body : List ℕ) (entries : List SituationEntry) (report : Report) : Type 0 where
+pub record TakesBody (schedule : Schedule) (before : List Situation) (body : List ℕ) (entries : List SituationEntry)
+    (report : Report) : Type 0 where
   pub root : Data
   pub is_tree : tree_of body ≡ Some root
   pub all : List (Result (Situation × ℕ) Fault)
   pub verdicts_are : judged.verdicts schedule root ≡ Ok all
   pub known : AllByRecursion (λ one. AreKnown schedule.table one.refs) (taken (limited_verdicts schedule.table all))
-  pub gathers : GathersSituations schedule.table before (limited_verdicts schedule.table all) (passed_count all) entries report
+  pub gathers : GathersSituations schedule.table before (limited_verdicts schedule.table all)
+      (passed_count all) entries report
 
 -- why a body is refused; want of memory is free
 abbrev pub IsRefused : Schedule → List ℕ → DeliveryFault → Type 0
 IsRefused schedule body NotJson = tree_of body ≡ None
-IsRefused schedule body (NotDelivery member) = (root : Data) × (tree_of body ≡ Some root) × (judged.verdicts schedule root ≡ Err member)
+IsRefused schedule body (NotDelivery member) =
+    (root : Data) × (tree_of body ≡ Some root) × (judged.verdicts schedule root ≡ Err member)
 IsRefused schedule body Memory = ⊤

@@ -1,5 +1,5 @@
--- What a gateway keeps, and the arrivals that it stands for (SIRI 2.0, EstimatedVehicleJourney and PtSituationElement; GTFS
--- Realtime, FeedMessage).
+-- What a gateway keeps, and the arrivals that it stands for (SIRI 2.0, EstimatedVehicleJourney and PtSituationElement;
+-- GTFS Realtime, FeedMessage).
 use Rattle.std.specs.Prelude.{◌≡◌, ◌≤◌, ℕ, ℤ, pos, Bool, List, [], ◌∷◌, ◌++◌, filter}
 use Rattle.gw_base.specs.declared.messages.Feed as feeds
 use Rattle.feed_messages.specs.Tables.{MeansFeed, with_entity}
@@ -73,8 +73,8 @@ abbrev pub KeepsSituations : Table → List Situation → List SituationEntry �
 KeepsSituations table all entries =
     Keeps has_number is_newer has_lesser_number (situation_entry table) (IsAlertServed table) all entries
 
--- a gateway as contracts see it: its setting, its window, what is kept of journeys and of situations, its SIRI text, and how many
--- bytes are dead in the region of each of the two
+-- a gateway as contracts see it: its setting, its window, what is kept of journeys and of situations, its SIRI text,
+-- and how many bytes are dead in the region of each of the two
 pub record Kept : Type 0 where
   pub setting : Setting
   pub window : DayStarts
@@ -86,18 +86,21 @@ pub record Kept : Type 0 where
 
 -- an entry of an index, as it is seen
 abbrev pub journey_seen : Entry JourneyKey Instant → JourneyEntry
-journey_seen one = record { key = (one.key.day, one.key.trip.0); value = (one.value.secs, one.value.nanos); bytes = one.bytes }
+journey_seen one =
+    record { key = (one.key.day, one.key.trip.0); value = (one.value.secs, one.value.nanos); bytes = one.bytes }
 
 abbrev pub situation_seen : Entry (List ℕ) Edition → SituationEntry
 situation_seen one = record { key = one.key; value = (one.value.version, one.value.served); bytes = one.bytes }
 
--- the feed that a gateway serves at a moment: the header, what is kept of each journey, and of each situation that is served
+-- the feed that a gateway serves at a moment: the header, what is kept of each journey, and of each situation that is
+-- served
 abbrev pub served : ℤ → Kept → List ℕ
 served moment kept =
-    header moment ++ flat_map (λ one. one.bytes) kept.journeys ++ flat_map (λ one. one.bytes) (filter (λ one. one.value.1) kept.situations)
+    header moment ++ flat_map (λ one. one.bytes) kept.journeys
+    ++ flat_map (λ one. one.bytes) (filter (λ one. one.value.1) kept.situations)
 
--- a text is the delivery of what the last feed says, at its moment and over the window that was there when it arrived; before any
--- feed, that of no journeys at the moment 0
+-- a text is the delivery of what the last feed says, at its moment and over the window that was there when it arrived;
+-- before any feed, that of no journeys at the moment 0
 abbrev pub OfFeedOr : Schedule → ℤ → Given → List ℕ → Type 0 → Type 0
 OfFeedOr schedule moment (journeys records) text earlier = earlier
 OfFeedOr schedule moment (situations all) text earlier = earlier
@@ -106,13 +109,16 @@ OfFeedOr schedule moment (feed one) text earlier = (report : Report) × IsSiri s
 abbrev pub IsLastSiri : Setting → List Arrival → List ℕ → Type 0
 IsLastSiri setting [] text = text ≡ delivery_text (schedule_at setting []) (pos 0) []
 IsLastSiri setting (one ∷ earlier) text =
-    OfFeedOr (schedule_at setting (one.moment ∷ moments_of earlier)) one.moment one.gives text (IsLastSiri setting earlier text)
+    OfFeedOr (schedule_at setting (one.moment ∷ moments_of earlier)) one.moment one.gives text
+    (IsLastSiri setting earlier text)
 
--- a gateway stands for what arrived: its window is the one of that moment; it keeps the entity of the latest record of each journey
--- present, and the alert of the newest situation of each number admitted; its text is that of the last feed
+-- a gateway stands for what arrived: its window is the one of that moment; it keeps the entity of the latest record of
+-- each journey present, and the alert of the newest situation of each number admitted; its text is that of the last
+-- feed
 pub record Stands (kept : Kept) (arrivals : List Arrival) : Type 0 where
   pub judged : EachCanBeServed kept.setting arrivals
   pub window_is : kept.window ≡ window_at kept.setting (moments_of arrivals)
-  pub journeys_are : KeepsJourneys (schedule_at kept.setting (moments_of arrivals)) (present kept.setting arrivals) kept.journeys
+  pub journeys_are : KeepsJourneys (schedule_at kept.setting (moments_of arrivals))
+      (present kept.setting arrivals) kept.journeys
   pub situations_are : KeepsSituations (seen kept.setting.table) (admitted_situations arrivals) kept.situations
   pub text_is : IsLastSiri kept.setting arrivals kept.text

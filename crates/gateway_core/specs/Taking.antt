@@ -1,5 +1,5 @@
--- What a gateway answers to a body that is taken or refused, and what it stands for then (SIRI 2.0, ServiceDelivery; GTFS
--- Realtime, FeedMessage).
+-- What a gateway answers to a body that is taken or refused, and what it stands for then (SIRI 2.0, ServiceDelivery;
+-- GTFS Realtime, FeedMessage).
 use Rattle.std.specs.Prelude.{◌≡◌, ℕ, ℤ, Bool, false, true, nat_le, List, [], ◌∷◌, ◌++◌, codes, decimal, map, Some, None, Result, Ok, Err, is_none, if◌then◌else◌, ⊤}
 use Rattle.std.specs.List.{count_by}
 use Rattle.std.specs.Result.{result_err}
@@ -39,7 +39,8 @@ use Rattle.gateway_core.specs.Standing.{Kept, Stands}
 
 -- ---- reports
 
--- the report on verdicts in the order of their items: how many are taken, and each that is set aside with its number and its fault
+-- the report on verdicts in the order of their items: how many are taken, and each that is set aside with its number
+-- and its fault
 abbrev pub report_on : {A : Type 0} → List (Result A Fault) → ℕ → Report
 report_on verdicts passed = record {
   taken = count_by is_none (map result_err verdicts);
@@ -66,7 +67,8 @@ report_json report =
 -- ---- what is full
 
 -- verdicts, of which one is set aside as Full that has no room when it arrives
-abbrev pub with_room : {A : Type 0} → (A → A → Bool) → (A → Bool) → ℕ → List A → List (Result A Fault) → List (Result A Fault)
+abbrev pub with_room : {A : Type 0} → (A → A → Bool) → (A → Bool) → ℕ → List A → List (Result A Fault)
+    → List (Result A Fault)
 with_room is_same counts limit before [] = []
 with_room is_same counts limit before (Err fault ∷ others) = Err fault ∷ with_room is_same counts limit before others
 with_room is_same counts limit before (Ok one ∷ others) =
@@ -83,7 +85,8 @@ situations_with_room before verdicts = with_room is_same_number always most_numb
 
 -- the verdicts on situations, of which one is set aside that has too long an alert
 abbrev pub limited_verdict : Table → Result Situation Fault → Result Situation Fault
-limited_verdict table (Ok one) = if nat_le (alert_len table one) alert_limit then Ok one else Err (EntityTooLong (alert_len table one))
+limited_verdict table (Ok one) =
+    if nat_le (alert_len table one) alert_limit then Ok one else Err (EntityTooLong (alert_len table one))
 limited_verdict table (Err fault) = Err fault
 
 abbrev pub limited_verdicts : Table → List (Result (Situation × ℕ) Fault) → List (Result Situation Fault)
@@ -91,27 +94,32 @@ limited_verdicts table all = map (limited_verdict table) (map situation_items.wi
 
 -- ---- what is taken
 
--- a delivery of journeys arrives at a moment behind these arrivals: each item is judged over the window of that moment, and one
--- without room is set aside; it gives these records, and this is the report
-pub record TakesJourneys (setting : Setting) (arrivals : List Arrival) (moment : ℤ) (body : List ℕ) (report : Report) (records : List Recorded) : Type 0 where
+-- a delivery of journeys arrives at a moment behind these arrivals: each item is judged over the window of that moment,
+-- and one without room is set aside; it gives these records, and this is the report
+pub record TakesJourneys (setting : Setting) (arrivals : List Arrival) (moment : ℤ) (body : List ℕ) (report : Report)
+    (records : List Recorded) : Type 0 where
   pub root : Data
   pub is_tree : tree_of body ≡ Some root
   pub all : List (Result (Recorded × ℕ) Fault)
   pub judged : journey_items.verdicts (schedule_at setting (moment ∷ moments_of arrivals)) root ≡ Ok all
   pub records_are : records ≡ taken (map without_count all)
-  pub report_is : report ≡ report_on (journeys_with_room (window_at setting (moment ∷ moments_of arrivals)) (admitted setting arrivals) (map without_count all)) (passed_count all)
+  pub report_is : report ≡ report_on (journeys_with_room (window_at setting (moment ∷ moments_of arrivals))
+      (admitted setting arrivals) (map without_count all)) (passed_count all)
 
 -- the same of a delivery of situations, of which those with too long an alert are set aside first
-pub record TakesSituations (setting : Setting) (arrivals : List Arrival) (moment : ℤ) (body : List ℕ) (report : Report) (given : List Situation) : Type 0 where
+pub record TakesSituations (setting : Setting) (arrivals : List Arrival) (moment : ℤ) (body : List ℕ) (report : Report)
+    (given : List Situation) : Type 0 where
   pub root : Data
   pub is_tree : tree_of body ≡ Some root
   pub all : List (Result (Situation × ℕ) Fault)
   pub judged : situation_verdicts.verdicts (schedule_at setting (moment ∷ moments_of arrivals)) root ≡ Ok all
   pub given_are : given ≡ taken (limited_verdicts (seen setting.table) all)
-  pub report_is : report ≡ report_on (situations_with_room (admitted_situations arrivals) (limited_verdicts (seen setting.table) all)) (situation_items.passed_count all)
+  pub report_is : report ≡ report_on (situations_with_room (admitted_situations arrivals)
+      (limited_verdicts (seen setting.table) all)) (situation_items.passed_count all)
 
 -- the same of a feed, which is a full dataset without a fault
-pub record TakesFeed (setting : Setting) (arrivals : List Arrival) (moment : ℤ) (body : List ℕ) (report : Report) (given : Feed) : Type 0 where
+pub record TakesFeed (setting : Setting) (arrivals : List Arrival) (moment : ℤ) (body : List ℕ) (report : Report)
+    (given : Feed) : Type 0 where
   pub means : MeansFeed body given
   pub faultless : (fault : FeedFault) → ¬ HasFault body fault
   pub full : is_differential given ≡ false
@@ -128,28 +136,36 @@ pub record Follows (kept : Kept) (arrivals : List Arrival) (moment : ℤ) (gives
 -- what a gateway answers to a delivery of journeys, and what it stands for then; want of memory is free
 abbrev pub JourneysAnswer : Kept → List Arrival → ℤ → List ℕ → Result Accepted DeliveryFault → Kept → Type 0
 JourneysAnswer kept arrivals moment body (Ok accepted) now =
-    (records : List Recorded) × TakesJourneys kept.setting arrivals moment body accepted.report records × Follows kept arrivals moment (journeys records) now
+    (records : List Recorded) × TakesJourneys kept.setting arrivals moment body accepted.report records
+    × Follows kept arrivals moment (journeys records) now
 JourneysAnswer kept arrivals moment body (Err NotJson) now = tree_of body ≡ None
 JourneysAnswer kept arrivals moment body (Err (NotDelivery member)) now =
-    (root : Data) × (tree_of body ≡ Some root) × (journey_items.verdicts (schedule_at kept.setting (moment ∷ moments_of arrivals)) root ≡ Err member)
+    (root : Data) × (tree_of body ≡ Some root) × (journey_items.verdicts
+    (schedule_at kept.setting (moment ∷ moments_of arrivals)) root ≡ Err member)
 JourneysAnswer kept arrivals moment body (Err Memory) now = ⊤
 
 abbrev pub SituationsAnswer : Kept → List Arrival → ℤ → List ℕ → Result Accepted DeliveryFault → Kept → Type 0
 SituationsAnswer kept arrivals moment body (Ok accepted) now =
-    (given : List Situation) × TakesSituations kept.setting arrivals moment body accepted.report given × Follows kept arrivals moment (situations given) now
+    (given : List Situation) × TakesSituations kept.setting arrivals moment body accepted.report given
+    × Follows kept arrivals moment (situations given) now
 SituationsAnswer kept arrivals moment body (Err NotJson) now = tree_of body ≡ None
 SituationsAnswer kept arrivals moment body (Err (NotDelivery member)) now =
-    (root : Data) × (tree_of body ≡ Some root) × (situation_verdicts.verdicts (schedule_at kept.setting (moment ∷ moments_of arrivals)) root ≡ Err member)
+    (root : Data) × (tree_of body ≡ Some root) × (situation_verdicts.verdicts
+    (schedule_at kept.setting (moment ∷ moments_of arrivals)) root ≡ Err member)
 SituationsAnswer kept arrivals moment body (Err Memory) now = ⊤
 
--- what it answers to a feed: first the fault of its bytes, then that it is differential, then that it has too many calls
+-- what it answers to a feed: first the fault of its bytes, then that it is differential, then that it has too many
+-- calls
 abbrev pub FeedAnswer : Kept → List Arrival → ℤ → List ℕ → Result Accepted FeedRefusal → Kept → Type 0
 FeedAnswer kept arrivals moment body (Ok accepted) now =
-    (given : Feed) × TakesFeed kept.setting arrivals moment body accepted.report given × Follows kept arrivals moment (feed given) now
+    (given : Feed) × TakesFeed kept.setting arrivals moment body accepted.report given
+    × Follows kept arrivals moment (feed given) now
 FeedAnswer kept arrivals moment body (Err (FeedRefusal.Feed fault)) now = HasFault body fault
 FeedAnswer kept arrivals moment body (Err Differential) now =
-    (given : Feed) × MeansFeed body given × ((fault : FeedFault) → ¬ HasFault body fault) × (is_differential given ≡ true)
+    (given : Feed) × MeansFeed body given × ((fault : FeedFault) → ¬ HasFault body fault)
+    × (is_differential given ≡ true)
 FeedAnswer kept arrivals moment body (Err (TooManyCalls calls)) now =
-    (given : Feed) × MeansFeed body given × ((fault : FeedFault) → ¬ HasFault body fault) × (is_differential given ≡ false)
+    (given : Feed) × MeansFeed body given × ((fault : FeedFault) → ¬ HasFault body fault)
+    × (is_differential given ≡ false)
     × HasTooMany (schedule_at kept.setting (moment ∷ moments_of arrivals)) given calls
 FeedAnswer kept arrivals moment body (Err FeedRefusal.Memory) now = ⊤

@@ -20,7 +20,8 @@ counts_by is_later None arriving = true
 counts_by is_later (Some one) arriving = not (is_later one arriving)
 
 -- what is a key, and when one is later than another
-pub record IsKeyed {A Q : Type 0} (cmp : Q → Q → Ordering) (key_of : A → Q) (is_its : Q → A → Bool) (is_later : A → A → Bool) : Type 0 where
+pub record IsKeyed {A Q : Type 0} (cmp : Q → Q → Ordering) (key_of : A → Q) (is_its : Q → A → Bool)
+    (is_later : A → A → Bool) : Type 0 where
   pub total : IsTotalOrder cmp
   pub same : (p q : Q) → cmp p q ≡ Equal → p ≡ q
   pub its : (q : Q) (a : A) → is_its q a ≡ is_eq (cmp q (key_of a))

@@ -15,9 +15,9 @@ use siri_calls::write_delivery;
 use std::alloc::{AllocError, Global};
 use std::marker::Model;
 
-/// Of all deliveries and feeds that were taken what is needed to serve: of each journey the entity of its latest record,
-/// of each situation number the alert of its newest version, and the SIRI text of the last feed; and the window, which
-/// rolls with the moments of what is taken. No reading and no situation is kept beside the bytes.
+/// Of all deliveries and feeds that were taken what is needed to serve: of each journey the entity of its latest
+/// record, of each situation number the alert of its newest version, and the SIRI text of the last feed; and the
+/// window, which rolls with the moments of what is taken. No reading and no situation is kept beside the bytes.
 #[derive(Drop)]
 pub struct Gateway {
     pub(crate) setting: Setting,

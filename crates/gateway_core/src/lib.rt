@@ -1,5 +1,5 @@
-//! The gateway's state: of all deliveries and feeds that were taken what is needed to serve, while the window of service days rolls;
-//! the feed and the SIRI text that it serves, and the reports on what was taken and set aside.
+//! The gateway's state: of all deliveries and feeds that were taken what is needed to serve, while the window of
+//! service days rolls; the feed and the SIRI text that it serves, and the reports on what was taken and set aside.
 #![tactic(auto)]
 
 mod accepted;

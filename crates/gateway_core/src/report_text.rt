@@ -1,6 +1,6 @@
-//! The report on a body that was taken, as JSON: `{"aside":[{"fault":"TEXT","index":I}],"passed":P,"taken":T}`. A fault's
-//! text is of names and decimal numbers, so no byte of it needs an escape (RFC 8259, section 7). The functions meet
-//! `report_json` of `specs/Taking.antt`.
+//! The report on a body that was taken, as JSON: `{"aside":[{"fault":"TEXT","index":I}],"passed":P,"taken":T}`. A
+//! fault's text is of names and decimal numbers, so no byte of it needs an escape (RFC 8259, section 7). The functions
+//! meet `report_json` of `specs/Taking.antt`.
 ghost use Rattle.std.specs.Prelude.{◌≡◌, ◌++◌, codes, decimal, map, IfOk, OnOk};
 ghost use Rattle.std.specs.List.{flat_map};
 ghost use Rattle.gateway_core.specs.Taking as spec;

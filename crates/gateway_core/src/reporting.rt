@@ -1,5 +1,5 @@
-//! The report on a delivery or a feed: a line for each item that was set aside, and a line with the counts. The definitions
-//! are those of `specs/Reports.antt`.
+//! The report on a delivery or a feed: a line for each item that was set aside, and a line with the counts. The
+//! definitions are those of `specs/Reports.antt`.
 ghost use Rattle.std.specs.Prelude.{◌≡◌, ◌++◌, ◌+◌, OnOk, IfOk, is_none, map, length};
 ghost use Rattle.std.specs.List.{count_by, flat_map};
 ghost use Rattle.gateway_core.specs.Reports as spec;

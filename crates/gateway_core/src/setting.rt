@@ -14,7 +14,8 @@ pub struct Setting {
     pub zone: Zone,
     /// The service days, with their starts in the zone.
     pub window: Window,
-    /// How many days before the local one are kept, at most 31 and fewer than the window has; without it the window stays.
+    /// How many days before the local one are kept, at most 31 and fewer than the window has; without it the window
+    /// stays.
     pub keep: Option<u8>,
     pub ghost own_window: { IsWindowIn zone window },
 }

@@ -186,8 +186,8 @@ fn take_items(
 }
 
 /// Goes through the items of a delivery in their order: a situation is taken, and its alert put where it counts, or it
-/// is set aside where its alert has a body of more than 65,536 bytes or it has no room. Answers the report on them. After
-/// want of memory the draft holds what was put before.
+/// is set aside where its alert has a body of more than 65,536 bytes or it has no room. Answers the report on them.
+/// After want of memory the draft holds what was put before.
 pub(crate) fn take_delivery(
     alloc: Global,
     table: &Timetable,

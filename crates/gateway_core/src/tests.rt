@@ -25,7 +25,8 @@ struct Form {
 
 // The words of an item: a trip, a day, when that was recorded, and what is said besides.
 static JOURNEYS: Form = Form {
-    head: "{\"ServiceDelivery\":{\"EstimatedTimetableDelivery\":[{\"EstimatedJourneyVersionFrame\":[{\"EstimatedVehicleJourney\":[",
+    head: "{\"ServiceDelivery\":{\"EstimatedTimetableDelivery\":[{\"EstimatedJourneyVersionFrame\":[{\
+      \"EstimatedVehicleJourney\":[",
     before: [
         "{\"FramedVehicleJourneyRef\":{\"DatedVehicleJourneyRef\":\"",
         "\",\"DataFrameRef\":\"",
@@ -41,7 +42,8 @@ const CANCELLED: &str = ",\"Cancellation\":true";
 static SITUATIONS: Form = Form {
     head: "{\"ServiceDelivery\":{\"SituationExchangeDelivery\":[{\"Situations\":{\"PtSituationElement\":[",
     before: [
-        "{\"Affects\":{\"Networks\":{\"AffectedNetwork\":{\"AffectedLine\":{\"LineRef\":\"R1\"}}}},\"SituationNumber\":\"",
+        "{\"Affects\":{\"Networks\":{\"AffectedNetwork\":{\"AffectedLine\":{\"LineRef\":\"R1\"}}}},\
+          \"SituationNumber\":\"",
         "\",\"Version\":",
         "",
         "",
@@ -53,8 +55,9 @@ static SITUATIONS: Form = Form {
 const HEADER: &[u8] = b"\x0a\x0d\x0a\x032.0\x10\x00\x18\xe0\xb4\xc7\xb1\x06";
 
 // The header, the entity of T1, and the alert of S2 (made by hand from GTFS Realtime's messages).
-const FEED: &[u8] =
-    b"\x0a\x0d\x0a\x032.0\x10\x00\x18\xe0\xb4\xc7\xb1\x06\x12\x27\x0a\x0b20240501:T1\x1a\x18\x0a\x10\x0a\x02T1\x1a\x0820240501\x20\x03\x20\xe0\xb4\xc7\xb1\x06\x12\x16\x0a\x08alert:S2*\x0a*\x04\x12\x02R10\x018\x08";
+const FEED: &[u8] = b"\x0a\x0d\x0a\x032.0\x10\x00\x18\xe0\xb4\xc7\xb1\x06\x12\x27\x0a\x0b20240501:\
+      T1\x1a\x18\x0a\x10\x0a\x02T1\x1a\x0820240501\x20\x03\x20\xe0\xb4\xc7\xb1\x06\x12\x16\x0a\x08alert:\
+      S2*\x0a*\x04\x12\x02R10\x018\x08";
 
 // A gateway over three days from 2024-05-01 on that took nothing.
 fn started(rt: &impl Abort, alloc: Global, keep: Option<u8>) -> Gateway {

@@ -1,5 +1,5 @@
--- The SIRI delivery that says what a feed says of journeys (SIRI 2.0, EstimatedTimetableDelivery; GTFS Realtime reference,
--- FeedMessage).
+-- The SIRI delivery that says what a feed says of journeys (SIRI 2.0, EstimatedTimetableDelivery; GTFS Realtime
+-- reference, FeedMessage).
 use Rattle.std.specs.Prelude.{◌≡◌, ◌<◌, ◌≤◌, ℕ, ℤ, pos, Bool, List, length, sum_by, min, MatchBool, Result, Ok, Err}
 use Rattle.std.specs.Ordering.{int_eq}
 use Rattle.gw_base.specs.Count.{last_count}
@@ -30,8 +30,9 @@ call_count schedule journeys = min (sum_by (stop_count schedule) journeys) last_
 abbrev pub most_calls : ℕ
 most_calls = 400000
 
--- the text says the journeys of a feed, in the order of days and trips, and says them when it is read again: each with its
--- reading, and nothing is set aside; they have no more calls than a delivery may have, and the report is that of the feed
+-- the text says the journeys of a feed, in the order of days and trips, and says them when it is read again: each with
+-- its reading, and nothing is set aside; they have no more calls than a delivery may have, and the report is that of
+-- the feed
 pub record IsSiri (schedule : Schedule) (feed : Feed) (moment : ℤ) (text : List ℕ) (report : Report) : Type 0 where
   pub found : FeedReading
   pub reading : IsReading schedule feed found
@@ -56,4 +57,5 @@ IsFullAnswer schedule feed moment (Err Memory) = Unit {0}
 
 -- what a feed is answered: a differential one just that it is one
 abbrev pub IsAnswer : Schedule → Feed → ℤ → Result (List ℕ × Report) ReverseFault → Type 0
-IsAnswer schedule feed moment answer = MatchBool (is_differential feed) (answer ≡ Err Differential) (IsFullAnswer schedule feed moment answer)
+IsAnswer schedule feed moment answer =
+    MatchBool (is_differential feed) (answer ≡ Err Differential) (IsFullAnswer schedule feed moment answer)

@@ -13,8 +13,8 @@ fn calls_of_one(context: &Context<'_>, one: &DatedReading) -> u64
     context.table.stops_of(one.trip).len() as u64
 }
 
-/// How many calls the delivery of these journeys has, which is counted before a byte is written; the count stays at its last
-/// value.
+/// How many calls the delivery of these journeys has, which is counted before a byte is written; the count stays at its
+/// last value.
 pub(crate) fn calls_of(context: &Context<'_>, journeys: &[DatedReading]) -> u64
     requires { All (λ one. one.trip.0 < length context.now.table.now.trips) journeys.now }
     ensures { result ≡ call_count (schedule_of context.now) journeys.now }

@@ -1,4 +1,5 @@
-//! A GTFS Realtime feed becomes the SIRI delivery of estimated timetables that says the same of every stop of every journey.
+//! A GTFS Realtime feed becomes the SIRI delivery of estimated timetables that says the same of every stop of every
+//! journey.
 #![tactic(auto)]
 
 mod counting;

@@ -1,4 +1,5 @@
-//! What the readings of a feed keep, so that a delivery can say them. The functions meet `Sayable.antt` of `siri_calls`.
+//! What the readings of a feed keep, so that a delivery can say them. The functions meet `Sayable.antt` of
+//! `siri_calls`.
 ghost use Rattle.std.specs.Prelude.{All, IfSome};
 ghost use Rattle.journey_model.specs.Schedules.{schedule_of};
 ghost use Rattle.propagation.specs.Feeds.{IsServable};

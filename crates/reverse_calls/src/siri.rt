@@ -9,14 +9,12 @@ ghost use Rattle.reverse_calls.specs.Siri.{IsAnswer, IsFullAnswer};
 use crate::counting::calls_of;
 use crate::reverse_fault::ReverseFault;
 use crate::sayable::are_sayable;
+use gw_base::incrementality::DIFFERENTIAL;
 use gw_base::{Bytes, Feed, Moment};
 use journey_model::{Context, DatedReading, Report};
 use propagation::{FeedReading, readings_of};
 use siri_calls::write_delivery;
 use std::alloc::{AllocError, Global};
-
-/// The incrementality of a differential feed (GTFS Realtime reference, FeedHeader, DIFFERENTIAL).
-const DIFFERENTIAL: i32 = 1;
 
 /// The most calls that a delivery has.
 const MOST_CALLS: u64 = 400_000;
@@ -61,10 +59,10 @@ fn siri_of_full(
     }
 }
 
-/// The SIRI delivery that says at that moment what a feed says of journeys, and the report on the feed's entities (SIRI 2.0,
-/// EstimatedTimetableDelivery; GTFS Realtime reference, FeedMessage). Differential exactly where the feed's incrementality is 1;
-/// TooManyCalls where the trips of its journeys have over 400,000 stops, which are counted before a byte is written; Memory for
-/// want of memory.
+/// The SIRI delivery that says at that moment what a feed says of journeys, and the report on the feed's entities (SIRI
+/// 2.0, EstimatedTimetableDelivery; GTFS Realtime reference, FeedMessage). Differential exactly where the feed's
+/// incrementality is 1; TooManyCalls where the trips of its journeys have over 400,000 stops, which are counted before
+/// a byte is written; Memory for want of memory.
 pub fn siri_of(
     alloc: Global,
     feed: &Feed,

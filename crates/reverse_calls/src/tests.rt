@@ -21,13 +21,25 @@ static FOLDER: [(&str, &[u8]); 6] = [
     ),
     (
         "g/stop_times.txt",
-        b"trip_id,arrival_time,departure_time,stop_id,stop_sequence\nT1,08:00:00,08:00:00,A,10\nT1,08:10:00,08:11:00,B,20\n",
+        b"trip_id,arrival_time,departure_time,stop_id,stop_sequence\nT1,08:00:00,08:00:00,A,10\n\
+          T1,08:10:00,08:11:00,B,20\n",
     ),
 ];
 
 // The delivery, made by hand from SIRI's members.
 const DELIVERY: &[u8] =
-    b"{\"Siri\":{\"ServiceDelivery\":{\"EstimatedTimetableDelivery\":[{\"EstimatedJourneyVersionFrame\":[{\"EstimatedVehicleJourney\":[{\"Cancellation\":false,\"EstimatedCalls\":{\"EstimatedCall\":[{\"AimedArrivalTime\":\"2024-05-01T06:00:00Z\",\"AimedDepartureTime\":\"2024-05-01T06:00:00Z\",\"ExpectedArrivalTime\":\"2024-05-01T06:01:00Z\",\"ExpectedDepartureTime\":\"2024-05-01T06:01:00Z\",\"Order\":1,\"StopPointRef\":\"A\"},{\"AimedArrivalTime\":\"2024-05-01T06:10:00Z\",\"AimedDepartureTime\":\"2024-05-01T06:11:00Z\",\"ExpectedArrivalTime\":\"2024-05-01T06:11:00Z\",\"ExpectedDepartureTime\":\"2024-05-01T06:12:00Z\",\"Order\":2,\"StopPointRef\":\"B\"}]},\"FramedVehicleJourneyRef\":{\"DataFrameRef\":\"2024-05-01\",\"DatedVehicleJourneyRef\":\"T1\"},\"IsCompleteStopSequence\":true,\"LineRef\":\"R1\",\"RecordedAtTime\":\"2024-05-01T06:00:00Z\"}],\"RecordedAtTime\":\"2024-05-01T06:00:00Z\"}],\"ResponseTimestamp\":\"2024-05-01T06:00:00Z\",\"version\":\"2.0\"}],\"ResponseTimestamp\":\"2024-05-01T06:00:00Z\"}}}";
+    b"{\"Siri\":{\"ServiceDelivery\":{\"EstimatedTimetableDelivery\":[{\"EstimatedJourneyVersionFrame\":[{\
+      \"EstimatedVehicleJourney\":[{\"Cancellation\":false,\
+      \"EstimatedCalls\":{\"EstimatedCall\":[{\"AimedArrivalTime\":\"2024-05-01T06:00:00Z\",\
+      \"AimedDepartureTime\":\"2024-05-01T06:00:00Z\",\"ExpectedArrivalTime\":\"2024-05-01T06:01:00Z\",\
+      \"ExpectedDepartureTime\":\"2024-05-01T06:01:00Z\",\"Order\":1,\"StopPointRef\":\"A\"},\
+      {\"AimedArrivalTime\":\"2024-05-01T06:10:00Z\",\"AimedDepartureTime\":\"2024-05-01T06:11:00Z\",\
+      \"ExpectedArrivalTime\":\"2024-05-01T06:11:00Z\",\"ExpectedDepartureTime\":\"2024-05-01T06:12:00Z\",\
+      \"Order\":2,\"StopPointRef\":\"B\"}]},\"FramedVehicleJourneyRef\":{\"DataFrameRef\":\"2024-05-01\",\
+      \"DatedVehicleJourneyRef\":\"T1\"},\"IsCompleteStopSequence\":true,\"LineRef\":\"R1\",\
+      \"RecordedAtTime\":\"2024-05-01T06:00:00Z\"}],\"RecordedAtTime\":\"2024-05-01T06:00:00Z\"}],\
+      \"ResponseTimestamp\":\"2024-05-01T06:00:00Z\",\"version\":\"2.0\"}],\
+      \"ResponseTimestamp\":\"2024-05-01T06:00:00Z\"}}}";
 
 // The second of the feed, 2024-05-01T06:00:00Z.
 const AT: u64 = 1_714_543_200;

@@ -19,8 +19,8 @@ made_files trips stops = map (λ file. (path_in file.0, file.1)) (folder trips s
 abbrev pub zone_rule : List ℕ
 zone_rule = codes "UTC0"
 
--- the service day, 2024-05-01, and the second since 1970 at which it starts: then the deliveries arrive, and the feed is
--- made
+-- the service day, 2024-05-01, and the second since 1970 at which it starts: then the deliveries arrive, and the feed
+-- is made
 abbrev pub made_day : ℤ
 made_day = pos 19844
 

@@ -35,9 +35,9 @@ fn deliveries_counted(
 }
 
 /// Runs the sample of a seed, so many trips, and so many stops of each: its folder is read from memory (GTFS Schedule),
-/// its deliveries are taken in order at the start of 2024-05-01 (SIRI 2.0, EstimatedTimetableDelivery), and the feed that
-/// is made of them then (GTFS Realtime, FeedMessage) is read again and counted. Each fault comes exactly where a made
-/// text, or the feed, has it; want of memory may come in place of any answer.
+/// its deliveries are taken in order at the start of 2024-05-01 (SIRI 2.0, EstimatedTimetableDelivery), and the feed
+/// that is made of them then (GTFS Realtime, FeedMessage) is read again and counted. Each fault comes exactly where a
+/// made text, or the feed, has it; want of memory may come in place of any answer.
 pub fn run_sample(
     alloc: Global,
     seed: u32,

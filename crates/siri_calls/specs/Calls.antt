@@ -45,7 +45,8 @@ statuses tree = do
     no_departure = is_cancelled departure;
   })
 
--- the time of an event, in whole seconds: none where its status is `cancelled`, else the actual time, else the expected one
+-- the time of an event, in whole seconds: none where its status is `cancelled`, else the actual time, else the expected
+-- one
 abbrev pub event_time : Bool → Option (ℤ × ℕ) → Option (ℤ × ℕ) → Option ℤ
 event_time none actual expected = if none then None else option_map (λ instant. instant.0) (option_or actual expected)
 

@@ -1,5 +1,5 @@
--- The text of a delivery of estimated timetables piece by piece, for the clauses of what writes them. The delivery as a tree is
--- `delivery_tree` of `DeliveryTree.antt`, and its text is theirs: `proofs/WrittenLemmas.antt`.
+-- The text of a delivery of estimated timetables piece by piece, for the clauses of what writes them. The delivery as a
+-- tree is `delivery_tree` of `DeliveryTree.antt`, and its text is theirs: `proofs/WrittenLemmas.antt`.
 use Rattle.std.specs.Prelude.{ℕ, ℤ, ◌+◌, Bool, true, false, List, [], ◌∷◌, ◌++◌, codes, decimal, unwrap_or, Option, Some, None}
 use Rattle.json.specs.Print.{quoted}
 use Rattle.serde_json.specs.Written.{comma_if}
@@ -38,7 +38,8 @@ aimed_text both = times_text (codes "{\"AimedArrivalTime\":") (codes ",\"AimedDe
 abbrev pub said_text : StopReading → List ℕ
 said_text Absent = []
 said_text Skipped = codes ",\"Cancellation\":true"
-said_text (Timed arrival departure) = times_text (codes ",\"ExpectedArrivalTime\":") (codes ",\"ExpectedDepartureTime\":") (arrival, departure)
+said_text (Timed arrival departure) =
+    times_text (codes ",\"ExpectedArrivalTime\":") (codes ",\"ExpectedDepartureTime\":") (arrival, departure)
 
 -- the times of a reading, where it has any, are moments
 abbrev pub SaysMoments : StopReading → Type 0
@@ -52,7 +53,8 @@ stop_text order id = led_number (codes ",\"Order\":") order ++ led (codes ",\"St
 
 -- the call at a stop
 unfoldable pub call_text : Run → ℕ → StopRow → StopReading → List ℕ
-call_text run order row reading = aimed_text (planned run.start row) ++ said_text reading ++ stop_text order (id_at run.ids row.stop.0)
+call_text run order row reading =
+    aimed_text (planned run.start row) ++ said_text reading ++ stop_text order (id_at run.ids row.stop.0)
 
 -- the calls from that one on, behind a comma where another stands before, and the bracket that closes them
 abbrev pub calls_text : Bool → Run → ℕ → List StopRow → List StopReading → List ℕ
@@ -69,12 +71,14 @@ opening_text false = codes "{\"Cancellation\":false,\"EstimatedCalls\":{\"Estima
 -- the trip and its service day, behind the calls
 abbrev pub frame_ref_text : ℤ → List ℕ → List ℕ
 frame_ref_text day trip_id =
-    led (codes "},\"FramedVehicleJourneyRef\":{\"DataFrameRef\":") (dashed_text day) ++ led (codes ",\"DatedVehicleJourneyRef\":") trip_id
+    led (codes "},\"FramedVehicleJourneyRef\":{\"DataFrameRef\":") (dashed_text day)
+    ++ led (codes ",\"DatedVehicleJourneyRef\":") trip_id
 
 -- the route and the moment of recording, with which a journey ends
 abbrev pub closing_text : List ℕ → ℤ → List ℕ
 closing_text route_id recorded =
-    led (codes "},\"IsCompleteStopSequence\":true,\"LineRef\":") route_id ++ led_moment (codes ",\"RecordedAtTime\":") recorded ++ codes "}"
+    led (codes "},\"IsCompleteStopSequence\":true,\"LineRef\":") route_id
+    ++ led_moment (codes ",\"RecordedAtTime\":") recorded ++ codes "}"
 
 -- a journey, which was recorded at that moment
 unfoldable pub journey_text : Table → ℤ → DatedReading → Run → List ℕ
@@ -93,11 +97,14 @@ journey_text_on schedule moment one (Some run) = journey_text schedule.table (un
 abbrev pub journeys_text : Bool → Schedule → ℤ → List DatedReading → List ℕ
 journeys_text later schedule moment [] = codes "]"
 journeys_text later schedule moment (one ∷ others) =
-    comma_if later ++ journey_text_on schedule moment one (run_on schedule one.trip.0 one.day) ++ journeys_text true schedule moment others
+    comma_if later ++ journey_text_on schedule moment one (run_on schedule one.trip.0 one.day)
+    ++ journeys_text true schedule moment others
 
 -- the delivery up to its journeys
 abbrev pub head_text : List ℕ
-head_text = codes "{\"Siri\":{\"ServiceDelivery\":{\"EstimatedTimetableDelivery\":[{\"EstimatedJourneyVersionFrame\":[{\"EstimatedVehicleJourney\":["
+head_text
+    = codes
+    "{\"Siri\":{\"ServiceDelivery\":{\"EstimatedTimetableDelivery\":[{\"EstimatedJourneyVersionFrame\":[{\"EstimatedVehicleJourney\":["
 
 -- the moment of the frame and of both deliveries, behind the journeys
 abbrev pub tail_text : ℤ → List ℕ

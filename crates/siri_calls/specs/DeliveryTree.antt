@@ -1,5 +1,5 @@
--- The delivery of estimated timetables that says how journeys read (SIRI 2.0, EstimatedTimetableDelivery; in JSON after SIRI
--- Lite): its tree and its text. The members of each object come in the order of their names' bytes.
+-- The delivery of estimated timetables that says how journeys read (SIRI 2.0, EstimatedTimetableDelivery; in JSON after
+-- SIRI Lite): its tree and its text. The members of each object come in the order of their names' bytes.
 use Rattle.std.specs.Prelude.{ℕ, ℤ, ◌+◌, Bool, true, false, List, [], ◌∷◌, ◌++◌, map, codes, slice_index_or, unwrap_or, Option, Some, None}
 use Rattle.serde_json.specs.Data.{Data, null, boolean, number, string, array, object, unsigned, Items, no_items, item, Members, no_members, member}
 use Rattle.serde_json.specs.Written.{compact_text}
@@ -40,13 +40,15 @@ id_at ids place = slice_index_or ids place []
 
 -- the planned times of a stop
 abbrev pub aimed_members : ℤ × ℤ → List (List ℕ × Data)
-aimed_members both = (codes "AimedArrivalTime", moment_tree both.0) ∷ (codes "AimedDepartureTime", moment_tree both.1) ∷ []
+aimed_members both =
+    (codes "AimedArrivalTime", moment_tree both.0) ∷ (codes "AimedDepartureTime", moment_tree both.1) ∷ []
 
 -- how a stop reads: it is skipped, or expected at these times; of an absent one nothing is said
 abbrev pub said_members : StopReading → List (List ℕ × Data)
 said_members Absent = []
 said_members Skipped = (codes "Cancellation", boolean true) ∷ []
-said_members (Timed arrival departure) = (codes "ExpectedArrivalTime", moment_tree arrival) ∷ (codes "ExpectedDepartureTime", moment_tree departure) ∷ []
+said_members (Timed arrival departure) =
+    (codes "ExpectedArrivalTime", moment_tree arrival) ∷ (codes "ExpectedDepartureTime", moment_tree departure) ∷ []
 
 -- which stop of the trip it is, counted from 1, and its id
 abbrev pub stop_members : ℕ → List ℕ → List (List ℕ × Data)
@@ -55,13 +57,15 @@ stop_members order id = (codes "Order", number (unsigned order)) ∷ (codes "Sto
 -- the call at a stop
 abbrev pub call_tree : Run → ℕ → StopRow → StopReading → Data
 call_tree run order row reading =
-    object_of (aimed_members (planned run.start row) ++ said_members reading ++ stop_members order (id_at run.ids row.stop.0))
+    object_of (aimed_members (planned run.start row) ++ said_members reading
+    ++ stop_members order (id_at run.ids row.stop.0))
 
 -- the calls at the stops from that one on, counted from 1
 abbrev pub call_trees_from : Run → ℕ → List StopRow → List StopReading → List Data
 call_trees_from run order [] readings = []
 call_trees_from run order (row ∷ rows) [] = []
-call_trees_from run order (row ∷ rows) (reading ∷ readings) = call_tree run order row reading ∷ call_trees_from run (order + 1) rows readings
+call_trees_from run order (row ∷ rows) (reading ∷ readings) =
+    call_tree run order row reading ∷ call_trees_from run (order + 1) rows readings
 
 -- how each stop reads: a cancelled journey skips all of them
 abbrev pub skipped_at : StopRow → StopReading
@@ -72,7 +76,8 @@ stop_readings run Cancelled = map skipped_at run.stops
 stop_readings run (Stops readings) = readings
 
 abbrev pub all_calls : Run → JourneyReading → Data
-all_calls run reading = object_of ((codes "EstimatedCall", array_of (call_trees_from run 1 run.stops (stop_readings run reading))) ∷ [])
+all_calls run reading =
+    object_of ((codes "EstimatedCall", array_of (call_trees_from run 1 run.stops (stop_readings run reading))) ∷ [])
 
 abbrev pub is_cancelled_journey : JourneyReading → Bool
 is_cancelled_journey Cancelled = true
@@ -80,7 +85,8 @@ is_cancelled_journey (Stops readings) = false
 
 -- the trip and its service day
 abbrev pub framed_ref : ℤ → List ℕ → Data
-framed_ref day trip_id = object_of ((codes "DataFrameRef", string (dashed_text day)) ∷ (codes "DatedVehicleJourneyRef", string trip_id) ∷ [])
+framed_ref day trip_id =
+    object_of ((codes "DataFrameRef", string (dashed_text day)) ∷ (codes "DatedVehicleJourneyRef", string trip_id) ∷ [])
 
 -- a journey, which was recorded at that moment
 abbrev pub journey_of_run : Schedule → ℤ → DatedReading → Run → Data
@@ -93,7 +99,8 @@ journey_of_run schedule recorded one run = object_of (
     ∷ (codes "RecordedAtTime", moment_tree recorded)
     ∷ [])
 
--- the journey of a reading, whose day is in the window; a reading without a moment of recording has that of the delivery
+-- the journey of a reading, whose day is in the window; a reading without a moment of recording has that of the
+-- delivery
 abbrev pub journey_on : Schedule → ℤ → DatedReading → Option Run → Data
 journey_on schedule moment one None = null
 journey_on schedule moment one (Some run) = journey_of_run schedule (unwrap_or one.recorded moment) one run

@@ -81,7 +81,8 @@ flag (object parts) = text_flag (object parts)
 -- a Whole: a number in decimal digits alone, or a Text of 1 to 20 decimal digits, below 2^64
 abbrev pub whole_named : List ℕ → Form ℕ
 whole_named t =
-    if nat_le 1 (length t) && (nat_le (length t) 20 && (list_all is_ascii_digit t && nat_lt (digits_value 0 t) (2 ^ 64)))
+    if nat_le 1 (length t) && (nat_le (length t) 20
+    && (list_all is_ascii_digit t && nat_lt (digits_value 0 t) (2 ^ 64)))
     then Found (digits_value 0 t) else Wrong
 
 abbrev pub whole_number : Num → Form ℕ

@@ -1,5 +1,5 @@
--- The frame of a delivery of estimated timetables: the way from its root to its journeys (SIRI 2.0, Siri, ServiceDelivery,
--- EstimatedTimetableDelivery, EstimatedJourneyVersionFrame, EstimatedVehicleJourney).
+-- The frame of a delivery of estimated timetables: the way from its root to its journeys (SIRI 2.0, Siri,
+-- ServiceDelivery, EstimatedTimetableDelivery, EstimatedJourneyVersionFrame, EstimatedVehicleJourney).
 use Rattle.std.specs.Prelude.{Bool, List, [], ◌∷◌, map, codes, Option, Some, None, Result, Ok, Err, if◌then◌else◌}
 use Rattle.std.specs.List.{list_all, flat_map}
 use Rattle.journey_model.specs.Chains.{◌>>=◌}
@@ -12,14 +12,14 @@ use Rattle.siri_calls.specs.Forms.{is_object, object_form, repeated}
 use Rattle.siri_calls.specs.declared.forms.Form.{Form}
 use Rattle.siri_calls.specs.declared.forms.Form.TheVariants.{Missing, Wrong, Found}
 
--- an object of a delivery or a journey's item, and the members that may say when it was recorded where it doesn't itself, the
--- nearest first
+-- an object of a delivery or a journey's item, and the members that may say when it was recorded where it doesn't
+-- itself, the nearest first
 pub record Place : Type 0 where
   pub tree : Data
   pub further : List (Option Data)
 
--- the fault of a frame is the member that is wrong: the root is an object, and so is its member `Siri`, which is then taken
--- in its place
+-- the fault of a frame is the member that is wrong: the root is an object, and so is its member `Siri`, which is then
+-- taken in its place
 abbrev pub under_siri : Data → Form Data → Result Data Member
 under_siri root Missing = Ok root
 under_siri root Wrong = Err Member.Siri
@@ -92,8 +92,8 @@ item_place frame tree = record { tree = tree; further = frame.further }
 abbrev pub items_below : Place → List Place
 items_below frame = map (item_place frame) (repeated_under Member.EstimatedVehicleJourney frame.tree)
 
--- the service delivery of a tree, and its frames, or the first row of the way down that is broken: level by level, over all
--- items of a level
+-- the service delivery of a tree, and its frames, or the first row of the way down that is broken: level by level, over
+-- all items of a level
 abbrev pub service_in : Data → Result Data Member
 service_in root = do
   body ← siri root

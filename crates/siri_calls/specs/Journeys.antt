@@ -1,8 +1,8 @@
 -- What an item of a delivery says of a journey (SIRI 2.0, EstimatedVehicleJourney, RecordedCall and EstimatedCall).
 use Rattle.std.specs.Prelude.{ℕ, ℤ, Bool, List, Option}
 
--- what an item says before its calls: the instant of recording, the service day, the trip's id, and whether the journey is
--- cancelled or an extra one
+-- what an item says before its calls: the instant of recording, the service day, the trip's id, and whether the journey
+-- is cancelled or an extra one
 pub record Header : Type 0 where
   pub at : ℤ × ℕ
   pub day : ℤ
@@ -10,8 +10,8 @@ pub record Header : Type 0 where
   pub cancelled : Bool
   pub extra : Bool
 
--- a call that is read: the id of its stop, its number in the order of stops, from 1, whether the stop is skipped, and the
--- seconds since 1970 at which the journey arrives and departs there
+-- a call that is read: the id of its stop, its number in the order of stops, from 1, whether the stop is skipped, and
+-- the seconds since 1970 at which the journey arrives and departs there
 pub record Call : Type 0 where
   pub stop : List ℕ
   pub order : Option ℕ

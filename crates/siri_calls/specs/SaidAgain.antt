@@ -9,14 +9,15 @@ use Rattle.siri_calls.specs.Verdicts.{tree_of, verdicts}
 
 -- a reading as a record: recorded at the moment that it has, else at the delivery's
 abbrev pub said_again : ℤ → DatedReading → Recorded
-said_again moment one = record { trip = one.trip.0; day = one.day; at = (unwrap_or one.recorded moment, 0); reading = one.reading }
+said_again moment one =
+    record { trip = one.trip.0; day = one.day; at = (unwrap_or one.recorded moment, 0); reading = one.reading }
 
 -- such a record is taken, with no call passed over
 abbrev pub taken_again : ℤ → DatedReading → Result (Recorded × ℕ) Fault
 taken_again moment one = Ok (said_again moment one, 0)
 
--- the text is JSON, and its items are just these journeys with these readings, in order: each is taken, and nothing is set
--- aside
+-- the text is JSON, and its items are just these journeys with these readings, in order: each is taken, and nothing is
+-- set aside
 pub record SaysAgain (schedule : Schedule) (moment : ℤ) (journeys : List DatedReading) (text : List ℕ) : Type 0 where
   pub tree : Data
   pub is_tree : tree_of text ≡ Some tree

@@ -8,8 +8,8 @@ use Rattle.journey_model.specs.Schedules as schedules
 use Rattle.journey_model.specs.Schedules.{Schedule}
 use Rattle.journey_model.specs.declared.readings.DatedReading.{DatedReading}
 
--- a reading can be served for its trip on its day, and its day, the start of that day and the moment at which it was recorded
--- are in the ranges of the texts that name them
+-- a reading can be served for its trip on its day, and its day, the start of that day and the moment at which it was
+-- recorded are in the ranges of the texts that name them
 pub record IsSayable (schedule : Schedule) (one : DatedReading) : Type 0 where
   pub servable : schedules.IsServable schedule one.trip.0 one.day one.reading
   pub is_day : IsDay one.day

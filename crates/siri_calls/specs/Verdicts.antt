@@ -33,7 +33,8 @@ first_moment zone [] = Missing
 first_moment zone (place ∷ places) = or_further zone (form_at (moment zone) place) (first_moment zone places)
 
 abbrev pub recorded_at : Rules → Place → Result (ℤ × ℕ) Fault
-recorded_at zone place = required Member.RecordedAtTime (first_moment zone (get (codes "RecordedAtTime") place.tree ∷ place.further))
+recorded_at zone place =
+    required Member.RecordedAtTime (first_moment zone (get (codes "RecordedAtTime") place.tree ∷ place.further))
 
 -- whether the journey is cancelled, and whether it is an extra one
 abbrev pub relation : Data → Result (Bool × Bool) Fault

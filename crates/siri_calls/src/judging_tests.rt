@@ -24,7 +24,8 @@ static FOLDER: [(&str, &[u8]); 7] = [
     ),
     (
         "g/calendar.txt",
-        b"service_id,monday,tuesday,wednesday,thursday,friday,saturday,sunday,start_date,end_date\nD,1,1,1,1,1,1,1,20240301,20240630\n",
+        b"service_id,monday,tuesday,wednesday,thursday,friday,saturday,sunday,start_date,end_date\n\
+          D,1,1,1,1,1,1,1,20240301,20240630\n",
     ),
     (
         "g/calendar_dates.txt",
@@ -32,7 +33,8 @@ static FOLDER: [(&str, &[u8]); 7] = [
     ),
     (
         "g/stop_times.txt",
-        b"trip_id,arrival_time,departure_time,stop_id,stop_sequence\nT1,08:00:00,,A,1\nT1,08:10:00,08:11:00,B,2\nT1,08:20:00,,C,3\nL1,08:00:00,,A,1\nL1,08:10:00,,B,2\nL1,08:20:00,,A,3\n",
+        b"trip_id,arrival_time,departure_time,stop_id,stop_sequence\nT1,08:00:00,,A,1\nT1,08:10:00,08:11:00,B,2\n\
+          T1,08:20:00,,C,3\nL1,08:00:00,,A,1\nL1,08:10:00,,B,2\nL1,08:20:00,,A,3\n",
     ),
 ];
 
@@ -53,7 +55,8 @@ enum Told {
     At(&'static str, u64, i64, i64),
 }
 
-// Journeys by trip and day with their calls, and what they are: each stop with its times, and the number of extra calls.
+// Journeys by trip and day with their calls, and what they are: each stop with its times, and the number of extra
+// calls.
 static CASES: [(&str, &str, &[Told], &str); 18] = [
     (
         "T1",

@@ -17,7 +17,8 @@ fn put_head(out: &mut Bytes) -> Result<(), AllocError>
     ensures { OnOk result (out.new ≡ out.old ++ head_text) }
 {
     out.extend(
-        b"{\"Siri\":{\"ServiceDelivery\":{\"EstimatedTimetableDelivery\":[{\"EstimatedJourneyVersionFrame\":[{\"EstimatedVehicleJourney\":[",
+        b"{\"Siri\":{\"ServiceDelivery\":{\"EstimatedTimetableDelivery\":[{\"EstimatedJourneyVersionFrame\":[{\
+          \"EstimatedVehicleJourney\":[",
     )
 }
 
@@ -33,8 +34,8 @@ fn put_tail(out: &mut Bytes, secs: &i64) -> Result<(), AllocError>
 }
 
 /// The delivery of estimated timetables that says these journeys, in their order, at that moment (SIRI 2.0,
-/// EstimatedTimetableDelivery; in JSON after SIRI Lite, without blanks). A journey without a moment of recording has that
-/// of the delivery. The time is linear in the text, which is all that is held.
+/// EstimatedTimetableDelivery; in JSON after SIRI Lite, without blanks). A journey without a moment of recording has
+/// that of the delivery. The time is linear in the text, which is all that is held.
 #[tactic(auto, using(crate::proofs::WrittenLemmas::delivery))]
 pub fn write_delivery(
     alloc: Global,

@@ -115,7 +115,8 @@ pub(crate) fn put_calls(
 ) -> Result<(), AllocError>
     requires known { are_known (length run.now.table.now.stops) run.now.dated.stops.now ≡ true }
     requires fits { fits_trip run.now.dated.start run.now.dated.stops.now reading.now ≡ true }
-    ensures { OnOk result (out.new ≡ out.old ++ calls_text false (run_over run.now) 1 run.now.dated.stops.now (stop_readings (run_over run.now) reading.now)) }
+    ensures { OnOk result (out.new ≡ out.old ++ calls_text false (run_over run.now) 1 run.now.dated.stops.now
+        (stop_readings (run_over run.now) reading.now)) }
 {
     for place in 0..run.dated.stops.len() {
         let reading = reading_at(run, reading, place);

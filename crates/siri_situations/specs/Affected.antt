@@ -1,4 +1,5 @@
--- What a situation affects (SIRI 2.0, Affects): its references to lines, stop points and journeys, and which of them are known.
+-- What a situation affects (SIRI 2.0, Affects): its references to lines, stop points and journeys, and which of them
+-- are known.
 use Rattle.std.specs.Prelude.{◌-◌, ℕ, ℤ, Bool, true, List, [], ◌∷◌, ◌++◌, length, map, position, filter_map, option_map, option_to_list, is_ok, Result, Ok, Err, if◌then◌else◌}
 use Rattle.std.specs.List.{list_all}
 use Rattle.std.specs.Str.{bytes_eq}
@@ -45,7 +46,8 @@ journey_named table on id = record {
   known = option_map (λ n. Journey (record { 0 = n }) on) (position (bytes_eq id) table.trips);
 }
 
--- the reference that an object holds: one without its last member is passed over, but a journey needs its day and its id
+-- the reference that an object holds: one without its last member is passed over, but a journey needs its day and its
+-- id
 abbrev pub reference : AffectedKind → Table → Data → Result (List Reference) Fault
 reference Line table tree = do
   id ← optional_member text Member.LineRef tree

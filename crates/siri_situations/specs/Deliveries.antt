@@ -40,7 +40,8 @@ pub record HasVerdicts (delivery : SituationDelivery) (all : List (Result (Situa
   pub passed_is : delivery.passed ≡ passed_count all
 
 -- the answer over a tree: its verdicts, or the member that is wrong
-abbrev pub ReadsTree : Result (List (Result (Situation × ℕ) Fault)) Member → Result SituationDelivery DeliveryFault → Type 0
+abbrev pub ReadsTree : Result (List (Result (Situation × ℕ) Fault)) Member → Result SituationDelivery DeliveryFault
+    → Type 0
 ReadsTree (Ok all) (Ok delivery) = HasVerdicts delivery all
 ReadsTree (Ok all) (Err fault) = fault ≡ Memory
 ReadsTree (Err member) (Ok delivery) = ⊥

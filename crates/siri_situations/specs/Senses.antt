@@ -1,5 +1,5 @@
--- What words of SIRI mean: whether a situation is served (Progress), and its cause and effect as numbers of GTFS Realtime
--- (Alert.Cause of the reason members, Alert.Effect of Condition).
+-- What words of SIRI mean: whether a situation is served (Progress), and its cause and effect as numbers of GTFS
+-- Realtime (Alert.Cause of the reason members, Alert.Effect of Condition).
 use Rattle.std.specs.Prelude.{◌||◌, ◌==◌, ℕ, ℤ, pos, Bool, true, not, List, map, length, codes, Option, Some, None, if◌then◌else◌}
 use Rattle.std.specs.Char.{to_ascii_lowercase}
 use Rattle.std.specs.Str.{bytes_eq}
@@ -27,8 +27,8 @@ cause tree =
     (if is_present (codes "PersonnelReason") tree then pos 2 else
     (if is_present (codes "MiscellaneousReason") tree then pos 2 else pos 1)))
 
--- the effect by the condition, with its case: NO_SERVICE, SIGNIFICANT_DELAYS, DETOUR, ADDITIONAL_SERVICE, MODIFIED_SERVICE,
--- else UNKNOWN_EFFECT
+-- the effect by the condition, with its case: NO_SERVICE, SIGNIFICANT_DELAYS, DETOUR, ADDITIONAL_SERVICE,
+-- MODIFIED_SERVICE, else UNKNOWN_EFFECT
 abbrev pub effect_named : List ℕ → ℤ
 effect_named condition =
     if bytes_eq condition (codes "cancelled") then pos 1 else

@@ -1,4 +1,5 @@
--- The way down from an object to what stands in it, step by step (SIRI 2.0, PtSituationElement; in JSON after SIRI Lite).
+-- The way down from an object to what stands in it, step by step (SIRI 2.0, PtSituationElement; in JSON after SIRI
+-- Lite).
 use Rattle.std.specs.Prelude.{List, [], ◌∷◌, ◌++◌, option_to_list, unwrap_or, Result, Ok}
 use Rattle.journey_model.specs.Chains.{◌>>=◌}
 use Rattle.journey_model.specs.declared.fault.Fault.{Fault}

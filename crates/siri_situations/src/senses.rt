@@ -3,6 +3,10 @@ ghost use Rattle.std.specs.Prelude.{◌≡◌, Some, option_map};
 ghost use Rattle.json_tree.specs.Trees.{view};
 ghost use Rattle.siri_situations.specs.Senses as spec;
 
+use gw_base::alert_cause::{OTHER_CAUSE, TECHNICAL_PROBLEM, UNKNOWN_CAUSE, WEATHER};
+use gw_base::alert_effect::{
+    ADDITIONAL_SERVICE, DETOUR, MODIFIED_SERVICE, NO_SERVICE, SIGNIFICANT_DELAYS, UNKNOWN_EFFECT,
+};
 use json::Value;
 use json_tree::find;
 use siri_calls::forms::repeated;
@@ -39,15 +43,15 @@ pub(crate) fn cause(tree: &Value<'_>) -> i32
     ensures { result ≡ spec.cause (view tree.now) }
 {
     if is_present(tree, "EquipmentReason") {
-        3
+        TECHNICAL_PROBLEM
     } else if is_present(tree, "EnvironmentReason") {
-        8
+        WEATHER
     } else if is_present(tree, "PersonnelReason") {
-        2
+        OTHER_CAUSE
     } else if is_present(tree, "MiscellaneousReason") {
-        2
+        OTHER_CAUSE
     } else {
-        1
+        UNKNOWN_CAUSE
     }
 }
 
@@ -56,12 +60,12 @@ fn effect_named(condition: &str) -> i32
     ensures { result ≡ spec.effect_named condition.now }
 {
     match condition {
-        "cancelled" | "noService" => 1,
-        "delayed" => 3,
-        "diverted" => 4,
-        "additionalService" => 5,
-        "altered" | "disrupted" => 6,
-        _ => 8,
+        "cancelled" | "noService" => NO_SERVICE,
+        "delayed" => SIGNIFICANT_DELAYS,
+        "diverted" => DETOUR,
+        "additionalService" => ADDITIONAL_SERVICE,
+        "altered" | "disrupted" => MODIFIED_SERVICE,
+        _ => UNKNOWN_EFFECT,
     }
 }
 
@@ -71,6 +75,6 @@ pub(crate) fn effect_of(condition: Option<&str>) -> i32
 {
     match condition {
         Some(condition) => effect_named(condition),
-        None => 8,
+        None => UNKNOWN_EFFECT,
     }
 }

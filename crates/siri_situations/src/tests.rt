@@ -23,11 +23,13 @@ static FOLDER: [(&str, &[u8]); 6] = [
     ),
     (
         "g/calendar.txt",
-        b"service_id,monday,tuesday,wednesday,thursday,friday,saturday,sunday,start_date,end_date\nD,1,1,1,1,1,1,1,20240301,20240630\n",
+        b"service_id,monday,tuesday,wednesday,thursday,friday,saturday,sunday,start_date,end_date\n\
+          D,1,1,1,1,1,1,1,20240301,20240630\n",
     ),
     (
         "g/stop_times.txt",
-        b"trip_id,arrival_time,departure_time,stop_id,stop_sequence\nT1,08:00:00,,A,1\nT1,08:10:00,,B,2\nL1,08:00:00,,A,1\nL1,08:10:00,,B,2\n",
+        b"trip_id,arrival_time,departure_time,stop_id,stop_sequence\nT1,08:00:00,,A,1\nT1,08:10:00,,B,2\n\
+          L1,08:00:00,,A,1\nL1,08:10:00,,B,2\n",
     ),
 ];
 

@@ -13,11 +13,13 @@ static FOLDER: [(&str, &[u8]); 6] = [
     ("g/trips.txt", b"route_id,service_id,trip_id\nR1,D,T1\n"),
     (
         "g/calendar.txt",
-        b"service_id,monday,tuesday,wednesday,thursday,friday,saturday,sunday,start_date,end_date\nD,1,1,1,1,1,1,1,20240301,20240630\n",
+        b"service_id,monday,tuesday,wednesday,thursday,friday,saturday,sunday,start_date,end_date\n\
+          D,1,1,1,1,1,1,1,20240301,20240630\n",
     ),
     (
         "g/stop_times.txt",
-        b"trip_id,arrival_time,departure_time,stop_id,stop_sequence\nT1,08:00:00,08:00:00,A,10\nT1,08:10:00,08:11:00,B,20\nT1,08:20:00,08:20:00,C,30\n",
+        b"trip_id,arrival_time,departure_time,stop_id,stop_sequence\nT1,08:00:00,08:00:00,A,10\n\
+          T1,08:10:00,08:11:00,B,20\nT1,08:20:00,08:20:00,C,30\n",
     ),
 ];
 

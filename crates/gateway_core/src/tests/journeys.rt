@@ -9,8 +9,10 @@ use std::process::Abort;
 // Nothing is said of the trip, or each of its stops is a minute late.
 const SILENT: &str = "";
 
-const LATE: &str =
-    ",\"EstimatedCalls\":{\"EstimatedCall\":[{\"StopPointRef\":\"A\",\"ExpectedArrivalTime\":\"2024-05-01T06:01:00Z\"},{\"StopPointRef\":\"B\",\"ExpectedArrivalTime\":\"2024-05-01T06:11:00Z\"},{\"StopPointRef\":\"C\",\"ExpectedArrivalTime\":\"2024-05-01T06:21:00Z\"}]}";
+const LATE: &str = ",\"EstimatedCalls\":{\"EstimatedCall\":[{\"StopPointRef\":\"A\",\
+      \"ExpectedArrivalTime\":\"2024-05-01T06:01:00Z\"},{\"StopPointRef\":\"B\",\
+      \"ExpectedArrivalTime\":\"2024-05-01T06:11:00Z\"},{\"StopPointRef\":\"C\",\
+      \"ExpectedArrivalTime\":\"2024-05-01T06:21:00Z\"}]}";
 
 // What a delivery says, its report, and how many bytes of entities are served then.
 struct Step {
@@ -45,7 +47,8 @@ static RECORDED: [Step; 8] = [
             &["T9", "2024-05-01", "2024-05-01T06:00:00Z", LATE],
             &["T1", "2024-06-01", "2024-05-01T06:00:00Z", CANCELLED],
         ],
-        report: "{\"aside\":[{\"fault\":\"UnknownJourney\",\"index\":0},{\"fault\":\"OutOfWindow\",\"index\":1}],\"passed\":0,\"taken\":0}",
+        report: "{\"aside\":[{\"fault\":\"UnknownJourney\",\"index\":0},{\"fault\":\"OutOfWindow\",\"index\":1}],\
+          \"passed\":0,\"taken\":0}",
         bytes: 65,
     },
     // an older record is taken, and doesn't count

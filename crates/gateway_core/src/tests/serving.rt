@@ -7,7 +7,10 @@ use service_day::{Day, DayForm, Instant, Window, read_day};
 use stop_schedule::TripNo;
 
 const EMPTY_SIRI: &[u8] =
-    b"{\"Siri\":{\"ServiceDelivery\":{\"EstimatedTimetableDelivery\":[{\"EstimatedJourneyVersionFrame\":[{\"EstimatedVehicleJourney\":[],\"RecordedAtTime\":\"1970-01-01T00:00:00Z\"}],\"ResponseTimestamp\":\"1970-01-01T00:00:00Z\",\"version\":\"2.0\"}],\"ResponseTimestamp\":\"1970-01-01T00:00:00Z\"}}}";
+    b"{\"Siri\":{\"ServiceDelivery\":{\"EstimatedTimetableDelivery\":[{\"EstimatedJourneyVersionFrame\":[{\
+      \"EstimatedVehicleJourney\":[],\"RecordedAtTime\":\"1970-01-01T00:00:00Z\"}],\
+      \"ResponseTimestamp\":\"1970-01-01T00:00:00Z\",\"version\":\"2.0\"}],\
+      \"ResponseTimestamp\":\"1970-01-01T00:00:00Z\"}}}";
 
 #[test]
 fn a_gateway_that_took_nothing_serves_an_empty_feed(rt: HostRuntime) {

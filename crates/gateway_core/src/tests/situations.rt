@@ -72,7 +72,8 @@ fn the_newest_version_is_kept(rt: HostRuntime) {
 const MOST: u32 = 5_000;
 
 const BEYOND: &[u8] =
-    b"{\"aside\":[{\"fault\":\"EntityTooLong 70035\",\"index\":5000},{\"fault\":\"Full\",\"index\":5001}],\"passed\":0,\"taken\":5000}";
+    b"{\"aside\":[{\"fault\":\"EntityTooLong 70035\",\"index\":5000},{\"fault\":\"Full\",\"index\":5001}],\
+      \"passed\":0,\"taken\":5000}";
 
 // Adds as many situations as are kept, a comma behind each.
 fn add_most(alloc: Global, body: &mut Bytes) -> Result<(), AllocError> {

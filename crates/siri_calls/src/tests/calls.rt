@@ -2,8 +2,12 @@
 use super::assert_said;
 
 // A delivery of one item with one call, of which the last members are left open. Of equal names the last counts.
-const BEFORE: &str =
-    "{'ServiceDelivery':{'ResponseTimestamp':'2024-05-01T01:00:00Z','EstimatedTimetableDelivery':{'ResponseTimestamp':'2024-05-01T02:00:00Z','EstimatedJourneyVersionFrame':{'RecordedAtTime':'2024-05-01T03:00:00Z','EstimatedVehicleJourney':{'RecordedAtTime':'2024-05-01T06:00:00Z','FramedVehicleJourneyRef':{'DataFrameRef':'2024-05-01','DatedVehicleJourneyRef':'T1'},'EstimatedCalls':{'EstimatedCall':[{'StopPointRef':'A',";
+const BEFORE: &str = "{'ServiceDelivery':{'ResponseTimestamp':'2024-05-01T01:00:00Z',\
+      'EstimatedTimetableDelivery':{'ResponseTimestamp':'2024-05-01T02:00:00Z',\
+      'EstimatedJourneyVersionFrame':{'RecordedAtTime':'2024-05-01T03:00:00Z',\
+      'EstimatedVehicleJourney':{'RecordedAtTime':'2024-05-01T06:00:00Z',\
+      'FramedVehicleJourneyRef':{'DataFrameRef':'2024-05-01','DatedVehicleJourneyRef':'T1'},\
+      'EstimatedCalls':{'EstimatedCall':[{'StopPointRef':'A',";
 
 const AFTER: &str = "}]}}}}}}";
 
@@ -77,21 +81,25 @@ static CALLS: [(&str, &str); 57] = [
         "|0 19844 1714543200.0 x - - passed 0",
     ),
     (
-        "'ArrivalStatus':'cancelled','DepartureStatus':'onTime','ExpectedArrivalTime':'2024-05-01T08:02:00','ExpectedDepartureTime':'2024-05-01T08:01:00'",
+        "'ArrivalStatus':'cancelled','DepartureStatus':'onTime','ExpectedArrivalTime':'2024-05-01T08:02:00',\
+          'ExpectedDepartureTime':'2024-05-01T08:01:00'",
         "|0 19844 1714543200.0 28860/28860 - - passed 0",
     ),
     (
-        "'ArrivalStatus':'onTime','DepartureStatus':'cancelled','ActualArrivalTime':'2024-05-01T06:02:00Z','ActualDepartureTime':'2024-05-01T08:01:00'",
+        "'ArrivalStatus':'onTime','DepartureStatus':'cancelled','ActualArrivalTime':'2024-05-01T06:02:00Z',\
+          'ActualDepartureTime':'2024-05-01T08:01:00'",
         "|0 19844 1714543200.0 28920/28920 - - passed 0",
     ),
     ("'ArrivalStatus':7", "|BadField(ArrivalStatus) passed 0"),
     ("'DepartureStatus':7", "|BadField(DepartureStatus) passed 0"),
     (
-        "'ActualArrivalTime':'2024-05-01T08:01:00','ExpectedArrivalTime':'2024-05-01T08:02:00','ExpectedDepartureTime':'2024-05-01T08:03:00.9'",
+        "'ActualArrivalTime':'2024-05-01T08:01:00','ExpectedArrivalTime':'2024-05-01T08:02:00',\
+          'ExpectedDepartureTime':'2024-05-01T08:03:00.9'",
         "|0 19844 1714543200.0 28860/28980 - - passed 0",
     ),
     (
-        "'AimedArrivalTime':'2024-05-01T09:00:00','ActualDepartureTime':'','ExpectedDepartureTime':'2024-05-01T08:01:00'",
+        "'AimedArrivalTime':'2024-05-01T09:00:00','ActualDepartureTime':'',\
+          'ExpectedDepartureTime':'2024-05-01T08:01:00'",
         "|0 19844 1714543200.0 28860/28860 - - passed 0",
     ),
     (

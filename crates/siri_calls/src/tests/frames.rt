@@ -81,20 +81,26 @@ static FRAMES: [(&str, &str); 34] = [
         " passed 0",
     ),
     (
-        "{'ServiceDelivery':{'EstimatedTimetableDelivery':{'EstimatedJourneyVersionFrame':{'EstimatedVehicleJourney':null}}}}",
+        "{'ServiceDelivery':{'EstimatedTimetableDelivery':{'EstimatedJourneyVersionFrame':{'EstimatedVehicleJourney':\
+          null}}}}",
         " passed 0",
     ),
     (
-        "{'ServiceDelivery':{'EstimatedTimetableDelivery':{'EstimatedJourneyVersionFrame':{'EstimatedVehicleJourney':{}}}}}",
+        "{'ServiceDelivery':{'EstimatedTimetableDelivery':{'EstimatedJourneyVersionFrame':{'EstimatedVehicleJourney':\
+          {}}}}}",
         "|BadField(RecordedAtTime) passed 0",
     ),
     (
-        "{'ServiceDelivery':{'EstimatedTimetableDelivery':{'EstimatedJourneyVersionFrame':{'EstimatedVehicleJourney':7}}}}",
+        "{'ServiceDelivery':{'EstimatedTimetableDelivery':{'EstimatedJourneyVersionFrame':{'EstimatedVehicleJourney':\
+          7}}}}",
         "|BadField(EstimatedVehicleJourney) passed 0",
     ),
     (
-        "{'ServiceDelivery':{'EstimatedTimetableDelivery':[{'EstimatedJourneyVersionFrame':[{'EstimatedVehicleJourney':[null,{}]},{'EstimatedVehicleJourney':[[]]}]},{'EstimatedJourneyVersionFrame':[{'EstimatedVehicleJourney':[{}]}]}]}}",
-        "|BadField(EstimatedVehicleJourney)|BadField(RecordedAtTime)|BadField(EstimatedVehicleJourney)|BadField(RecordedAtTime) passed 0",
+        "{'ServiceDelivery':{'EstimatedTimetableDelivery':[{'EstimatedJourneyVersionFrame':[{\
+          'EstimatedVehicleJourney':[null,{}]},{'EstimatedVehicleJourney':[[]]}]},\
+          {'EstimatedJourneyVersionFrame':[{'EstimatedVehicleJourney':[{}]}]}]}}",
+        "|BadField(EstimatedVehicleJourney)|BadField(RecordedAtTime)|BadField(EstimatedVehicleJourney)|BadField(Recor\
+          dedAtTime) passed 0",
     ),
     // Of equal names the last counts.
     (

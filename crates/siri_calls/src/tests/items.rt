@@ -2,8 +2,11 @@
 use super::assert_said;
 
 // A delivery of one item, of which the last members are left open. Of equal names the last counts.
-const BEFORE: &str =
-    "{'ServiceDelivery':{'ResponseTimestamp':'2024-05-01T01:00:00Z','EstimatedTimetableDelivery':{'ResponseTimestamp':'2024-05-01T02:00:00Z','EstimatedJourneyVersionFrame':{'RecordedAtTime':'2024-05-01T03:00:00Z','EstimatedVehicleJourney':{'RecordedAtTime':'2024-05-01T06:00:00Z','FramedVehicleJourneyRef':{'DataFrameRef':'2024-05-01','DatedVehicleJourneyRef':'T1'},";
+const BEFORE: &str = "{'ServiceDelivery':{'ResponseTimestamp':'2024-05-01T01:00:00Z',\
+      'EstimatedTimetableDelivery':{'ResponseTimestamp':'2024-05-01T02:00:00Z',\
+      'EstimatedJourneyVersionFrame':{'RecordedAtTime':'2024-05-01T03:00:00Z',\
+      'EstimatedVehicleJourney':{'RecordedAtTime':'2024-05-01T06:00:00Z',\
+      'FramedVehicleJourneyRef':{'DataFrameRef':'2024-05-01','DatedVehicleJourneyRef':'T1'},";
 
 const AFTER: &str = "}}}}}";
 
@@ -333,11 +336,13 @@ static ITEMS: [(&str, &str); 97] = [
         "|BadField(EstimatedCall) passed 0",
     ),
     (
-        "'RecordedCalls':{'RecordedCall':{'StopPointRef':'A','Cancellation':true}},'EstimatedCalls':{'EstimatedCall':[{'StopPointRef':'B','Cancellation':true},{'ExtraCall':true}]}",
+        "'RecordedCalls':{'RecordedCall':{'StopPointRef':'A','Cancellation':true}},\
+          'EstimatedCalls':{'EstimatedCall':[{'StopPointRef':'B','Cancellation':true},{'ExtraCall':true}]}",
         "|0 19844 1714543200.0 x x - passed 1",
     ),
     (
-        "'EstimatedCalls':{'EstimatedCall':{'StopPointRef':'A','Cancellation':true}},'RecordedCalls':{'RecordedCall':{'StopPointRef':'B','Cancellation':true}}",
+        "'EstimatedCalls':{'EstimatedCall':{'StopPointRef':'A','Cancellation':true}},\
+          'RecordedCalls':{'RecordedCall':{'StopPointRef':'B','Cancellation':true}}",
         "|OutOfOrder(1) passed 0",
     ),
 ];
@@ -345,15 +350,18 @@ static ITEMS: [(&str, &str); 97] = [
 // Moments above an item that has none, and what the delivery says.
 static ABOVE: [(&str, &str); 10] = [
     (
-        "'ResponseTimestamp':'2024-05-01T01:00:00Z','EstimatedTimetableDelivery':{'ResponseTimestamp':'2024-05-01T02:00:00Z','EstimatedJourneyVersionFrame':{'RecordedAtTime':'2024-05-01T03:00:00Z',",
+        "'ResponseTimestamp':'2024-05-01T01:00:00Z','EstimatedTimetableDelivery':{'ResponseTimestamp':'2024-05-01T02:\
+          00:00Z','EstimatedJourneyVersionFrame':{'RecordedAtTime':'2024-05-01T03:00:00Z',",
         "|0 19844 1714532400.0 cancelled passed 0",
     ),
     (
-        "'ResponseTimestamp':'2024-05-01T01:00:00Z','EstimatedTimetableDelivery':{'ResponseTimestamp':'2024-05-01T02:00:00Z','EstimatedJourneyVersionFrame':{",
+        "'ResponseTimestamp':'2024-05-01T01:00:00Z','EstimatedTimetableDelivery':{'ResponseTimestamp':'2024-05-01T02:\
+          00:00Z','EstimatedJourneyVersionFrame':{",
         "|0 19844 1714528800.0 cancelled passed 0",
     ),
     (
-        "'ResponseTimestamp':'2024-05-01T01:00:00Z','EstimatedTimetableDelivery':{'ResponseTimestamp':'2024-05-01T02:00:00Z','EstimatedJourneyVersionFrame':{'RecordedAtTime':null,",
+        "'ResponseTimestamp':'2024-05-01T01:00:00Z','EstimatedTimetableDelivery':{'ResponseTimestamp':'2024-05-01T02:\
+          00:00Z','EstimatedJourneyVersionFrame':{'RecordedAtTime':null,",
         "|0 19844 1714528800.0 cancelled passed 0",
     ),
     (
@@ -361,7 +369,8 @@ static ABOVE: [(&str, &str); 10] = [
         "|0 19844 1714525200.0 cancelled passed 0",
     ),
     (
-        "'ResponseTimestamp':'2024-05-01T01:00:00Z','EstimatedTimetableDelivery':{'ResponseTimestamp':{},'EstimatedJourneyVersionFrame':{",
+        "'ResponseTimestamp':'2024-05-01T01:00:00Z','EstimatedTimetableDelivery':{'ResponseTimestamp':{},\
+          'EstimatedJourneyVersionFrame':{",
         "|0 19844 1714525200.0 cancelled passed 0",
     ),
     (
@@ -369,11 +378,13 @@ static ABOVE: [(&str, &str); 10] = [
         "|BadField(RecordedAtTime) passed 0",
     ),
     (
-        "'ResponseTimestamp':'2024-05-01T01:00:00Z','EstimatedTimetableDelivery':{'ResponseTimestamp':'2024-05-01T02:00:00Z','EstimatedJourneyVersionFrame':{'RecordedAtTime':7,",
+        "'ResponseTimestamp':'2024-05-01T01:00:00Z','EstimatedTimetableDelivery':{'ResponseTimestamp':'2024-05-01T02:\
+          00:00Z','EstimatedJourneyVersionFrame':{'RecordedAtTime':7,",
         "|BadField(RecordedAtTime) passed 0",
     ),
     (
-        "'ResponseTimestamp':'2024-05-01T01:00:00Z','EstimatedTimetableDelivery':{'ResponseTimestamp':7,'EstimatedJourneyVersionFrame':{",
+        "'ResponseTimestamp':'2024-05-01T01:00:00Z','EstimatedTimetableDelivery':{'ResponseTimestamp':7,\
+          'EstimatedJourneyVersionFrame':{",
         "|BadField(RecordedAtTime) passed 0",
     ),
     (
@@ -381,7 +392,8 @@ static ABOVE: [(&str, &str); 10] = [
         "|BadField(RecordedAtTime) passed 0",
     ),
     (
-        "'ResponseTimestamp':'x','EstimatedTimetableDelivery':{'ResponseTimestamp':'2024-05-01T02:00:00Z','EstimatedJourneyVersionFrame':{",
+        "'ResponseTimestamp':'x','EstimatedTimetableDelivery':{'ResponseTimestamp':'2024-05-01T02:00:00Z',\
+          'EstimatedJourneyVersionFrame':{",
         "|0 19844 1714528800.0 cancelled passed 0",
     ),
 ];
@@ -394,7 +406,7 @@ fn items(rt: HostRuntime) {
 #[test]
 fn moments_above(rt: HostRuntime) {
     let before = "{'ServiceDelivery':{";
-    let after =
-        "'EstimatedVehicleJourney':{'FramedVehicleJourneyRef':{'DataFrameRef':'2024-05-01','DatedVehicleJourneyRef':'T1'},'Cancellation':true}}}}}";
+    let after = "'EstimatedVehicleJourney':{'FramedVehicleJourneyRef':{'DataFrameRef':'2024-05-01',\
+          'DatedVehicleJourneyRef':'T1'},'Cancellation':true}}}}}";
     assert_said(&rt, rt.alloc(), (before, after), &ABOVE);
 }

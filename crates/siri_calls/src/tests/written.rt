@@ -30,11 +30,13 @@ static FOLDER: [(&str, &[u8]); 6] = [
     ),
     (
         "g/calendar.txt",
-        b"service_id,monday,tuesday,wednesday,thursday,friday,saturday,sunday,start_date,end_date\nD,1,1,1,1,1,1,1,20240301,20240630\n",
+        b"service_id,monday,tuesday,wednesday,thursday,friday,saturday,sunday,start_date,end_date\n\
+          D,1,1,1,1,1,1,1,20240301,20240630\n",
     ),
     (
         "g/stop_times.txt",
-        b"trip_id,arrival_time,departure_time,stop_id,stop_sequence\nT1,08:00:00,,A,1\nT1,08:10:00,08:11:00,B,2\nT1,08:20:00,,C,3\n\"t\"\"\",09:00:00,,A,1\n\"t\"\"\",09:10:00,,\"a\"\"\\\t\x01\x1f\xc3\xa9\",2\n",
+        b"trip_id,arrival_time,departure_time,stop_id,stop_sequence\nT1,08:00:00,,A,1\nT1,08:10:00,08:11:00,B,2\n\
+          T1,08:20:00,,C,3\n\"t\"\"\",09:00:00,,A,1\n\"t\"\"\",09:10:00,,\"a\"\"\\\t\x01\x1f\xc3\xa9\",2\n",
     ),
 ];
 
@@ -50,27 +52,78 @@ static CASES: [(&str, &str, &str); 5] = [
     (
         "",
         "1970-01-01T00:00:00Z",
-        "{'Siri':{'ServiceDelivery':{'EstimatedTimetableDelivery':[{'EstimatedJourneyVersionFrame':[{'EstimatedVehicleJourney':[],'RecordedAtTime':'1970-01-01T00:00:00Z'}],'ResponseTimestamp':'1970-01-01T00:00:00Z','version':'2.0'}],'ResponseTimestamp':'1970-01-01T00:00:00Z'}}}",
+        "{'Siri':{'ServiceDelivery':{'EstimatedTimetableDelivery':[{'EstimatedJourneyVersionFrame':[{\
+          'EstimatedVehicleJourney':[],'RecordedAtTime':'1970-01-01T00:00:00Z'}],\
+          'ResponseTimestamp':'1970-01-01T00:00:00Z','version':'2.0'}],'ResponseTimestamp':'1970-01-01T00:00:00Z'}}}",
     ),
     (
-        "{'RecordedAtTime':'1970-01-01T00:00:00Z','FramedVehicleJourneyRef':{'DataFrameRef':'2024-05-01','DatedVehicleJourneyRef':'T1'},'EstimatedCalls':{'EstimatedCall':[{'StopPointRef':'A','ExpectedArrivalTime':'2024-05-01T06:01:00Z','ExpectedDepartureTime':'2024-05-01T06:01:00Z'},{'StopPointRef':'B','ExpectedArrivalTime':'2024-05-01T06:11:00Z','ExpectedDepartureTime':'2024-05-01T06:12:00Z'},{'StopPointRef':'C','ExpectedArrivalTime':'2024-05-01T06:21:00Z','ExpectedDepartureTime':'2024-05-01T06:21:00Z'}]}}",
+        "{'RecordedAtTime':'1970-01-01T00:00:00Z','FramedVehicleJourneyRef':{'DataFrameRef':'2024-05-01',\
+          'DatedVehicleJourneyRef':'T1'},'EstimatedCalls':{'EstimatedCall':[{'StopPointRef':'A',\
+          'ExpectedArrivalTime':'2024-05-01T06:01:00Z','ExpectedDepartureTime':'2024-05-01T06:01:00Z'},\
+          {'StopPointRef':'B','ExpectedArrivalTime':'2024-05-01T06:11:00Z',\
+          'ExpectedDepartureTime':'2024-05-01T06:12:00Z'},{'StopPointRef':'C',\
+          'ExpectedArrivalTime':'2024-05-01T06:21:00Z','ExpectedDepartureTime':'2024-05-01T06:21:00Z'}]}}",
         "2024-05-01T06:00:00Z",
-        "{'Siri':{'ServiceDelivery':{'EstimatedTimetableDelivery':[{'EstimatedJourneyVersionFrame':[{'EstimatedVehicleJourney':[{'Cancellation':false,'EstimatedCalls':{'EstimatedCall':[{'AimedArrivalTime':'2024-05-01T06:00:00Z','AimedDepartureTime':'2024-05-01T06:00:00Z','ExpectedArrivalTime':'2024-05-01T06:01:00Z','ExpectedDepartureTime':'2024-05-01T06:01:00Z','Order':1,'StopPointRef':'A'},{'AimedArrivalTime':'2024-05-01T06:10:00Z','AimedDepartureTime':'2024-05-01T06:11:00Z','ExpectedArrivalTime':'2024-05-01T06:11:00Z','ExpectedDepartureTime':'2024-05-01T06:12:00Z','Order':2,'StopPointRef':'B'},{'AimedArrivalTime':'2024-05-01T06:20:00Z','AimedDepartureTime':'2024-05-01T06:20:00Z','ExpectedArrivalTime':'2024-05-01T06:21:00Z','ExpectedDepartureTime':'2024-05-01T06:21:00Z','Order':3,'StopPointRef':'C'}]},'FramedVehicleJourneyRef':{'DataFrameRef':'2024-05-01','DatedVehicleJourneyRef':'T1'},'IsCompleteStopSequence':true,'LineRef':'R1','RecordedAtTime':'2024-05-01T06:00:00Z'}],'RecordedAtTime':'2024-05-01T06:00:00Z'}],'ResponseTimestamp':'2024-05-01T06:00:00Z','version':'2.0'}],'ResponseTimestamp':'2024-05-01T06:00:00Z'}}}",
+        "{'Siri':{'ServiceDelivery':{'EstimatedTimetableDelivery':[{'EstimatedJourneyVersionFrame':[{\
+          'EstimatedVehicleJourney':[{'Cancellation':false,'EstimatedCalls':{'EstimatedCall':[{'AimedArrivalTime':\
+          '2024-05-01T06:00:00Z','AimedDepartureTime':'2024-05-01T06:00:00Z',\
+          'ExpectedArrivalTime':'2024-05-01T06:01:00Z','ExpectedDepartureTime':'2024-05-01T06:01:00Z','Order':1,\
+          'StopPointRef':'A'},{'AimedArrivalTime':'2024-05-01T06:10:00Z','AimedDepartureTime':'2024-05-01T06:11:00Z',\
+          'ExpectedArrivalTime':'2024-05-01T06:11:00Z','ExpectedDepartureTime':'2024-05-01T06:12:00Z','Order':2,\
+          'StopPointRef':'B'},{'AimedArrivalTime':'2024-05-01T06:20:00Z','AimedDepartureTime':'2024-05-01T06:20:00Z',\
+          'ExpectedArrivalTime':'2024-05-01T06:21:00Z','ExpectedDepartureTime':'2024-05-01T06:21:00Z','Order':3,\
+          'StopPointRef':'C'}]},'FramedVehicleJourneyRef':{'DataFrameRef':'2024-05-01',\
+          'DatedVehicleJourneyRef':'T1'},'IsCompleteStopSequence':true,'LineRef':'R1',\
+          'RecordedAtTime':'2024-05-01T06:00:00Z'}],'RecordedAtTime':'2024-05-01T06:00:00Z'}],\
+          'ResponseTimestamp':'2024-05-01T06:00:00Z','version':'2.0'}],'ResponseTimestamp':'2024-05-01T06:00:00Z'}}}",
     ),
     (
-        "{'Cancellation':true,'RecordedAtTime':'2024-05-01T05:00:00Z','FramedVehicleJourneyRef':{'DataFrameRef':'2024-05-01','DatedVehicleJourneyRef':'T1'}}",
+        "{'Cancellation':true,'RecordedAtTime':'2024-05-01T05:00:00Z',\
+          'FramedVehicleJourneyRef':{'DataFrameRef':'2024-05-01','DatedVehicleJourneyRef':'T1'}}",
         "2024-05-01T06:00:00Z",
-        "{'Siri':{'ServiceDelivery':{'EstimatedTimetableDelivery':[{'EstimatedJourneyVersionFrame':[{'EstimatedVehicleJourney':[{'Cancellation':true,'EstimatedCalls':{'EstimatedCall':[{'AimedArrivalTime':'2024-05-01T06:00:00Z','AimedDepartureTime':'2024-05-01T06:00:00Z','Cancellation':true,'Order':1,'StopPointRef':'A'},{'AimedArrivalTime':'2024-05-01T06:10:00Z','AimedDepartureTime':'2024-05-01T06:11:00Z','Cancellation':true,'Order':2,'StopPointRef':'B'},{'AimedArrivalTime':'2024-05-01T06:20:00Z','AimedDepartureTime':'2024-05-01T06:20:00Z','Cancellation':true,'Order':3,'StopPointRef':'C'}]},'FramedVehicleJourneyRef':{'DataFrameRef':'2024-05-01','DatedVehicleJourneyRef':'T1'},'IsCompleteStopSequence':true,'LineRef':'R1','RecordedAtTime':'2024-05-01T05:00:00Z'}],'RecordedAtTime':'2024-05-01T06:00:00Z'}],'ResponseTimestamp':'2024-05-01T06:00:00Z','version':'2.0'}],'ResponseTimestamp':'2024-05-01T06:00:00Z'}}}",
+        "{'Siri':{'ServiceDelivery':{'EstimatedTimetableDelivery':[{'EstimatedJourneyVersionFrame':[{\
+          'EstimatedVehicleJourney':[{'Cancellation':true,'EstimatedCalls':{'EstimatedCall':[{'AimedArrivalTime':\
+          '2024-05-01T06:00:00Z','AimedDepartureTime':'2024-05-01T06:00:00Z','Cancellation':true,'Order':1,\
+          'StopPointRef':'A'},{'AimedArrivalTime':'2024-05-01T06:10:00Z','AimedDepartureTime':'2024-05-01T06:11:00Z',\
+          'Cancellation':true,'Order':2,'StopPointRef':'B'},{'AimedArrivalTime':'2024-05-01T06:20:00Z',\
+          'AimedDepartureTime':'2024-05-01T06:20:00Z','Cancellation':true,'Order':3,'StopPointRef':'C'}]},\
+          'FramedVehicleJourneyRef':{'DataFrameRef':'2024-05-01','DatedVehicleJourneyRef':'T1'},\
+          'IsCompleteStopSequence':true,'LineRef':'R1','RecordedAtTime':'2024-05-01T05:00:00Z'}],\
+          'RecordedAtTime':'2024-05-01T06:00:00Z'}],'ResponseTimestamp':'2024-05-01T06:00:00Z','version':'2.0'}],\
+          'ResponseTimestamp':'2024-05-01T06:00:00Z'}}}",
     ),
     (
-        "{'RecordedAtTime':'1970-01-01T00:00:00Z','FramedVehicleJourneyRef':{'DataFrameRef':'2024-05-02','DatedVehicleJourneyRef':'T1'},'EstimatedCalls':{'EstimatedCall':[{'StopPointRef':'A','Cancellation':true},{'StopPointRef':'C','ExpectedArrivalTime':'2024-05-02T06:21:00Z','ExpectedDepartureTime':'2024-05-02T06:22:00Z'}]}}",
+        "{'RecordedAtTime':'1970-01-01T00:00:00Z','FramedVehicleJourneyRef':{'DataFrameRef':'2024-05-02',\
+          'DatedVehicleJourneyRef':'T1'},'EstimatedCalls':{'EstimatedCall':[{'StopPointRef':'A','Cancellation':true},\
+          {'StopPointRef':'C','ExpectedArrivalTime':'2024-05-02T06:21:00Z',\
+          'ExpectedDepartureTime':'2024-05-02T06:22:00Z'}]}}",
         "2024-05-02T06:00:00Z",
-        "{'Siri':{'ServiceDelivery':{'EstimatedTimetableDelivery':[{'EstimatedJourneyVersionFrame':[{'EstimatedVehicleJourney':[{'Cancellation':false,'EstimatedCalls':{'EstimatedCall':[{'AimedArrivalTime':'2024-05-02T06:00:00Z','AimedDepartureTime':'2024-05-02T06:00:00Z','Cancellation':true,'Order':1,'StopPointRef':'A'},{'AimedArrivalTime':'2024-05-02T06:10:00Z','AimedDepartureTime':'2024-05-02T06:11:00Z','Order':2,'StopPointRef':'B'},{'AimedArrivalTime':'2024-05-02T06:20:00Z','AimedDepartureTime':'2024-05-02T06:20:00Z','ExpectedArrivalTime':'2024-05-02T06:21:00Z','ExpectedDepartureTime':'2024-05-02T06:22:00Z','Order':3,'StopPointRef':'C'}]},'FramedVehicleJourneyRef':{'DataFrameRef':'2024-05-02','DatedVehicleJourneyRef':'T1'},'IsCompleteStopSequence':true,'LineRef':'R1','RecordedAtTime':'2024-05-02T06:00:00Z'}],'RecordedAtTime':'2024-05-02T06:00:00Z'}],'ResponseTimestamp':'2024-05-02T06:00:00Z','version':'2.0'}],'ResponseTimestamp':'2024-05-02T06:00:00Z'}}}",
+        "{'Siri':{'ServiceDelivery':{'EstimatedTimetableDelivery':[{'EstimatedJourneyVersionFrame':[{\
+          'EstimatedVehicleJourney':[{'Cancellation':false,'EstimatedCalls':{'EstimatedCall':[{'AimedArrivalTime':\
+          '2024-05-02T06:00:00Z','AimedDepartureTime':'2024-05-02T06:00:00Z','Cancellation':true,'Order':1,\
+          'StopPointRef':'A'},{'AimedArrivalTime':'2024-05-02T06:10:00Z','AimedDepartureTime':'2024-05-02T06:11:00Z',\
+          'Order':2,'StopPointRef':'B'},{'AimedArrivalTime':'2024-05-02T06:20:00Z',\
+          'AimedDepartureTime':'2024-05-02T06:20:00Z','ExpectedArrivalTime':'2024-05-02T06:21:00Z',\
+          'ExpectedDepartureTime':'2024-05-02T06:22:00Z','Order':3,'StopPointRef':'C'}]},\
+          'FramedVehicleJourneyRef':{'DataFrameRef':'2024-05-02','DatedVehicleJourneyRef':'T1'},\
+          'IsCompleteStopSequence':true,'LineRef':'R1','RecordedAtTime':'2024-05-02T06:00:00Z'}],\
+          'RecordedAtTime':'2024-05-02T06:00:00Z'}],'ResponseTimestamp':'2024-05-02T06:00:00Z','version':'2.0'}],\
+          'ResponseTimestamp':'2024-05-02T06:00:00Z'}}}",
     ),
     (
-        "{'RecordedAtTime':'1970-01-01T00:00:00Z','FramedVehicleJourneyRef':{'DataFrameRef':'2024-05-01','DatedVehicleJourneyRef':'t\\''},'EstimatedCalls':{'EstimatedCall':[{'StopPointRef':'a\\'\\\\\\t\\u0001\\u001f\\u00e9','Cancellation':true}]}}",
+        "{'RecordedAtTime':'1970-01-01T00:00:00Z','FramedVehicleJourneyRef':{'DataFrameRef':'2024-05-01',\
+          'DatedVehicleJourneyRef':'t\\''},'EstimatedCalls':{'EstimatedCall':[{'StopPointRef':\
+          'a\\'\\\\\\t\\u0001\\u001f\\u00e9','Cancellation':true}]}}",
         "2024-05-01T06:00:00Z",
-        "{'Siri':{'ServiceDelivery':{'EstimatedTimetableDelivery':[{'EstimatedJourneyVersionFrame':[{'EstimatedVehicleJourney':[{'Cancellation':false,'EstimatedCalls':{'EstimatedCall':[{'AimedArrivalTime':'2024-05-01T07:00:00Z','AimedDepartureTime':'2024-05-01T07:00:00Z','Order':1,'StopPointRef':'A'},{'AimedArrivalTime':'2024-05-01T07:10:00Z','AimedDepartureTime':'2024-05-01T07:10:00Z','Cancellation':true,'Order':2,'StopPointRef':'a\\'\\\\\\t\\u0001\\u001f\u{e9}'}]},'FramedVehicleJourneyRef':{'DataFrameRef':'2024-05-01','DatedVehicleJourneyRef':'t\\''},'IsCompleteStopSequence':true,'LineRef':'r\\\\','RecordedAtTime':'2024-05-01T06:00:00Z'}],'RecordedAtTime':'2024-05-01T06:00:00Z'}],'ResponseTimestamp':'2024-05-01T06:00:00Z','version':'2.0'}],'ResponseTimestamp':'2024-05-01T06:00:00Z'}}}",
+        "{'Siri':{'ServiceDelivery':{'EstimatedTimetableDelivery':[{'EstimatedJourneyVersionFrame':[{\
+          'EstimatedVehicleJourney':[{'Cancellation':false,'EstimatedCalls':{'EstimatedCall':[{'AimedArrivalTime':\
+          '2024-05-01T07:00:00Z','AimedDepartureTime':'2024-05-01T07:00:00Z','Order':1,'StopPointRef':'A'},\
+          {'AimedArrivalTime':'2024-05-01T07:10:00Z','AimedDepartureTime':'2024-05-01T07:10:00Z','Cancellation':true,\
+          'Order':2,'StopPointRef':'a\\'\\\\\\t\\u0001\\u001f\u{e9}'}]},\
+          'FramedVehicleJourneyRef':{'DataFrameRef':'2024-05-01','DatedVehicleJourneyRef':'t\\''},\
+          'IsCompleteStopSequence':true,'LineRef':'r\\\\','RecordedAtTime':'2024-05-01T06:00:00Z'}],\
+          'RecordedAtTime':'2024-05-01T06:00:00Z'}],'ResponseTimestamp':'2024-05-01T06:00:00Z','version':'2.0'}],\
+          'ResponseTimestamp':'2024-05-01T06:00:00Z'}}}",
     ),
 ];
 

@@ -78,7 +78,8 @@ static FRAMES: [(&str, &str); 30] = [
         "NotDelivery(Situations)",
     ),
     (
-        "{'ServiceDelivery':{'SituationExchangeDelivery':[{'Situations':{'PtSituationElement':7}},{'Situations':true}]}}",
+        "{'ServiceDelivery':{'SituationExchangeDelivery':[{'Situations':{'PtSituationElement':7}},\
+          {'Situations':true}]}}",
         "NotDelivery(Situations)",
     ),
     (
@@ -102,7 +103,8 @@ static FRAMES: [(&str, &str); 30] = [
         "|BadField(SituationNumber) passed 0",
     ),
     (
-        "{'ServiceDelivery':{'SituationExchangeDelivery':[{'Situations':{'PtSituationElement':[null,{}]}},{},{'Situations':{'PtSituationElement':[{'SituationNumber':'S1'},[]]}}]}}",
+        "{'ServiceDelivery':{'SituationExchangeDelivery':[{'Situations':{'PtSituationElement':[null,{}]}},{},\
+          {'Situations':{'PtSituationElement':[{'SituationNumber':'S1'},[]]}}]}}",
         "|BadField(PtSituationElement)|BadField(SituationNumber)|NoAffects|BadField(PtSituationElement) passed 0",
     ),
 ];

@@ -3,12 +3,13 @@ use super::assert_said;
 
 // A delivery of one situation, of which the last members are left open. Of equal names the last counts.
 const BEFORE: &str =
-    "{'ServiceDelivery':{'SituationExchangeDelivery':{'Situations':{'PtSituationElement':{'SituationNumber':'S1','Affects':{'Networks':{'AffectedNetwork':{'AffectedLine':{'LineRef':'R1'}}}},";
+    "{'ServiceDelivery':{'SituationExchangeDelivery':{'Situations':{'PtSituationElement':{'SituationNumber':'S1',\
+      'Affects':{'Networks':{'AffectedNetwork':{'AffectedLine':{'LineRef':'R1'}}}},";
 
 const AFTER: &str = "}}}}}";
 
-// Members of the situation, and what the delivery says: its number, its version, its cause and effect, its periods, and what
-// it affects.
+// Members of the situation, and what the delivery says: its number, its version, its cause and effect, its periods, and
+// what it affects.
 static MEMBERS: [(&str, &str); 86] = [
     ("'x':0", "|S1 v0 1/8 r0 passed 0"),
     ("'SituationNumber':{'value':'S2'}", "|S2 v0 1/8 r0 passed 0"),
@@ -230,11 +231,13 @@ static MEMBERS: [(&str, &str); 86] = [
         "|BadField(Consequences) passed 0",
     ),
     (
-        "'Affects':{'Networks':{'AffectedNetwork':{'AffectedLine':{'LineRef':'R9'}}}},'Consequences':{'Consequence':{'Condition':7}}",
+        "'Affects':{'Networks':{'AffectedNetwork':{'AffectedLine':{'LineRef':'R9'}}}},\
+          'Consequences':{'Consequence':{'Condition':7}}",
         "|BadField(Condition) passed 0",
     ),
     (
-        "'Version':1,'ValidityPeriod':{'StartTime':'2024-05-01T00:00:00Z'},'EquipmentReason':'signalFailure','Consequences':{'Consequence':[{'Condition':'delayed'}]},'Summary':'Late'",
+        "'Version':1,'ValidityPeriod':{'StartTime':'2024-05-01T00:00:00Z'},'EquipmentReason':'signalFailure',\
+          'Consequences':{'Consequence':[{'Condition':'delayed'}]},'Summary':'Late'",
         "|S1 v1 3/3 1714521600- r0 s:Late passed 0",
     ),
 ];

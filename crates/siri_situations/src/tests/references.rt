@@ -3,7 +3,8 @@ use super::assert_said;
 
 // A delivery of one situation, of which the members of Affects are left open.
 const BEFORE: &str =
-    "{'ServiceDelivery':{'SituationExchangeDelivery':{'Situations':{'PtSituationElement':{'SituationNumber':'S1','Affects':{";
+    "{'ServiceDelivery':{'SituationExchangeDelivery':{'Situations':{'PtSituationElement':{'SituationNumber':'S1',\
+      'Affects':{";
 
 const AFTER: &str = "}}}}}}";
 
@@ -61,7 +62,8 @@ static REFERENCES: [(&str, &str); 63] = [
         "|S1 v0 1/8 r1 passed 0",
     ),
     (
-        "'Networks':{'AffectedNetwork':{'AffectedLine':[{},{'LineRef':'R2'},{'LineRef':null},{'LineRef':'R1'},{'LineRef':'R2'}]}}",
+        "'Networks':{'AffectedNetwork':{'AffectedLine':[{},{'LineRef':'R2'},{'LineRef':null},{'LineRef':'R1'},\
+          {'LineRef':'R2'}]}}",
         "|S1 v0 1/8 r1 r0 r1 passed 0",
     ),
     (
@@ -154,15 +156,18 @@ static REFERENCES: [(&str, &str); 63] = [
         "|BadField(DatedVehicleJourneyRef) passed 0",
     ),
     (
-        "'VehicleJourneys':{'AffectedVehicleJourney':{'FramedVehicleJourneyRef':{'DataFrameRef':'2024-05-01','DatedVehicleJourneyRef':7}}}",
+        "'VehicleJourneys':{'AffectedVehicleJourney':{'FramedVehicleJourneyRef':{'DataFrameRef':'2024-05-01',\
+          'DatedVehicleJourneyRef':7}}}",
         "|BadField(DatedVehicleJourneyRef) passed 0",
     ),
     (
-        "'VehicleJourneys':{'AffectedVehicleJourney':{'FramedVehicleJourneyRef':{'DataFrameRef':'2024-13-01','DatedVehicleJourneyRef':'T1'}}}",
+        "'VehicleJourneys':{'AffectedVehicleJourney':{'FramedVehicleJourneyRef':{'DataFrameRef':'2024-13-01',\
+          'DatedVehicleJourneyRef':'T1'}}}",
         "|BadField(DataFrameRef) passed 0",
     ),
     (
-        "'VehicleJourneys':{'AffectedVehicleJourney':[{'FramedVehicleJourneyRef':{'DataFrameRef':'2024-05-01'}},{'FramedVehicleJourneyRef':{}}]}",
+        "'VehicleJourneys':{'AffectedVehicleJourney':[{'FramedVehicleJourneyRef':{'DataFrameRef':'2024-05-01'}},\
+          {'FramedVehicleJourneyRef':{}}]}",
         "|BadField(DataFrameRef) passed 0",
     ),
     (
@@ -170,23 +175,30 @@ static REFERENCES: [(&str, &str); 63] = [
         "|BadField(FramedVehicleJourneyRef) passed 0",
     ),
     (
-        "'VehicleJourneys':{'AffectedVehicleJourney':{'FramedVehicleJourneyRef':{'DataFrameRef':'2024-05-01','DatedVehicleJourneyRef':'T1'}}}",
+        "'VehicleJourneys':{'AffectedVehicleJourney':{'FramedVehicleJourneyRef':{'DataFrameRef':'2024-05-01',\
+          'DatedVehicleJourneyRef':'T1'}}}",
         "|S1 v0 1/8 j0/19844 passed 0",
     ),
     (
-        "'VehicleJourneys':{'AffectedVehicleJourney':{'FramedVehicleJourneyRef':{'DataFrameRef':'20240502','DatedVehicleJourneyRef':'L1'}}}",
+        "'VehicleJourneys':{'AffectedVehicleJourney':{'FramedVehicleJourneyRef':{'DataFrameRef':'20240502',\
+          'DatedVehicleJourneyRef':'L1'}}}",
         "|S1 v0 1/8 j1/19845 passed 0",
     ),
     (
-        "'VehicleJourneys':{'AffectedVehicleJourney':{'FramedVehicleJourneyRef':{'DataFrameRef':'1970-01-01','DatedVehicleJourneyRef':'T1'}}}",
+        "'VehicleJourneys':{'AffectedVehicleJourney':{'FramedVehicleJourneyRef':{'DataFrameRef':'1970-01-01',\
+          'DatedVehicleJourneyRef':'T1'}}}",
         "|S1 v0 1/8 j0/0 passed 0",
     ),
     (
-        "'VehicleJourneys':{'AffectedVehicleJourney':[{},{'FramedVehicleJourneyRef':{'DataFrameRef':'2024-05-01','DatedVehicleJourneyRef':'T1'}},{'FramedVehicleJourneyRef':{'DataFrameRef':'2024-05-02','DatedVehicleJourneyRef':'T1'}}]}",
+        "'VehicleJourneys':{'AffectedVehicleJourney':[{},{'FramedVehicleJourneyRef':{'DataFrameRef':'2024-05-01',\
+          'DatedVehicleJourneyRef':'T1'}},{'FramedVehicleJourneyRef':{'DataFrameRef':'2024-05-02',\
+          'DatedVehicleJourneyRef':'T1'}}]}",
         "|S1 v0 1/8 j0/19844 j0/19845 passed 0",
     ),
     (
-        "'VehicleJourneys':{'AffectedVehicleJourney':{'FramedVehicleJourneyRef':{'DataFrameRef':'2024-05-01','DatedVehicleJourneyRef':'L1'}}},'StopPoints':{'AffectedStopPoint':{'StopPointRef':'B'}},'Networks':{'AffectedNetwork':{'AffectedLine':{'LineRef':'R2'}}}",
+        "'VehicleJourneys':{'AffectedVehicleJourney':{'FramedVehicleJourneyRef':{'DataFrameRef':'2024-05-01',\
+          'DatedVehicleJourneyRef':'L1'}}},'StopPoints':{'AffectedStopPoint':{'StopPointRef':'B'}},\
+          'Networks':{'AffectedNetwork':{'AffectedLine':{'LineRef':'R2'}}}",
         "|S1 v0 1/8 r1 s1 j1/19844 passed 0",
     ),
     (
@@ -210,26 +222,34 @@ static REFERENCES: [(&str, &str); 63] = [
         "|UnknownRef(StopPointRef) passed 0",
     ),
     (
-        "'VehicleJourneys':{'AffectedVehicleJourney':{'FramedVehicleJourneyRef':{'DataFrameRef':'2024-05-01','DatedVehicleJourneyRef':'T9'}}}",
+        "'VehicleJourneys':{'AffectedVehicleJourney':{'FramedVehicleJourneyRef':{'DataFrameRef':'2024-05-01',\
+          'DatedVehicleJourneyRef':'T9'}}}",
         "|UnknownRef(DatedVehicleJourneyRef) passed 0",
     ),
     (
-        "'VehicleJourneys':{'AffectedVehicleJourney':{'FramedVehicleJourneyRef':{'DataFrameRef':'2024-05-01','DatedVehicleJourneyRef':'T9'}}},'StopPoints':{'AffectedStopPoint':[{},{'StopPointRef':'Z'}]}",
+        "'VehicleJourneys':{'AffectedVehicleJourney':{'FramedVehicleJourneyRef':{'DataFrameRef':'2024-05-01',\
+          'DatedVehicleJourneyRef':'T9'}}},'StopPoints':{'AffectedStopPoint':[{},{'StopPointRef':'Z'}]}",
         "|UnknownRef(StopPointRef) passed 0",
     ),
     (
-        "'VehicleJourneys':{'AffectedVehicleJourney':{'FramedVehicleJourneyRef':{'DataFrameRef':'2024-05-01','DatedVehicleJourneyRef':'T9'}}},'StopPoints':{'AffectedStopPoint':{'StopPointRef':'A'}}",
+        "'VehicleJourneys':{'AffectedVehicleJourney':{'FramedVehicleJourneyRef':{'DataFrameRef':'2024-05-01',\
+          'DatedVehicleJourneyRef':'T9'}}},'StopPoints':{'AffectedStopPoint':{'StopPointRef':'A'}}",
         "|S1 v0 1/8 s0 passed 1",
     ),
     (
-        "'Networks':{'AffectedNetwork':{'AffectedLine':[{'LineRef':'R9'},{'LineRef':'R1'},{'LineRef':'R8'}]}},'StopPoints':{'AffectedStopPoint':{'StopPointRef':'Z'}}",
+        "'Networks':{'AffectedNetwork':{'AffectedLine':[{'LineRef':'R9'},{'LineRef':'R1'},{'LineRef':'R8'}]}},\
+          'StopPoints':{'AffectedStopPoint':{'StopPointRef':'Z'}}",
         "|S1 v0 1/8 r0 passed 3",
     ),
 ];
 
 // Situations with unknown references, and what the delivery says: they are counted of those that are taken.
 static SEVERAL: [(&str, &str); 1] = [(
-    "{'SituationNumber':'S1','Affects':{'Networks':{'AffectedNetwork':{'AffectedLine':[{'LineRef':'R1'},{'LineRef':'R8'}]}}}},{'SituationNumber':'S2','Affects':{'Networks':{'AffectedNetwork':{'AffectedLine':[{'LineRef':'R8'},{'LineRef':'R9'}]}}}},{'SituationNumber':'S3','Affects':{'Networks':{'AffectedNetwork':{'AffectedLine':[{'LineRef':'R8'},{'LineRef':'R2'},{'LineRef':'R9'}]}}}}",
+    "{'SituationNumber':'S1','Affects':{'Networks':{'AffectedNetwork':{'AffectedLine':[{'LineRef':'R1'},\
+      {'LineRef':'R8'}]}}}},{'SituationNumber':'S2','Affects':{'Networks':{'AffectedNetwork':{'AffectedLine':[{\
+      'LineRef':'R8'},{'LineRef':'R9'}]}}}},{'SituationNumber':'S3',\
+      'Affects':{'Networks':{'AffectedNetwork':{'AffectedLine':[{'LineRef':'R8'},{'LineRef':'R2'},\
+      {'LineRef':'R9'}]}}}}",
     "|S1 v0 1/8 r0|UnknownRef(LineRef)|S3 v0 1/8 r1 passed 3",
 )];
 
