@@ -5,7 +5,7 @@ use Rattle.std.specs.List.{list_all, list_any}
 use Rattle.std.specs.Str.{bytes_eq}
 use Rattle.std.specs.Str.Parse.{digits_value}
 use Rattle.std.proofs.lemmas.List.{length-drop}
-use Rattle.http_talk.specs.Asked.{IsAnswer, asked_by, asks, is_named, is_number, is_post, length_of, length_said, limited, many_lines, no_head, path_of, target_of, values_of, with_fields, with_length, with_target}
+use Rattle.http_talk.specs.Asked.{IsAnswer, asks, is_named, is_number, is_post, length_of, length_said, limited, many_lines, no_head, path_of, target_of, values_of, with_fields, with_length, with_target}
 use Rattle.http_talk.specs.Request.{IsHead}
 use Rattle.http_talk.specs.declared.refusal.Refusal.{Refusal}
 use Rattle.http_talk.specs.declared.refusal.Refusal.TheVariants as refusal
