@@ -1,5 +1,5 @@
 -- What was read of a tree is in form: texts aren't empty, days and moments are in range.
-use Rattle.std.proofs.Common.{◌≡◌, ℕ, List, [], ◌∷◌, ◌++◌, Bool, true, false, ◌&&◌, ◌||◌, if◌then◌else◌, is_some, unsigned_abs, Option, Some, None, Result, Ok, Err, codes, refl, sym, ap, subst, ◌∙◌, ℤ, pos, negsuc}
+use Rattle.std.proofs.Common.{◌≡◌, ℕ, List, [], ◌∷◌, ◌++◌, Bool, true, false, ◌&&◌, ◌||◌, if◌then◌else◌, is_some, unsigned_abs, Option, Some, None, Result, Ok, Err, codes, refl, subst, ℤ, pos, negsuc}
 use Rattle.std.specs.List.{list_all}
 use Rattle.std.proofs.lemmas.Bool.{and_from, and_parts}
 use Rattle.gw_base.specs.Member.{member_name}

@@ -1,5 +1,5 @@
 -- The references that were read and are known are there, and stand by their kinds. What a reference is made of is a parameter.
-use Rattle.std.proofs.Common.{◌≡◌, ℕ, ◌<◌, List, [], ◌∷◌, ◌++◌, length, map, Bool, true, false, ◌&&◌, if◌then◌else◌, position, bytes_eq, option_map, option_to_list, Option, Some, None, Result, Ok, Err, filter_map, refl, sym, ap, subst, ◌∙◌, ℤ}
+use Rattle.std.proofs.Common.{◌≡◌, ℕ, List, [], ◌∷◌, ◌++◌, map, Bool, true, false, if◌then◌else◌, option_map, option_to_list, Option, Some, None, Result, Ok, Err, filter_map, refl, sym, ap, subst, ◌∙◌, ℤ}
 use Rattle.std.specs.List.{AllByRecursion, cons_option, list_all}
 use Rattle.std.proofs.lemmas.Bool.{and_from}
 use Rattle.std.proofs.lemmas.List.Elements.{filter_map-append}
@@ -10,7 +10,6 @@ use Rattle.journey_model.specs.Chains.{◌>>=◌}
 use Rattle.journey_model.specs.declared.fault.Fault.{Fault}
 use Rattle.journey_model.specs.declared.fault.Fault.TheVariants.{BadField}
 use Rattle.journey_model.specs.declared.situation.Ref.{Ref}
-use Rattle.journey_model.specs.declared.situation.Ref.TheVariants.{Route, Stop, Journey}
 use Rattle.serde_json.specs.Data.{Data}
 use Rattle.siri_calls.specs.Fields.{optional_member, required_member}
 use Rattle.siri_calls.specs.Forms.{day, text}
@@ -18,8 +17,7 @@ use Rattle.siri_situations.specs.Affected.{day_in_form}
 use Rattle.siri_situations.specs.Steps.{gather}
 use Rattle.reverse_alerts.specs.Kept.{is_journey, is_route, is_stop}
 use Rattle.reverse_alerts.proofs.FoundForms.{all-append, day-found, parts-of, same-ok}
-use Rattle.reverse_alerts.proofs.Grouped.{OfKinds, append-each, by_kinds, kinds-of}
-use Rattle.reverse_alerts.proofs.Names.{position-within}
+use Rattle.reverse_alerts.proofs.Grouped.{append-each, by_kinds, kinds-of}
 use Rattle.reverse_alerts.proofs.ReadAffects.{all_below, journeys_below, journeys_in, journeys_way, lines_below, lines_way, stops_below, stops_way}
 use Rattle.reverse_alerts.proofs.ReadForms.{down}
 use Rattle.reverse_alerts.proofs.ReadRefs.{journey_in, line_in, stop_in}
