@@ -8,7 +8,9 @@ pub mod FromAlerts
 pub mod FromSituations
 pub mod Grouped
 pub mod Names
+pub mod NamingLemmas
 pub mod PlainTree
+pub mod ProgressLemmas
 pub mod ReadAffects
 pub mod ReadForms
 pub mod ReadPeriods
@@ -18,3 +20,5 @@ pub mod SaidAgain
 pub mod Sayable
 pub mod SensesAgain
 pub mod SituationParts
+pub mod SxLemmas
+pub mod WrittenLemmas

@@ -1,7 +1,11 @@
 pub mod Again
 pub mod Kept
+pub mod Naming
+pub mod Progress
 pub mod Sayable
 pub mod Senses
+pub mod SituationTexts
 pub mod SituationTree
 pub mod Sx
 pub mod Taken
+pub mod Texts

@@ -2,8 +2,17 @@
 #![tactic(auto)]
 
 mod coming_back;
+mod faults;
+mod selectors;
+mod senses;
 mod sx;
 mod sx_fault;
+#[cfg(test)]
+mod tests;
+mod texts;
+mod write_affects;
+mod write_situation;
+mod writing;
 
 pub use coming_back::what_was_read_comes_back;
 pub use sx::sx_of;

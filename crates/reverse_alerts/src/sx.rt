@@ -3,6 +3,8 @@ ghost use Rattle.journey_model.specs.Schedules.{schedule_of};
 ghost use Rattle.reverse_alerts.specs.Sx.{IsAnswer, IsFullAnswer};
 
 use crate::sx_fault::SxFault;
+use crate::texts::have_utf8;
+use crate::writing::write_all;
 use gw_base::{Bytes, Feed, Moment};
 use journey_model::{Context, Report};
 use std::alloc::Global;
@@ -19,7 +21,13 @@ fn sx_of_full(
 ) -> Result<(Bytes, Report), SxFault>
     ensures { IsFullAnswer (schedule_of context.now) feed.now moment result }
 {
-    Err(SxFault::Memory)
+    context.table.is_sound();
+    let _ = moment.secs();
+    have_utf8(context.table, feed.entities.as_slice());
+    match write_all(alloc, context.table, moment, feed.entities.as_slice()) {
+        Ok(both) => Ok(both),
+        Err(_) => Err(SxFault::Memory),
+    }
 }
 
 /// The SIRI delivery that says at that moment what the alerts of a feed say, and the report on the feed's entities (SIRI 2.0,

@@ -28,3 +28,5 @@ mod write_texts;
 
 pub use delivery::{Delivery, DeliveryFault, Item, read_delivery};
 pub use write::write_delivery;
+pub use write_calls::put_comma;
+pub use write_texts::{put_moment, put_text};

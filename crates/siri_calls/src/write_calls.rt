@@ -97,8 +97,8 @@ fn reading_at(run: &TripRun<'_>, reading: &JourneyReading, place: usize) -> Stop
     }
 }
 
-/// Adds a comma, where something stands before.
-pub(crate) fn put_comma(out: &mut Bytes, later: bool) -> Result<(), AllocError>
+/// Adds a comma, where an item or a member stands before (RFC 8259, sections 4 and 5). Err for want of memory.
+pub fn put_comma(out: &mut Bytes, later: bool) -> Result<(), AllocError>
     ensures { OnOk result (out.new ≡ out.old ++ comma_if later) }
 {
     if later {

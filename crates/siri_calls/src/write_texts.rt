@@ -99,17 +99,19 @@ fn put_string(out: &mut Bytes, text: &[u8]) -> Result<(), AllocError>
     out.push(b'"')
 }
 
-/// Adds what leads to a text, and the text as a string.
+/// Adds what leads to a text, and the text as a string with the escapes that it needs (RFC 8259, section 7). Err for
+/// want of memory.
 #[tactic(auto, unfolding(crate::specs::DeliveryTexts::led))]
-pub(crate) fn put_text(out: &mut Bytes, lead: &[u8], text: &[u8]) -> Result<(), AllocError>
+pub fn put_text(out: &mut Bytes, lead: &[u8], text: &[u8]) -> Result<(), AllocError>
     ensures { OnOk result (out.new ≡ out.old ++ led lead.now text.now) }
 {
     out.extend(lead)?;
     put_string(out, text)
 }
 
-/// Adds what leads to a moment, and the moment of that many seconds since 1970 as a string.
-pub(crate) fn put_moment(out: &mut Bytes, lead: &[u8], secs: &i64) -> Result<(), AllocError>
+/// Adds what leads to a moment, and the moment of that many seconds since 1970 as a string, `YYYY-MM-DDThh:mm:ssZ` (ISO
+/// 8601). The condition is that they are a moment. Err for want of memory.
+pub fn put_moment(out: &mut Bytes, lead: &[u8], secs: &i64) -> Result<(), AllocError>
     requires { IsMoment secs.now }
     ensures { OnOk result (out.new ≡ out.old ++ led_moment lead.now secs.now) }
 {

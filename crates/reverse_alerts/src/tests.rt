@@ -1,0 +1,3 @@
+//! Feeds of alerts, and the situations that they become.
+mod feeds;
+mod folder;

@@ -1,0 +1,53 @@
+//! The texts of a feed's alerts are UTF-8, so a delivery can say them. Laws, which change nothing when they run.
+ghost use Rattle.std.specs.Prelude.{All, IfSome, IsUtf8};
+ghost use Rattle.std.specs.Option.{option_copied};
+ghost use Rattle.stop_schedule.specs.Seen.{seen};
+ghost use Rattle.reverse_alerts.specs.Sayable.{HasUtf8};
+ghost use Rattle.reverse_alerts.specs.Taken.{situations};
+ghost use Rattle.reverse_alerts.specs.Texts.{HasTexts, SaysTexts};
+
+use crate::senses::first_text;
+use gw_base::{Alert, Entity};
+use stop_schedule::Timetable;
+
+// A text is UTF-8.
+fn is_utf8(text: &str)
+    ensures { IsUtf8 text.now }
+{
+}
+
+// So is one that may be missing.
+fn is_utf8_if(text: Option<&str>)
+    ensures { IfSome (option_copied text.entry) IsUtf8 }
+{
+    if let Some(text) = text {
+        is_utf8(text);
+    }
+}
+
+// The texts that are told of an alert.
+fn says_texts(alert: &Alert)
+    ensures { SaysTexts alert.now }
+{
+    is_utf8_if(first_text(alert.header.as_slice()));
+    is_utf8_if(first_text(alert.description.as_slice()));
+}
+
+// The id of an entity, and the texts of its alert.
+fn has_texts(entity: &Entity)
+    ensures { HasTexts entity.now }
+{
+    is_utf8(entity.id.as_str());
+    if let Some(alert) = &entity.alert {
+        says_texts(alert.get());
+    }
+}
+
+/// The texts of all situations that are taken.
+pub(crate) fn have_utf8(table: &Timetable, entities: &[Entity])
+    ensures { All HasUtf8 (situations (seen table.now) entities.now) }
+{
+    for entity in entities {
+        has_texts(entity);
+    }
+}

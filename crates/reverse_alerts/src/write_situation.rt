@@ -1,0 +1,203 @@
+//! A situation (SIRI 2.0, PtSituationElement), written from the texts of its alert. The functions meet
+//! `specs/SituationTexts.antt`.
+ghost use Rattle.std.specs.Prelude.{◌≡◌, ◌++◌, false, All, codes, map, OnOk};
+ghost use Rattle.std.specs.Option.{option_copied};
+ghost use Rattle.stop_schedule.specs.Seen.{seen};
+ghost use Rattle.reverse_alerts.specs.Kept.{all_named};
+ghost use Rattle.reverse_alerts.specs.Naming.{AreKnown, refs_of};
+ghost use Rattle.reverse_alerts.specs.Senses as senses;
+ghost use Rattle.reverse_alerts.specs.Senses.{valid_period};
+ghost use Rattle.reverse_alerts.specs.SituationTexts as spec;
+ghost use Rattle.reverse_alerts.specs.SituationTree as tree;
+ghost use Rattle.reverse_alerts.specs.Taken.{situation_of};
+
+use crate::selectors::NamedRefs;
+use crate::senses::{cause_of, effect_of, first_text, holding};
+use crate::write_affects::put_affects;
+use gw_base::{Alert, Bytes, Moment, Period};
+use siri_calls::{put_comma, put_moment, put_text};
+use std::alloc::AllocError;
+use stop_schedule::Timetable;
+
+// The word of an effect (SIRI 2.0, Condition), which an unknown one lacks.
+fn condition_of(effect: &i32) -> Option<&'static str>
+    ensures { option_copied result ≡ tree.condition_of effect.now }
+{
+    match *effect {
+        1 => Some("noService"),
+        3 => Some("delayed"),
+        4 => Some("diverted"),
+        5 => Some("additionalService"),
+        6 => Some("altered"),
+        _ => None,
+    }
+}
+
+// Adds the effect.
+fn put_condition(out: &mut Bytes, effect: &i32) -> Result<(), AllocError>
+    ensures { OnOk result (out.new ≡ out.old ++ spec.condition_text (tree.condition_of effect.now)) }
+{
+    let Some(word) = condition_of(effect) else {
+        return Ok(());
+    };
+    put_text(
+        out,
+        b",\"Consequences\":{\"Consequence\":[{\"Condition\":",
+        word.as_bytes(),
+    )?;
+    out.extend(b"}]}")
+}
+
+// The member that is the reason of a cause, which an unknown one lacks.
+fn reason_of(cause: &i32) -> Option<&'static str>
+    ensures { option_copied result ≡ tree.reason_of cause.now }
+{
+    match *cause {
+        3 => Some("EquipmentReason"),
+        8 => Some("EnvironmentReason"),
+        2 => Some("MiscellaneousReason"),
+        _ => None,
+    }
+}
+
+// Adds the cause.
+fn put_reason(out: &mut Bytes, cause: &i32) -> Result<(), AllocError>
+    ensures { OnOk result (out.new ≡ out.old ++ spec.reason_text (tree.reason_of cause.now)) }
+{
+    let Some(name) = reason_of(cause) else {
+        return Ok(());
+    };
+    put_text(out, b",", name.as_bytes())?;
+    out.extend(b":\"unknown\"")
+}
+
+// Adds a text behind what leads to it, where there is one.
+fn put_if(out: &mut Bytes, lead: &[u8], text: Option<&str>) -> Result<(), AllocError>
+    ensures { OnOk result (out.new ≡ out.old ++ spec.led_if lead.now (option_copied text.entry)) }
+{
+    match text {
+        Some(text) => put_text(out, lead, text.as_bytes()),
+        None => Ok(()),
+    }
+}
+
+// Adds a bound of a period behind what leads to it, where there is one.
+fn put_bound(out: &mut Bytes, lead: &[u8], bound: Option<u64>) -> Result<(), AllocError>
+    requires { spec.IsBound bound }
+    ensures { OnOk result (out.new ≡ out.old ++ spec.moment_if lead.now bound) }
+{
+    match bound {
+        Some(secs) => put_moment(out, lead, &(secs as i64)),
+        None => Ok(()),
+    }
+}
+
+// What leads to the start of a period.
+fn start_lead(end: Option<u64>) -> &'static [u8]
+    ensures { result.now ≡ spec.start_lead end }
+{
+    match end {
+        Some(_) => b",\"StartTime\":",
+        None => b"\"StartTime\":",
+    }
+}
+
+// Adds a period.
+#[tactic(auto, unfolding(crate::specs::SituationTexts::period_text))]
+fn put_period(out: &mut Bytes, period: &Period) -> Result<(), AllocError>
+    requires { spec.IsTold period.now }
+    ensures { OnOk result (out.new ≡ out.old ++ spec.period_text (valid_period period.now)) }
+{
+    out.push(b'{')?;
+    put_bound(out, b"\"EndTime\":", period.end)?;
+    put_bound(out, start_lead(period.end), period.start)?;
+    out.push(b'}')
+}
+
+// Adds periods, and the bracket that closes them.
+fn put_periods(out: &mut Bytes, periods: &[Period]) -> Result<(), AllocError>
+    requires { All spec.IsTold periods.now }
+    ensures { OnOk result (out.new ≡ out.old ++ spec.periods_text false (map valid_period periods.now)) }
+{
+    let mut later = false;
+    for period in periods {
+        put_comma(out, later)?;
+        put_period(out, period)?;
+        later = true;
+    }
+    out.push(b']')
+}
+
+// Adds when a situation holds, and nothing where it always does.
+fn put_valid(out: &mut Bytes, periods: &[Period]) -> Result<(), AllocError>
+    requires { All spec.IsTold periods.now }
+    ensures { OnOk result (out.new ≡ out.old ++ spec.valid_text (map valid_period periods.now)) }
+{
+    if periods.is_empty() {
+        return Ok(());
+    }
+    out.extend(b",\"ValidityPeriod\":[")?;
+    put_periods(out, periods)
+}
+
+// Adds what a situation affects, its effect, and that it was made at that moment.
+fn put_what(
+    out: &mut Bytes,
+    table: &Timetable,
+    moment: Moment,
+    effect: &i32,
+    found: &NamedRefs,
+) -> Result<(), AllocError>
+    requires { AreKnown (seen table.now) found.now }
+    ensures { OnOk result (out.new ≡ out.old ++ spec.what_text (seen table.now) moment
+        found.now.routes found.now.stops found.now.journeys effect.now) }
+{
+    put_affects(out, table, found)?;
+    put_condition(out, effect)?;
+    put_moment(out, b",\"CreationTime\":", &moment.secs())
+}
+
+// Adds the number of a situation, its cause and its texts.
+fn put_why(out: &mut Bytes, id: &str, cause: &i32, alert: &Alert) -> Result<(), AllocError>
+    ensures { OnOk result (out.new ≡ out.old ++ spec.why_text id.now cause.now
+        (senses.first_text alert.now.header) (senses.first_text alert.now.description)) }
+{
+    put_if(
+        out,
+        b",\"Description\":",
+        first_text(alert.description.as_slice()),
+    )?;
+    put_reason(out, cause)?;
+    put_text(out, b",\"SituationNumber\":", id.as_bytes())?;
+    put_if(out, b",\"Summary\":", first_text(alert.header.as_slice()))
+}
+
+// Adds when a situation holds, with which it ends.
+fn put_when(out: &mut Bytes, periods: &[Period]) -> Result<(), AllocError>
+    requires { All spec.IsTold periods.now }
+    ensures { OnOk result (out.new ≡ out.old
+        ++ (spec.valid_text (senses.holding periods.now) ++ codes "}")) }
+{
+    put_valid(out, holding(periods))?;
+    out.push(b'}')
+}
+
+/// Adds the situation of an alert by the id of its entity and what its selectors name, at that moment.
+#[tactic(auto, unfolding(crate::specs::SituationTexts::situation_text))]
+pub(crate) fn put_situation(
+    out: &mut Bytes,
+    table: &Timetable,
+    moment: Moment,
+    id: &str,
+    alert: &Alert,
+    found: &NamedRefs,
+) -> Result<(), AllocError>
+    requires named { found.now ≡ refs_of (all_named (seen table.now) alert.now.selectors) }
+    requires told { All spec.IsTold alert.now.periods }
+    ensures { OnOk result (out.new ≡ out.old ++ spec.situation_text (seen table.now) moment
+        (situation_of id.now (senses.sense (seen table.now) alert.now))) }
+{
+    put_what(out, table, moment, &effect_of(&alert.effect), found)?;
+    put_why(out, id, &cause_of(&alert.cause), alert)?;
+    put_when(out, alert.periods.as_slice())
+}
