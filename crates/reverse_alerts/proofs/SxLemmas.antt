@@ -1,7 +1,7 @@
 -- What the delivery of a feed's alerts keeps.
-use Rattle.std.proofs.Common.{◌≡◌, ℤ, Bool, true, false, List, [], ◌∷◌, map, Option, Some, None, refl, sym, subst, if◌then◌else◌}
-use Rattle.std.specs.List.{AllByRecursion, filter_map}
-use Rattle.std.specs.Prelude.{All, IfSome, cons_option, option_map}
+use Rattle.std.proofs.Common.{◌≡◌, ℕ, ℤ, Bool, true, false, List, [], ◌∷◌, map, Option, Some, None, refl, sym, subst, if◌then◌else◌}
+use Rattle.std.specs.List.{AllByRecursion, cons_option, filter_map}
+use Rattle.std.specs.Prelude.{All, IfSome, option_map}
 use Rattle.std.proofs.lemmas.List.Elements.{All-from_recursion, recursion_from_All}
 use Rattle.gw_base.specs.Moments.{IsMoment}
 use Rattle.gw_base.specs.declared.messages.Alert.{Alert}
@@ -29,7 +29,7 @@ one_utf8 table entity one texts h = by entity.deleted entity.alert texts.1 h
   where
     by_fault : (alert : Alert) (fault : Option Fault) → SaysTexts alert → given (Some (unless_fault fault (situation_of entity.id (sense table alert)))) ≡ Some one → HasUtf8 one
     by_fault alert (Some fault) said h = absurd (cc)
-    by_fault alert None said h = let same : situation_of entity.id (sense table alert) ≡ one = cc in subst HasUtf8 same (texts.0, said)
+    by_fault alert None said h = let same : situation_of entity.id (sense table alert) ≡ one = cc in subst HasUtf8 same (texts.0, said.0, said.1)
 
     by : (deleted : Bool) (alert : Option Alert) → IfSome alert SaysTexts
         → given (option_map (verdict table entity.id) (if deleted then None else alert)) ≡ Some one → HasUtf8 one
