@@ -44,9 +44,11 @@ ref_trees table refs = map (ref_tree table) refs
 
 -- all lines are in one network
 abbrev pub lines_member : List Data → Named
-lines_member trees = if_any trees (
-    (codes "Networks", object_of (
-    (codes "AffectedNetwork", array_of (object_of ((codes "AffectedLine", array_of trees) ∷ []) ∷ [])) ∷ [])) ∷ [])
+lines_member trees = if_any trees ((
+  codes "Networks",
+  object_of (
+      (codes "AffectedNetwork", array_of (object_of ((codes "AffectedLine", array_of trees) ∷ []) ∷ [])) ∷ []),
+) ∷ [])
 
 abbrev pub stops_member : List Data → Named
 stops_member trees = if_any trees ((codes "StopPoints", object_of ((codes "AffectedStopPoint", array_of trees) ∷ [])) ∷ [])
@@ -72,9 +74,11 @@ condition_of effect =
 
 abbrev pub consequences_of : Option (List ℕ) → Named
 consequences_of None = []
-consequences_of (Some condition) =
-    (codes "Consequences", object_of (
-    (codes "Consequence", array_of (object_of ((codes "Condition", string condition) ∷ []) ∷ [])) ∷ [])) ∷ []
+consequences_of (Some condition) = (
+  codes "Consequences",
+  object_of (
+      (codes "Consequence", array_of (object_of ((codes "Condition", string condition) ∷ []) ∷ [])) ∷ []),
+) ∷ []
 
 -- the member that is the reason of a cause, which an unknown one lacks
 abbrev pub reason_of : ℤ → Option (List ℕ)
