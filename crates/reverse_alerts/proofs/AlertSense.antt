@@ -6,9 +6,9 @@ use Rattle.stop_schedule.specs.Sound.{IsSound}
 use Rattle.stop_schedule.specs.Table.{Table}
 use Rattle.journey_model.specs.declared.situation.Situation.{Situation}
 use Rattle.journey_model.specs.declared.situation.ValidPeriod.{ValidPeriod}
-use Rattle.alert_map.specs.Alerts.{alert, period_of, selector_of, translations}
-use Rattle.reverse_alerts.specs.Kept.{all_named, is_journey, is_route, is_stop}
-use Rattle.reverse_alerts.specs.Senses.{Sense, cause_of, effect_of, first_text, holding, is_open, sense, valid_period}
+use Rattle.alert_map.specs.Alerts.{alert, period_of, translations}
+use Rattle.reverse_alerts.specs.Kept.{is_journey, is_route, is_stop}
+use Rattle.reverse_alerts.specs.Senses.{Sense, first_text, holding, is_open, sense, valid_period}
 use Rattle.reverse_alerts.proofs.Names.{all-named-again}
 use Rattle.reverse_alerts.proofs.Sayable.{IsSayable, cause_of-same, effect_of-same, is_bound, is_filled, is_period}
 

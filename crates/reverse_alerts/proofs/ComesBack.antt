@@ -1,25 +1,23 @@
 -- A situation that was read comes back from its alert.
-use Rattle.std.proofs.Common.{◌≡◌, ℕ, ◌<◌, List, [], ◌∷◌, ◌++◌, length, map, Bool, true, false, ◌&&◌, ◌||◌, if◌then◌else◌, is_some, codes, Option, Some, None, Result, Ok, Err, refl, sym, ap, ◌∙◌, pos, arith}
+use Rattle.std.proofs.Common.{◌≡◌, ℕ, ◌<◌, List, [], ◌∷◌, length, map, Bool, true, ◌&&◌, ◌||◌, if◌then◌else◌, is_some, Option, Some, None, Ok, refl, ap, ◌∙◌, arith}
 use Rattle.std.specs.List.{list_all}
 use Rattle.std.specs.Option.{option_or}
 use Rattle.std.proofs.lemmas.Bool.{and_parts}
-use Rattle.gw_base.specs.Moments.{is_moment}
 use Rattle.gw_base.specs.declared.member.Member.{Member}
 use Rattle.stop_schedule.specs.Sound.{IsSound}
 use Rattle.stop_schedule.specs.Table.{Table}
 use Rattle.journey_model.specs.Schedules.{Schedule}
-use Rattle.journey_model.specs.declared.fault.Fault.{Fault}
 use Rattle.journey_model.specs.declared.fault.Fault.TheVariants.{BadField}
 use Rattle.journey_model.specs.declared.situation.Ref.{Ref}
 use Rattle.journey_model.specs.declared.situation.Situation.{Situation}
 use Rattle.journey_model.specs.declared.situation.ValidPeriod.{ValidPeriod}
 use Rattle.serde_json.specs.Data.{Data}
-use Rattle.alert_map.specs.Alerts.{alert, alert_id, alert_message, period_of, selector_of, translations}
+use Rattle.alert_map.specs.Alerts.{alert, alert_id, period_of, selector_of, translations}
 use Rattle.siri_situations.specs.Situations.{verdict}
 use Rattle.reverse_alerts.specs.Again.{ComesBack}
 use Rattle.reverse_alerts.specs.Kept.{all_named}
 use Rattle.reverse_alerts.specs.Senses.{sense}
-use Rattle.reverse_alerts.specs.Taken.{affects_fault, bound_fault, entity_verdict, fault_of, period_fault, periods_fault, situation_of, unless_fault}
+use Rattle.reverse_alerts.specs.Taken.{affects_fault, bound_fault, fault_of, period_fault, periods_fault, situation_of, unless_fault}
 use Rattle.reverse_alerts.proofs.AlertSense.{sense-again, sense_of}
 use Rattle.reverse_alerts.proofs.FromSituations.{found-sayable}
 use Rattle.reverse_alerts.proofs.Names.{all-named-again}

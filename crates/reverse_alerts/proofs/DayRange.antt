@@ -1,5 +1,5 @@
 -- What a text names is in range: a day in the calendar's, a moment in the program's.
-use Rattle.std.proofs.Common.{◌≡◌, ℕ, ◌≤◌, List, Bool, true, false, ◌&&◌, if◌then◌else◌, option_and_then, Option, Some, None, refl, subst, ◌∙◌, ℤ, pos, arith, drop, take}
+use Rattle.std.proofs.Common.{◌≡◌, ℕ, ◌≤◌, List, Bool, true, false, if◌then◌else◌, option_and_then, Option, Some, None, refl, subst, ℤ, pos, arith, drop, take}
 use Rattle.std.proofs.lemmas.Bool.Decides.{nat_tests}
 use Rattle.std.proofs.lemmas.Option.{same_Some}
 use Rattle.jiff_core.specs.Calendar.{IsCivilDate, days_from_civil}

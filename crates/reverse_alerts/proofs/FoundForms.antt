@@ -1,5 +1,5 @@
 -- What was read of a tree is in form: texts aren't empty, days and moments are in range.
-use Rattle.std.proofs.Common.{◌≡◌, ℕ, List, [], ◌∷◌, ◌++◌, Bool, true, false, ◌&&◌, ◌||◌, if◌then◌else◌, is_some, unsigned_abs, Option, Some, None, Result, Ok, Err, codes, refl, sym, ap, subst, ◌∙◌, ℤ, pos, negsuc}
+use Rattle.std.proofs.Common.{◌≡◌, ℕ, List, [], ◌∷◌, ◌++◌, Bool, true, false, ◌&&◌, ◌||◌, if◌then◌else◌, is_some, unsigned_abs, Option, Some, None, Result, Ok, Err, codes, refl, subst, ℤ, pos, negsuc}
 use Rattle.std.specs.List.{list_all}
 use Rattle.std.proofs.lemmas.Bool.{and_from, and_parts}
 use Rattle.gw_base.specs.Member.{member_name}
@@ -136,13 +136,17 @@ kept-found None None first last = refl
 kept-found None (Some end) first last = one-period None (Some end) refl first last
 kept-found (Some start) end first last = one-period (Some start) end refl first last
 
+-- periods that are had from an answer
+of-answer : (made found : List ValidPeriod) → ◌≡◌ {A = Result (List ValidPeriod) Fault} (Ok made) (Ok found) → list_all is_period made ≡ true
+    → list_all is_period found ≡ true
+of-answer made found e h = subst (λ all. list_all is_period all ≡ true) (same-ok made found e) h
+
 period-found : (zone : Rules) (tree : Data) (all : List ValidPeriod) → period zone tree ≡ Ok all → list_all is_period all ≡ true
 period-found zone tree all e =
     let first = parts-of (optional_member (moment zone) Member.StartTime tree) all
     (λ start. optional_member (moment zone) Member.EndTime tree >>= λ end. Ok (kept (seconds start) (seconds end))) e in
     let last = parts-of (optional_member (moment zone) Member.EndTime tree) all (λ end. Ok (kept (seconds first.0) (seconds end))) first.2 in
-    let same : kept (seconds first.0) (seconds last.0) ≡ all = same-ok {E = Fault} _ _ last.2 in
-    subst (λ all. list_all is_period all ≡ true) same
+    of-answer (kept (seconds first.0) (seconds last.0)) all last.2
     (kept-found (seconds first.0) (seconds last.0) (moment-found zone Member.StartTime tree first.0 first.1) (moment-found zone Member.EndTime tree last.0 last.1))
 
 pub all-append : {A : Type 0} (test : A → Bool) (xs ys : List A) → list_all test xs ≡ true → list_all test ys ≡ true → list_all test (xs ++ ys) ≡ true
@@ -152,12 +156,11 @@ all-append test (x ∷ xs) ys first second =
     and_from (test x) (list_all test (xs ++ ys)) here.0 (all-append test xs ys here.1 second)
 
 gathered-periods : (zone : Rules) (trees : List Data) (all : List ValidPeriod) → gather (period zone) trees ≡ Ok all → list_all is_period all ≡ true
-gathered-periods zone [] all e = let same : [] ≡ all = same-ok {E = Fault} _ _ e in subst (λ all. list_all is_period all ≡ true) same refl
+gathered-periods zone [] all e = of-answer [] all e refl
 gathered-periods zone (tree ∷ trees) all e =
     let here = parts-of (period zone tree) all (λ first. gather (period zone) trees >>= λ others. Ok (first ++ others)) e in
     let rest = parts-of (gather (period zone) trees) all (λ others. Ok (here.0 ++ others)) here.2 in
-    let same : here.0 ++ rest.0 ≡ all = same-ok {E = Fault} _ _ rest.2 in
-    subst (λ all. list_all is_period all ≡ true) same
+    of-answer (here.0 ++ rest.0) all rest.2
     (all-append is_period here.0 rest.0 (period-found zone tree here.0 here.1) (gathered-periods zone trees rest.0 rest.1))
 
 in-found : (zone : Rules) (trees : List Data) (all : List ValidPeriod) → periods_in zone trees ≡ Ok all → list_all is_period all ≡ true

@@ -1,5 +1,5 @@
 -- The references that were read and are known are there, and stand by their kinds. What a reference is made of is a parameter.
-use Rattle.std.proofs.Common.{◌≡◌, ℕ, ◌<◌, List, [], ◌∷◌, ◌++◌, length, map, Bool, true, false, ◌&&◌, if◌then◌else◌, position, bytes_eq, option_map, option_to_list, Option, Some, None, Result, Ok, Err, filter_map, refl, sym, ap, subst, ◌∙◌, ℤ}
+use Rattle.std.proofs.Common.{◌≡◌, ℕ, List, [], ◌∷◌, ◌++◌, map, Bool, true, false, if◌then◌else◌, option_map, option_to_list, Option, Some, None, Result, Ok, Err, filter_map, refl, sym, ap, subst, ◌∙◌, ℤ}
 use Rattle.std.specs.List.{AllByRecursion, cons_option, list_all}
 use Rattle.std.proofs.lemmas.Bool.{and_from}
 use Rattle.std.proofs.lemmas.List.Elements.{filter_map-append}
@@ -10,7 +10,6 @@ use Rattle.journey_model.specs.Chains.{◌>>=◌}
 use Rattle.journey_model.specs.declared.fault.Fault.{Fault}
 use Rattle.journey_model.specs.declared.fault.Fault.TheVariants.{BadField}
 use Rattle.journey_model.specs.declared.situation.Ref.{Ref}
-use Rattle.journey_model.specs.declared.situation.Ref.TheVariants.{Route, Stop, Journey}
 use Rattle.serde_json.specs.Data.{Data}
 use Rattle.siri_calls.specs.Fields.{optional_member, required_member}
 use Rattle.siri_calls.specs.Forms.{day, text}
@@ -18,8 +17,7 @@ use Rattle.siri_situations.specs.Affected.{day_in_form}
 use Rattle.siri_situations.specs.Steps.{gather}
 use Rattle.reverse_alerts.specs.Kept.{is_journey, is_route, is_stop}
 use Rattle.reverse_alerts.proofs.FoundForms.{all-append, day-found, parts-of, same-ok}
-use Rattle.reverse_alerts.proofs.Grouped.{OfKinds, append-each, by_kinds, kinds-of}
-use Rattle.reverse_alerts.proofs.Names.{position-within}
+use Rattle.reverse_alerts.proofs.Grouped.{append-each, by_kinds, kinds-of}
 use Rattle.reverse_alerts.proofs.ReadAffects.{all_below, journeys_below, journeys_in, journeys_way, lines_below, lines_way, stops_below, stops_way}
 use Rattle.reverse_alerts.proofs.ReadForms.{down}
 use Rattle.reverse_alerts.proofs.ReadRefs.{journey_in, line_in, stop_in}
@@ -48,19 +46,26 @@ one-of : (table : Table) (kind : Ref → Bool) (ref : Option Ref) → ((one : Re
 one-of table kind None each = none-of table kind
 one-of table kind (Some one) each = let is = each one refl in record { each = (is.there, tt); kinds = and_from (kind one) true is.is refl }
 
+-- what is read of a tree, and of several
+of-answer : {R : Type 0} (seen : R → Option Ref) (table : Table) (kind : Ref → Bool) (made found : List R) → ◌≡◌ {A = Result (List R) Fault} (Ok made) (Ok found)
+    → AreOf table kind (filter_map seen made) → AreOf table kind (filter_map seen found)
+of-answer seen table kind made found e h = subst (λ all. AreOf table kind (filter_map seen all)) (same-ok made found e) h
+
+of-both : {R : Type 0} (seen : R → Option Ref) (table : Table) (kind : Ref → Bool) (first others : List R)
+    → AreOf table kind (filter_map seen first) → AreOf table kind (filter_map seen others) → AreOf table kind (filter_map seen (first ++ others))
+of-both seen table kind first others a b =
+    subst (AreOf table kind) (sym (filter_map-append seen first others)) (append-of table kind (filter_map seen first) (filter_map seen others) a b)
+
 -- what is gathered of trees
 gathered : {R : Type 0} (read : Data → Result (List R) Fault) (seen : R → Option Ref) (table : Table) (kind : Ref → Bool)
     → ((tree : Data) (found : List R) → read tree ≡ Ok found → AreOf table kind (filter_map seen found))
     → (trees : List Data) (all : List R) → gather read trees ≡ Ok all → AreOf table kind (filter_map seen all)
-gathered read seen table kind each [] all e =
-    let same : [] ≡ all = same-ok {E = Fault} _ _ e in subst (λ all. AreOf table kind (filter_map seen all)) same (none-of table kind)
+gathered read seen table kind each [] all e = of-answer seen table kind [] all e (none-of table kind)
 gathered read seen table kind each (tree ∷ trees) all e =
     let here = parts-of (read tree) all (λ first. gather read trees >>= λ others. Ok (first ++ others)) e in
     let rest = parts-of (gather read trees) all (λ others. Ok (here.0 ++ others)) here.2 in
-    let same : here.0 ++ rest.0 ≡ all = same-ok {E = Fault} _ _ rest.2 in
-    subst (λ all. AreOf table kind (filter_map seen all)) same
-    (subst (AreOf table kind) (sym (filter_map-append seen here.0 rest.0))
-    (append-of table kind (filter_map seen here.0) (filter_map seen rest.0) (each tree here.0 here.1) (gathered read seen table kind each trees rest.0 rest.1)))
+    of-answer seen table kind (here.0 ++ rest.0) all rest.2
+    (of-both seen table kind here.0 rest.0 (each tree here.0 here.1) (gathered read seen table kind each trees rest.0 rest.1))
 
 -- ---- each kind
 
@@ -81,14 +86,14 @@ line-of : {R : Type 0} (make : List ℕ → R) (seen : R → Option Ref) (table 
     → (tree : Data) (found : List R) → line_in make tree ≡ Ok found → AreOf table kind (filter_map seen found)
 line-of make seen table kind each tree found e =
     let id = parts-of (optional_member text Member.LineRef tree) found (λ id. Ok (map make (option_to_list id))) e in
-    subst (λ found. AreOf table kind (filter_map seen found)) (same-ok {E = Fault} _ _ id.2) (id-of make seen table kind each id.0)
+    of-answer seen table kind (map make (option_to_list id.0)) found id.2 (id-of make seen table kind each id.0)
 
 stop-of : {R : Type 0} (make : List ℕ → R) (seen : R → Option Ref) (table : Table) (kind : Ref → Bool)
     → ((id : List ℕ) (one : Ref) → seen (make id) ≡ Some one → IsOf table kind one)
     → (tree : Data) (found : List R) → stop_in make tree ≡ Ok found → AreOf table kind (filter_map seen found)
 stop-of make seen table kind each tree found e =
     let id = parts-of (optional_member text Member.StopPointRef tree) found (λ id. Ok (map make (option_to_list id))) e in
-    subst (λ found. AreOf table kind (filter_map seen found)) (same-ok {E = Fault} _ _ id.2) (id-of make seen table kind each id.0)
+    of-answer seen table kind (map make (option_to_list id.0)) found id.2 (id-of make seen table kind each id.0)
 
 journey-of : {R : Type 0} (make : ℤ → List ℕ → R) (seen : R → Option Ref) (table : Table) (kind : Ref → Bool)
     → ((on : ℤ) (id : List ℕ) (one : Ref) → IsDay on → seen (make on id) ≡ Some one → IsOf table kind one)
@@ -97,7 +102,7 @@ journey-of make seen table kind each tree found e =
     let on = parts-of (required_member day Member.DataFrameRef tree) found
     (λ on. required_member text Member.DatedVehicleJourneyRef tree >>= λ id. Ok (make on id ∷ [])) e in
     let id = parts-of (required_member text Member.DatedVehicleJourneyRef tree) found (λ id. Ok (make on.0 id ∷ [])) on.2 in
-    subst (λ found. AreOf table kind (filter_map seen found)) (same-ok {E = Fault} _ _ id.2)
+    of-answer seen table kind (make on.0 id.0 ∷ []) found id.2
     (one-of table kind (seen (make on.0 id.0)) (λ one is. each on.0 id.0 one (day-found Member.DataFrameRef tree on.0 on.1) is))
 
 lines-of : {R : Type 0} (make : List ℕ → R) (seen : R → Option Ref) (table : Table) (kind : Ref → Bool)
@@ -141,9 +146,15 @@ three table r s j a b c = record {
   kinds = kinds-of r s j (record { routes = a.kinds; stops = b.kinds; journeys = c.kinds });
 }
 
-append-three : {R : Type 0} (seen : R → Option Ref) (a b c : List R) → filter_map seen a ++ filter_map seen b ++ filter_map seen c ≡ filter_map seen (a ++ b ++ c)
-append-three seen a b c =
-    ap (λ front. front ++ filter_map seen c) (sym (filter_map-append seen a b)) ∙ sym (filter_map-append seen (a ++ b) c)
+of-three : {R : Type 0} (seen : R → Option Ref) (table : Table) (a b c all : List R) → ◌≡◌ {A = Result (List R) Fault} (Ok (a ++ b ++ c)) (Ok all)
+    → AreOf table is_route (filter_map seen a) → AreOf table is_stop (filter_map seen b) → AreOf table is_journey (filter_map seen c)
+    → AreThere table (filter_map seen all)
+of-three seen table a b c all e lines stops journeys =
+    let first = filter_map-append seen a b in
+    let both = filter_map-append seen (a ++ b) c in
+    let parts = ap (λ front. front ++ filter_map seen c) (sym first) ∙ sym both in
+    let three_kinds = three table (filter_map seen a) (filter_map seen b) (filter_map seen c) lines stops journeys in
+    subst (λ refs. AreThere table (filter_map seen refs)) (same-ok (a ++ b ++ c) all e) (subst (AreThere table) parts three_kinds)
 
 -- what makes references of ids, so that those that are known are there
 pub record Makes {R : Type 0} (line stop : List ℕ → R) (journey : ℤ → List ℕ → R) (seen : R → Option Ref) (table : Table) : Type 0 where
@@ -158,9 +169,5 @@ all-there line stop journey seen table h affects all e =
     (λ lines. stops_below stop affects >>= λ stops. (journeys_below journey affects >>= λ journeys. Ok (lines ++ stops ++ journeys))) e in
     let b = parts-of (stops_below stop affects) all (λ stops. journeys_below journey affects >>= λ journeys. Ok (a.0 ++ stops ++ journeys)) a.2 in
     let c = parts-of (journeys_below journey affects) all (λ journeys. Ok (a.0 ++ b.0 ++ journeys)) b.2 in
-    let same : a.0 ++ b.0 ++ c.0 ≡ all = same-ok {E = Fault} _ _ c.2 in
-    subst (λ all. AreThere table (filter_map seen all)) same
-    (subst (AreThere table) (append-three seen a.0 b.0 c.0)
-    (three table (filter_map seen a.0) (filter_map seen b.0) (filter_map seen c.0)
-    (lines-of line seen table is_route h.lines affects a.0 a.1) (stops-of stop seen table is_stop h.stops affects b.0 b.1)
-    (journeys-of journey seen table is_journey h.journeys affects c.0 c.1)))
+    of-three seen table a.0 b.0 c.0 all c.2 (lines-of line seen table is_route h.lines affects a.0 a.1)
+    (stops-of stop seen table is_stop h.stops affects b.0 b.1) (journeys-of journey seen table is_journey h.journeys affects c.0 c.1)

@@ -1,6 +1,6 @@
 -- The situation that an alert is can be said.
-use Rattle.std.proofs.Common.{◌≡◌, ℕ, ◌<◌, List, [], ◌∷◌, ◌++◌, length, map, Bool, true, false, ◌&&◌, ◌||◌, if◌then◌else◌, filter, is_some, is_none, option_map, Option, Some, None, Result, Ok, Err, refl, sym, subst, ap, ◌∙◌, ℤ, pos, arith}
-use Rattle.std.specs.List.{AllByRecursion, cons_option, filter_map, list_all, list_any}
+use Rattle.std.proofs.Common.{◌≡◌, ℕ, ◌<◌, List, [], ◌∷◌, ◌++◌, length, map, Bool, true, false, ◌&&◌, ◌||◌, if◌then◌else◌, filter, is_some, is_none, option_map, Option, Some, None, Result, Ok, Err, refl, sym, subst, pos, arith}
+use Rattle.std.specs.List.{AllByRecursion, cons_option, list_all, list_any}
 use Rattle.std.specs.Option.{option_or}
 use Rattle.std.proofs.lemmas.Bool.{and_from, or_parts}
 use Rattle.std.proofs.lemmas.Option.{same_Some}
@@ -10,7 +10,6 @@ use Rattle.gw_base.specs.declared.messages.Alert.{Alert}
 use Rattle.gw_base.specs.declared.messages.Entity.{Entity}
 use Rattle.gw_base.specs.declared.messages.Period.{Period}
 use Rattle.gw_base.specs.declared.messages.Translation.{Translation}
-use Rattle.stop_schedule.specs.Sound.{IsSound}
 use Rattle.stop_schedule.specs.Table.{Table}
 use Rattle.journey_model.specs.Updates.{filled_text}
 use Rattle.journey_model.specs.declared.fault.Fault.{Fault}

@@ -1,5 +1,5 @@
 -- A situation that was read can be said.
-use Rattle.std.proofs.Common.{◌≡◌, ℕ, ◌<◌, ◌-◌, ◌==◌, List, [], ◌∷◌, length, Bool, true, false, not, if◌then◌else◌, option_map, position, bytes_eq, Option, Some, None, Result, Ok, Err, codes, filter_map, refl, sym, ap, subst, ◌∙◌, ℤ, pos, arith}
+use Rattle.std.proofs.Common.{◌≡◌, ℕ, ◌<◌, ◌-◌, List, [], ◌∷◌, length, Bool, true, false, if◌then◌else◌, position, bytes_eq, Option, Some, None, Result, Ok, Err, codes, refl, ap, subst, ◌∙◌, ℤ, pos, arith}
 use Rattle.std.specs.List.{list_all}
 use Rattle.gw_base.specs.declared.member.Member.{Member}
 use Rattle.stop_schedule.specs.Table.{Table}
@@ -20,7 +20,7 @@ use Rattle.siri_situations.specs.Situations as spec
 use Rattle.siri_situations.specs.Situations.{condition, effect, head, situation, situation_of, touched, verdict, words}
 use Rattle.reverse_alerts.specs.Kept.{is_journey, is_route, is_stop}
 use Rattle.reverse_alerts.proofs.FoundForms.{parts-of, periods-found, same-ok, text-filled}
-use Rattle.reverse_alerts.proofs.FoundRefs.{AreThere, IsOf, Makes, all-there, made-is}
+use Rattle.reverse_alerts.proofs.FoundRefs.{AreThere, Makes, all-there, made-is}
 use Rattle.reverse_alerts.proofs.Names.{position-within}
 use Rattle.reverse_alerts.proofs.ReadAffects.{all_below}
 use Rattle.reverse_alerts.proofs.ReadForms.{bound, down, object_in}
@@ -47,13 +47,13 @@ named-effect word =
     (bytes_eq word (codes "additionalService")) (bytes_eq word (codes "altered")) (bytes_eq word (codes "disrupted"))
   where
     by : (a b c d e f g : Bool) → IsEffect (
-      if a then pos 1 else
-      (if b then pos 1 else
-      (if c then pos 3 else
-      (if d then pos 4 else
-      (if e then pos 5 else
-      (if f then pos 6 else
-      (if g then pos 6 else pos 8)))))))
+        if a then pos 1 else
+        (if b then pos 1 else
+        (if c then pos 3 else
+        (if d then pos 4 else
+        (if e then pos 5 else
+        (if f then pos 6 else
+        (if g then pos 6 else pos 8)))))))
     by true b c d e f g = no_service refl
     by false true c d e f g = no_service refl
     by false false true d e f g = delays refl
@@ -88,9 +88,10 @@ makes table = record {
 unless-some : (first : Member) (count unknown : ℕ) (refs kept : List Ref) → unless_none first count refs ≡ Ok (kept, unknown) → (refs ≡ kept) × (0 < length kept)
 unless-some first count unknown [] kept e = cc
 unless-some first count unknown (ref ∷ refs) kept e =
+    let some : 0 < length (ref ∷ refs) = omega arith in
     let both : (ref ∷ refs, count) ≡ (kept, unknown) = same-ok {E = Fault} _ _ e in
     let same : ref ∷ refs ≡ kept = ap (λ (p : List Ref × ℕ). p.0) both in
-    (same, subst (λ all. 0 < length all) same (omega arith))
+    (same, subst (λ all. 0 < length all) same some)
 
 -- what is known of references, where that is what a situation affects
 pub record Affects (table : Table) (refs : List Ref) : Type 0 where

@@ -1,8 +1,7 @@
 -- What a selector names is there, and the selector of what is there names it again.
-use Rattle.std.proofs.Common.{◌≡◌, ℕ, ◌+◌, ◌<◌, List, [], ◌∷◌, ◌++◌, length, map, get_or, slice_get, Bool, true, false, ◌&&◌, cond, nat_lt, if◌then◌else◌, bytes_eq, position, option_map, option_and_then, unwrap_or, Option, Some, None, refl, sym, ap, subst, ◌∙◌, ℤ, pos, int_le, arith, ltb-true}
-use Rattle.std.specs.Prelude.{⊤}
-use Rattle.std.specs.List.{AllByRecursion, cons_option, filter_map, position_or_len}
-use Rattle.std.proofs.lemmas.Option.{same_Some, unwrap_or-slice_get}
+use Rattle.std.proofs.Common.{◌≡◌, ℕ, ◌<◌, List, [], ◌∷◌, length, map, get_or, Bool, true, false, cond, nat_lt, bytes_eq, position, option_map, option_and_then, Option, Some, None, refl, sym, ap, subst, ◌∙◌, ℤ, arith, ltb-true}
+use Rattle.std.specs.List.{AllByRecursion, cons_option, position_or_len}
+use Rattle.std.proofs.lemmas.Option.{unwrap_or-slice_get}
 use Rattle.gw_base.specs.declared.messages.Selector.{Selector}
 use Rattle.gw_base.specs.declared.messages.TripDescriptor.{TripDescriptor}
 use Rattle.service_day.specs.Days.{IsDay}

@@ -1,5 +1,5 @@
 -- The tree of a delivery of situations is plain: its texts are UTF-8, and the names of members rise.
-use Rattle.std.proofs.Common.{◌≡◌, ℕ, suc, ◌<◌, List, [], ◌∷◌, ◌++◌, length, map, codes, Bool, true, false, ◌&&◌, ◌||◌, filter, is_some, IsUtf8, IfSome, option_map, Option, Some, None, refl, sym, ap, subst, ◌∙◌, ℤ, pos, int_eq, if◌then◌else◌}
+use Rattle.std.proofs.Common.{◌≡◌, ℕ, ◌<◌, List, [], ◌∷◌, ◌++◌, length, map, codes, Bool, true, false, ◌&&◌, ◌||◌, filter, is_some, IsUtf8, IfSome, option_map, Option, Some, None, refl, sym, subst, ℤ, pos, int_eq, if◌then◌else◌}
 use Rattle.std.specs.List.{AllByRecursion, list_all}
 use Rattle.std.proofs.lemmas.Bool.{and_parts}
 use Rattle.json.proofs.Printed.Utf8.{are_ascii, IsUtf8-are_ascii}
@@ -15,20 +15,20 @@ use Rattle.journey_model.specs.declared.situation.Situation.{Situation}
 use Rattle.journey_model.specs.declared.situation.ValidPeriod.{ValidPeriod}
 use Rattle.serde_json.specs.Data.{Data, string}
 use Rattle.alert_map.specs.Alerts.{id_of}
-use Rattle.siri_calls.specs.DeliveryTree.{array_of, items_of, moment_tree, object_of}
+use Rattle.siri_calls.specs.DeliveryTree.{items_of, object_of}
 use Rattle.siri_calls.proofs.SaidAgainIds.{IsUtf8-id, id-at}
 use Rattle.siri_calls.proofs.SaidAgainTrees.{ArePlain, IsPlain}
 use Rattle.reverse_alerts.specs.Kept.{is_journey, is_route, is_stop}
 use Rattle.reverse_alerts.specs.Sayable.{HasUtf8}
-use Rattle.reverse_alerts.specs.SituationTree.{affects_tree, bound_member, condition_of, delivery_tree, exchange_tree, journey_members, period_tree, ref_tree, ref_trees, service_tree, situation_tree}
-use Rattle.reverse_alerts.proofs.Blocks.{ArePlainParts, IsPlainPart, block, blocks, plain-object}
+use Rattle.reverse_alerts.specs.SituationTree.{affects_tree, bound_member, condition_of, delivery_tree, exchange_tree, period_tree, ref_tree, ref_trees, service_tree, situation_tree}
+use Rattle.reverse_alerts.proofs.Blocks.{ArePlainParts, IsPlainPart, plain-object}
 use Rattle.reverse_alerts.proofs.FromAlerts.{IsSaid}
 use Rattle.reverse_alerts.proofs.Grouped.{all-filter, filter-each}
 use Rattle.reverse_alerts.proofs.Names.{id_of-at}
 use Rattle.reverse_alerts.proofs.ReadAffects.{affects-parts, affects_parts, networks_of, stop_points_of, vehicle_journeys_of}
-use Rattle.reverse_alerts.proofs.ReadForms.{IsMoment-is_moment, array_if_any, bound_tree}
-use Rattle.reverse_alerts.proofs.Sayable.{CanSay, IsCause, is_bound, is_period}
-use Rattle.reverse_alerts.proofs.SituationParts.{Trees, consequences_tree, parts, reason_if, situation-parts, trees_of}
+use Rattle.reverse_alerts.proofs.ReadForms.{IsMoment-is_moment, array_if_any}
+use Rattle.reverse_alerts.proofs.Sayable.{CanSay, is_bound, is_period}
+use Rattle.reverse_alerts.proofs.SituationParts.{consequences_tree, parts, reason_if, situation-parts, trees_of}
 
 -- a name of ASCII letters
 name : (letters : List ℕ) → are_ascii letters ≡ true → IsUtf8 letters
@@ -100,7 +100,9 @@ plain-affects table refs sound h =
     let stops = plain-stop-points (ref_trees table s) (plain-stops table s sound (filter-each (CanSay table) is_stop refs h) (all-filter is_stop refs)) in
     let journeys = plain-vehicles (ref_trees table j) (plain-journeys table j sound (filter-each (CanSay table) is_journey refs h) (all-filter is_journey refs)) in
     let plain : ArePlainParts 5 (affects_parts (ref_trees table r) (ref_trees table s) (ref_trees table j)) = (
-      name (codes "Networks") refl, lines, (name (codes "StopPoints") refl, stops, (name (codes "VehicleJourneys") refl, journeys, tt)),
+      name (codes "Networks") refl,
+      lines,
+      (name (codes "StopPoints") refl, stops, (name (codes "VehicleJourneys") refl, journeys, tt)),
     ) in
     subst (IsPlain 6) (sym (affects-parts table refs)) (plain-object 5 (affects_parts (ref_trees table r) (ref_trees table s) (ref_trees table j)) refl plain)
 
@@ -142,11 +144,11 @@ word-utf8 : (effect : ℤ) → IfSome (condition_of effect) IsUtf8
 word-utf8 effect = by (int_eq effect (pos 1)) (int_eq effect (pos 3)) (int_eq effect (pos 4)) (int_eq effect (pos 5)) (int_eq effect (pos 6))
   where
     by : (a b c d e : Bool) → IfSome (
-      if a then Some (codes "noService") else
-      (if b then Some (codes "delayed") else
-      (if c then Some (codes "diverted") else
-      (if d then Some (codes "additionalService") else
-      (if e then Some (codes "altered") else None))))) IsUtf8
+        if a then Some (codes "noService") else
+        (if b then Some (codes "delayed") else
+        (if c then Some (codes "diverted") else
+        (if d then Some (codes "additionalService") else
+        (if e then Some (codes "altered") else None))))) IsUtf8
     by true b c d e = name (codes "noService") refl
     by false true c d e = name (codes "delayed") refl
     by false false true d e = name (codes "diverted") refl
@@ -167,16 +169,45 @@ plain-situation : (table : Table) (moment : ℤ) (one : Situation) → IsSound t
 plain-situation table moment one sound at h utf8 =
     let can = h.sayable in
     let plain : ArePlainParts 6 (parts (trees_of table moment one)) = (
-      name (codes "Affects") refl, plain-affects table one.refs sound can.refs, (
-      name (codes "Consequences") refl, plain-consequences (condition_of one.effect) (word-utf8 one.effect), (
-      name (codes "CreationTime") refl, IsUtf8-moment_text moment at, (
-      name (codes "Description") refl, plain-text one.description utf8.2, (
-      name (codes "EnvironmentReason") refl, plain-reason (pos 8) one.cause, (
-      name (codes "EquipmentReason") refl, plain-reason (pos 3) one.cause, (
-      name (codes "MiscellaneousReason") refl, plain-reason (pos 2) one.cause, (
-      name (codes "SituationNumber") refl, utf8.0, (
-      name (codes "Summary") refl, plain-text one.summary utf8.1, (
-      name (codes "ValidityPeriod") refl, plain-array (map period_tree one.periods) (plain-periods one.periods can.periods), tt))))))))),
+      name (codes "Affects") refl,
+      plain-affects table one.refs sound can.refs,
+      (
+        name (codes "Consequences") refl,
+        plain-consequences (condition_of one.effect) (word-utf8 one.effect),
+        (
+          name (codes "CreationTime") refl,
+          IsUtf8-moment_text moment at,
+          (
+            name (codes "Description") refl,
+            plain-text one.description utf8.2,
+            (
+              name (codes "EnvironmentReason") refl,
+              plain-reason (pos 8) one.cause,
+              (
+                name (codes "EquipmentReason") refl,
+                plain-reason (pos 3) one.cause,
+                (
+                  name (codes "MiscellaneousReason") refl,
+                  plain-reason (pos 2) one.cause,
+                  (
+                    name (codes "SituationNumber") refl,
+                    utf8.0,
+                    (
+                      name (codes "Summary") refl,
+                      plain-text one.summary utf8.1,
+                      (
+                        name (codes "ValidityPeriod") refl,
+                        plain-array (map period_tree one.periods) (plain-periods one.periods can.periods),
+                        tt,
+                      ),
+                    ),
+                  ),
+                ),
+              ),
+            ),
+          ),
+        ),
+      ),
     ) in
     subst (IsPlain 7) (sym (situation-parts table moment one can.cause)) (plain-object 6 (parts (trees_of table moment one)) refl plain)
 

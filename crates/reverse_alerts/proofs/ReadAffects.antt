@@ -1,8 +1,7 @@
 -- What a situation's tree says it affects is read as what the situation refers to.
-use Rattle.std.proofs.Common.{◌≡◌, ℕ, ◌-◌, ◌<◌, List, [], ◌∷◌, ◌++◌, length, map, Bool, true, false, ◌&&◌, Option, Some, None, Result, Ok, Err, codes, filter, append-nil, append_assoc, if◌then◌else◌, option_map, refl, sym, ap, ◌∙◌, ℤ, arith}
+use Rattle.std.proofs.Common.{◌≡◌, ℕ, ◌-◌, ◌<◌, List, [], ◌∷◌, ◌++◌, length, map, Bool, true, Option, Some, None, Result, Ok, Err, codes, filter, append-nil, append_assoc, if◌then◌else◌, option_map, refl, sym, ap, ◌∙◌, ℤ, arith}
 use Rattle.std.specs.List.{AllByRecursion, cons_option, list_all}
 use Rattle.std.proofs.lemmas.List.{length-map, map-append}
-use Rattle.std.specs.Option.{option_or}
 use Rattle.gw_base.specs.declared.member.Member.{Member}
 use Rattle.stop_schedule.specs.Sound.{IsSound}
 use Rattle.stop_schedule.specs.Table.{Table}
@@ -19,7 +18,7 @@ use Rattle.siri_calls.specs.Forms.{is_object}
 use Rattle.siri_situations.specs.Affected.{affected, day_in_form, journey_named, known, line_named, references, stop_named, unless_none}
 use Rattle.siri_situations.specs.Steps.{gather}
 use Rattle.reverse_alerts.specs.Kept.{is_journey, is_route, is_stop}
-use Rattle.reverse_alerts.specs.SituationTree.{affects_tree, journeys_member, lines_member, ref_tree, ref_trees, stops_member}
+use Rattle.reverse_alerts.specs.SituationTree.{affects_tree, journeys_member, lines_member, ref_trees, stops_member}
 use Rattle.reverse_alerts.proofs.Blocks.{block, blocks, found, or-none}
 use Rattle.reverse_alerts.proofs.Grouped.{all-filter, by_kinds, filter-each}
 use Rattle.reverse_alerts.proofs.Names.{position-id_of}

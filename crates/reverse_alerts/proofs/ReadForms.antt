@@ -1,11 +1,10 @@
 -- What stands in a tree is read in its form: texts, moments, objects and repeated objects.
-use Rattle.std.proofs.Common.{◌≡◌, ℕ, ◌<◌, List, [], ◌∷◌, ◌++◌, length, map, Bool, true, false, ◌&&◌, if◌then◌else◌, option_map, option_to_list, unwrap_or, Option, Some, None, Result, Ok, Err, append-nil, refl, sym, ap, ◌∙◌, ℤ, pos, arith}
+use Rattle.std.proofs.Common.{◌≡◌, ℕ, ◌<◌, List, [], ◌∷◌, ◌++◌, length, true, option_map, option_to_list, unwrap_or, Option, Some, None, Result, Ok, append-nil, refl, ap, ◌∙◌, ℤ, pos, arith}
 use Rattle.std.specs.List.{list_all}
 use Rattle.std.proofs.lemmas.Int.{ints}
 use Rattle.gw_base.specs.Member.{member_name}
 use Rattle.gw_base.specs.Moments.{IsMoment, is_moment}
 use Rattle.gw_base.specs.declared.member.Member.{Member}
-use Rattle.service_day.specs.Moments.{moment_of}
 use Rattle.service_day.specs.Utc.{moment_text}
 use Rattle.service_day.specs.declared.zones.Rules.{Rules}
 use Rattle.service_day.proofs.MomentTextLemmas.{moment_of-moment_text, some-moment_text}

@@ -1,11 +1,9 @@
 -- The periods that a situation's tree says are read as they are.
-use Rattle.std.proofs.Common.{◌≡◌, ℕ, List, [], ◌∷◌, ◌++◌, map, Bool, true, false, ◌&&◌, ◌||◌, if◌then◌else◌, is_some, is_ok, option_map, Option, Some, None, Result, Ok, Err, codes, refl, sym, ap, ◌∙◌, ℤ, pos}
+use Rattle.std.proofs.Common.{◌≡◌, ℕ, List, [], ◌∷◌, ◌++◌, map, true, ◌&&◌, ◌||◌, is_some, is_ok, Option, Some, None, Ok, codes, refl, ap, ◌∙◌, ℤ}
 use Rattle.std.specs.List.{list_all}
 use Rattle.std.proofs.lemmas.Bool.{and_from, and_parts}
-use Rattle.gw_base.specs.Member.{member_name}
 use Rattle.gw_base.specs.declared.member.Member.{Member}
 use Rattle.service_day.specs.declared.zones.Rules.{Rules}
-use Rattle.journey_model.specs.Chains.{◌>>=◌}
 use Rattle.journey_model.specs.declared.situation.ValidPeriod.{ValidPeriod}
 use Rattle.serde_json.specs.Data.{Data}
 use Rattle.serde_json.specs.Find.{get}

@@ -1,5 +1,5 @@
 -- The references that the trees of a kind say are read as they are. What a reference is made of is a parameter.
-use Rattle.std.proofs.Common.{◌≡◌, ℕ, ◌<◌, List, [], ◌∷◌, ◌++◌, length, map, Bool, true, false, ◌&&◌, if◌then◌else◌, is_ok, option_to_list, Option, Some, None, Result, Ok, Err, codes, refl, sym, ap, ◌∙◌, ℤ, arith}
+use Rattle.std.proofs.Common.{◌≡◌, ℕ, ◌<◌, List, [], ◌∷◌, length, map, true, is_ok, option_to_list, Some, Result, Ok, codes, refl, ap, ◌∙◌, ℤ, arith}
 use Rattle.std.specs.List.{AllByRecursion, list_all}
 use Rattle.std.proofs.lemmas.Bool.{and_from}
 use Rattle.gw_base.specs.Member.{member_name}
@@ -11,7 +11,6 @@ use Rattle.stop_schedule.specs.Sound.{IsSound}
 use Rattle.stop_schedule.specs.Table.{Table}
 use Rattle.journey_model.specs.Chains.{◌>>=◌}
 use Rattle.journey_model.specs.declared.fault.Fault.{Fault}
-use Rattle.journey_model.specs.declared.fault.Fault.TheVariants.{BadField}
 use Rattle.journey_model.specs.declared.situation.Ref.{Ref}
 use Rattle.journey_model.specs.declared.situation.Ref.TheVariants.{Route, Stop, Journey}
 use Rattle.serde_json.specs.Data.{Data, null, string}

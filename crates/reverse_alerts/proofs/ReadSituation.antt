@@ -1,5 +1,5 @@
 -- The tree of a situation is read as that situation.
-use Rattle.std.proofs.Common.{◌≡◌, ℕ, ◌<◌, ◌==◌, List, [], ◌∷◌, length, map, Bool, true, false, not, if◌then◌else◌, option_map, Option, Some, None, Result, Ok, Err, codes, refl, sym, ap, subst, ◌∙◌, ℤ, pos, arith}
+use Rattle.std.proofs.Common.{◌≡◌, ℕ, ◌==◌, List, [], ◌∷◌, length, map, Bool, true, not, if◌then◌else◌, option_map, Option, Some, None, Result, Ok, Err, codes, refl, sym, ap, subst, ◌∙◌, ℤ, pos}
 use Rattle.std.specs.List.{AllByRecursion}
 use Rattle.gw_base.specs.declared.member.Member.{Member}
 use Rattle.stop_schedule.specs.Sound.{IsSound}
@@ -30,8 +30,8 @@ use Rattle.reverse_alerts.proofs.ReadAffects.{affected-read, references-read}
 use Rattle.reverse_alerts.proofs.ReadForms.{bound, down, none-read, object-read, object_in, objects_in, repeated-read, step-from, text-if-any-read, text-read}
 use Rattle.reverse_alerts.proofs.ReadPeriods.{periods-read}
 use Rattle.reverse_alerts.proofs.ReadRefs.{said}
-use Rattle.reverse_alerts.proofs.Sayable.{IsCause, IsEffect, IsSayable, additional, delays, detour, is_filled, modified, no_service, other, technical, unknown_cause, unknown_effect, weather}
-use Rattle.reverse_alerts.proofs.SituationParts.{HasParts, Trees, consequences_tree, has-parts, reason_if, trees_of}
+use Rattle.reverse_alerts.proofs.Sayable.{IsCause, IsEffect, additional, delays, detour, is_filled, modified, no_service, other, technical, unknown_cause, unknown_effect, weather}
+use Rattle.reverse_alerts.proofs.SituationParts.{HasParts, consequences_tree, has-parts, reason_if, trees_of}
 
 -- ---- what it says before what it affects
 

@@ -1,5 +1,5 @@
 -- A delivery of situations that was written says them when it is read again.
-use Rattle.std.proofs.Common.{◌≡◌, List, [], ◌∷◌, ◌++◌, map, All, append-nil, Some, Result, Ok, refl, ap, ◌∙◌, ℤ, arith}
+use Rattle.std.proofs.Common.{◌≡◌, List, [], ◌++◌, map, All, append-nil, Ok, refl, ap, ◌∙◌, ℤ, arith}
 use Rattle.std.specs.List.{AllByRecursion}
 use Rattle.std.proofs.lemmas.List.Elements.{recursion_from_All}
 use Rattle.gw_base.specs.Moments.{IsMoment}
@@ -9,7 +9,6 @@ use Rattle.stop_schedule.specs.Table.{Table}
 use Rattle.journey_model.specs.Chains.{◌>>=◌}
 use Rattle.journey_model.specs.Schedules.{Schedule}
 use Rattle.journey_model.specs.declared.situation.Situation.{Situation}
-use Rattle.serde_json.specs.Data.{Data}
 use Rattle.siri_calls.specs.DeliveryTree.{items_of}
 use Rattle.siri_calls.specs.Forms.{listed}
 use Rattle.siri_calls.proofs.SaidAgainTrees.{is_utf8-compact_text, read-compact_text}

@@ -1,6 +1,5 @@
 -- Situations that can be said and are read again as they are.
-use Rattle.std.proofs.Common.{◌≡◌, ℕ, ◌<◌, List, [], ◌∷◌, length, Bool, true, false, ◌&&◌, ◌||◌, cond, if◌then◌else◌, filter, is_some, Option, Some, None, refl, sym, ap, ◌∙◌, ℤ, pos, negsuc, int_eq, int_le, inl, inr, arith, leb, leb-true}
-use Rattle.std.specs.Prelude.{⊤}
+use Rattle.std.proofs.Common.{◌≡◌, ℕ, ◌<◌, List, [], ◌∷◌, length, Bool, true, false, ◌&&◌, ◌||◌, if◌then◌else◌, is_some, Option, Some, None, refl, sym, ap, ◌∙◌, ℤ, pos, negsuc, int_eq, int_le, inl, inr, arith, leb-true}
 use Rattle.std.specs.List.{AllByRecursion, list_all}
 use Rattle.std.proofs.lemmas.Bool.{and_parts, cases_eq, or_cases}
 use Rattle.std.proofs.lemmas.Bool.Decides.{Decides-int_eq}
@@ -85,12 +84,12 @@ from-three (pos n) low high =
     elim (cases_eq n 3) [
       | inl e ↦ delays (ap pos e)
       | inr no3 ↦ elim (cases_eq n 4) [
-          | inl e ↦ detour (ap pos e)
-          | inr no4 ↦ elim (cases_eq n 5) [
-              | inl e ↦ additional (ap pos e)
-              | inr no5 ↦ elim (cases_eq n 6) [ inl e ↦ modified (ap pos e) | inr no6 ↦ absurd (no6 (omega arith)) ]
-            ]
+        | inl e ↦ detour (ap pos e)
+        | inr no4 ↦ elim (cases_eq n 5) [
+          | inl e ↦ additional (ap pos e)
+          | inr no5 ↦ elim (cases_eq n 6) [ inl e ↦ modified (ap pos e) | inr no6 ↦ absurd (no6 (omega arith)) ]
         ]
+      ]
     ]
 
 pub IsEffect-effect_of : (effect : ℤ) → IsEffect (effect_of effect)

@@ -1,5 +1,5 @@
 -- The alerts of the situations that are taken have the senses of the alerts that they came from.
-use Rattle.std.proofs.Common.{◌≡◌, ℕ, List, [], ◌∷◌, map, Bool, true, false, if◌then◌else◌, is_some, Option, Some, None, Result, Ok, Err, refl, sym, ap, ap₂, ◌∙◌}
+use Rattle.std.proofs.Common.{◌≡◌, ℕ, List, [], ◌∷◌, map, if◌then◌else◌, is_some, Option, Some, None, Result, Ok, Err, refl, sym, ap, ap₂, ◌∙◌}
 use Rattle.std.specs.List.{cons_option}
 use Rattle.gw_base.specs.declared.messages.Alert.{Alert}
 use Rattle.gw_base.specs.declared.messages.Entity.{Entity}
@@ -7,11 +7,10 @@ use Rattle.stop_schedule.specs.Sound.{IsSound}
 use Rattle.stop_schedule.specs.Table.{Table}
 use Rattle.journey_model.specs.declared.fault.Fault.{Fault}
 use Rattle.journey_model.specs.declared.situation.Situation.{Situation}
-use Rattle.alert_map.specs.Alerts.{alert}
-use Rattle.reverse_alerts.specs.Kept.{all_named, is_journey, is_route, is_stop}
+use Rattle.reverse_alerts.specs.Kept.{all_named}
 use Rattle.reverse_alerts.specs.Senses.{Sense, sense}
 use Rattle.reverse_alerts.specs.Sx.{alert_sense}
-use Rattle.reverse_alerts.specs.Taken.{alert_given, alert_in, alerts, entity_verdict, fault_of, given, situation_of, situations}
+use Rattle.reverse_alerts.specs.Taken.{alert_in, alerts, entity_verdict, fault_of, given, situation_of, situations}
 use Rattle.reverse_alerts.proofs.FromAlerts.{of-alert, sayable-alert}
 use Rattle.reverse_alerts.proofs.Grouped.{journeys-of, of-kinds, routes-of, stops-of}
 use Rattle.reverse_alerts.proofs.AlertSense.{sense-again, sense_of}

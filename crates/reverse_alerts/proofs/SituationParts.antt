@@ -1,5 +1,5 @@
 -- The tree of a situation as an object whose members may be missing, and what each name finds there.
-use Rattle.std.proofs.Common.{◌≡◌, ℕ, List, [], ◌∷◌, ◌++◌, map, Bool, true, false, if◌then◌else◌, option_map, Option, Some, None, codes, append-nil, append_assoc, refl, sym, ap, subst, ◌∙◌, ℤ, pos, int_eq}
+use Rattle.std.proofs.Common.{◌≡◌, ℕ, List, [], ◌∷◌, ◌++◌, map, if◌then◌else◌, option_map, Option, Some, None, codes, append-nil, append_assoc, refl, sym, ap, subst, ◌∙◌, ℤ, pos, int_eq}
 use Rattle.stop_schedule.specs.Table.{Table}
 use Rattle.journey_model.specs.declared.situation.Situation.{Situation}
 use Rattle.serde_json.specs.Data.{Data, string}
@@ -104,11 +104,11 @@ situation-parts table moment one h =
     let summary = block (codes "Summary") of.summary in
     let periods = block (codes "ValidityPeriod") of.periods in
     ap object_of (
-      regroup x t n (consequences_of (condition_of one.effect)) (text_member (codes "Description") one.description) reason
-      (text_member (codes "Summary") one.summary) (periods_member (map period_tree one.periods))
-      ∙ (λ i. x ∷ (c i ++ (t ∷ (d i ++ (reason ++ (n ∷ (s i ++ p i)))))))
-      ∙ ap (λ (last : Named). x ∷ (consequences ++ (t ∷ (description ++ (reason ++ (n ∷ (summary ++ last))))))) (sym (append-nil periods))
-      ∙ ap (λ (rest : Named). x ∷ (consequences ++ (t ∷ (description ++ rest)))) (reasons (n ∷ (summary ++ (periods ++ []))) one.cause h))
+    regroup x t n (consequences_of (condition_of one.effect)) (text_member (codes "Description") one.description) reason
+    (text_member (codes "Summary") one.summary) (periods_member (map period_tree one.periods))
+    ∙ (λ i. x ∷ (c i ++ (t ∷ (d i ++ (reason ++ (n ∷ (s i ++ p i)))))))
+    ∙ ap (λ (last : Named). x ∷ (consequences ++ (t ∷ (description ++ (reason ++ (n ∷ (summary ++ last))))))) (sym (append-nil periods))
+    ∙ ap (λ (rest : Named). x ∷ (consequences ++ (t ∷ (description ++ rest)))) (reasons (n ∷ (summary ++ (periods ++ []))) one.cause h))
 
 -- ---- what each name finds
 

@@ -466,3 +466,65 @@ fn a_differential_feed_is_refused(rt: HostRuntime) -> Result<(), Fail> {
     assert!(rt; !is_refused(alloc, &context, &feed(alloc, 2, &[])?));
     Ok(())
 }
+
+// A text of 65,000 bytes in one translation.
+fn long_text(alloc: Global) -> Result<List<Translation>, AllocError> {
+    let mut text = Text::new(alloc);
+    for _ in 0..6_500 {
+        text.push("0123456789")?;
+    }
+    let mut all = List::new(alloc);
+    all.push(Translation {
+        text,
+        language: None,
+    })?;
+    Ok(all)
+}
+
+// A feed of one alert of a route with that header.
+fn long_feed(alloc: Global) -> Result<Feed, AllocError> {
+    let header = long_text(alloc)?;
+    let selectors = selectors(alloc, &[R1])?;
+    let alert = Alert {
+        periods: List::new(alloc),
+        selectors,
+        cause: 1,
+        effect: 8,
+        header,
+        description: List::new(alloc),
+    };
+    let mut entities = List::new(alloc);
+    entities.push(Entity {
+        id: Text::copied(alloc, "1")?,
+        deleted: false,
+        trip_update: None,
+        alert: Some(Boxed::new(alloc, alert)?),
+    })?;
+    Ok(Feed {
+        version: Text::copied(alloc, "2.0")?,
+        incrementality: 0,
+        timestamp: None,
+        entities,
+    })
+}
+
+// How long the delivery of a feed is.
+fn length(alloc: Global, context: &Context<'_>, feed: &Feed) -> usize {
+    match answer(alloc, context, feed) {
+        Some(Ok((text, _))) => text.len(),
+        _ => 0,
+    }
+}
+
+#[test]
+fn a_long_text_is_told_whole(rt: HostRuntime) -> Result<(), Fail> {
+    let alloc = rt.alloc();
+    let zone = folder::zone(&rt);
+    let context = Context {
+        table: &folder::table(&rt, alloc)?,
+        zone: &zone,
+        window: &folder::window(&rt, &zone),
+    };
+    assert_eq!(rt; length(alloc, &context, &long_feed(alloc)?), 65_358);
+    Ok(())
+}
