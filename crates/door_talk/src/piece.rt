@@ -5,8 +5,8 @@ ghost use Rattle.gw_base.specs.Count.{Counts};
 
 use gw_base::{Door, Failed};
 
-/// Reads the next bytes of the present connection's input into the front of `piece`, at most so many, and answers how many
-/// came: 0 exactly at the input's end.
+/// Reads the next bytes of the present connection's input into the front of `piece`, at most so many, and answers how
+/// many came: 0 exactly at the input's end.
 pub fn read_piece<D: Door>(door: &mut D, piece: &mut [u8], most: usize) -> Result<usize, Failed>
     requires present { (D.beside door.old).present ≡ true }
     requires room { 0 < length piece.old }

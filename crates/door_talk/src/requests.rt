@@ -57,9 +57,10 @@ fn read_post<D: Door>(
     }
 }
 
-/// Reads what the present connection asks for, of which nothing was read yet. The body of a POST is read into `body`, which
-/// then has at most 16,777,216 bytes. No more is read than the 16,384 bytes that a head may have, or the head of a POST
-/// and its body (RFC 9112, section 6.3); a read that isn't at the input's end takes a byte or more, so the reads end.
+/// Reads what the present connection asks for, of which nothing was read yet. The body of a POST is read into `body`,
+/// which then has at most 16,777,216 bytes. No more is read than the 16,384 bytes that a head may have, or the head of
+/// a POST and its body (RFC 9112, section 6.3); a read that isn't at the input's end takes a byte or more, so the reads
+/// end.
 pub fn read_request<D: Door>(
     alloc: Global,
     reader: &mut HeadReader,
