@@ -11,6 +11,7 @@ use crate::exit::Exit;
 use crate::reading::{BODY_LIMIT, further_file, joined};
 use feed_messages::{FeedFault, read_feed};
 use gateway_core::{Setting, feed_report};
+use gw_base::incrementality::DIFFERENTIAL;
 use gw_base::{Bytes, Feed, Files, Moment, Text, WireKind};
 use itoa::Buffer;
 use propagation::readings_of;
@@ -18,9 +19,6 @@ use reverse_alerts::SxFault;
 use reverse_calls::ReverseFault;
 use show_command::show_lines;
 use std::alloc::{AllocError, Global};
-
-// The incrementality of a feed that only tells what changed (GTFS Realtime, FeedHeader).
-const DIFFERENTIAL: i32 = 1;
 
 // The name of a kind of break in protobuf's encoding.
 fn kind_name(kind: WireKind) -> &'static str

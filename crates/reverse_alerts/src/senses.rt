@@ -4,26 +4,11 @@ ghost use Rattle.std.specs.Option.{option_copied};
 ghost use Rattle.reverse_alerts.specs.Senses as spec;
 ghost use Rattle.reverse_alerts.specs.SituationTexts as texts;
 
+use gw_base::alert_cause::{
+    MEDICAL_EMERGENCY, OTHER_CAUSE, TECHNICAL_PROBLEM, UNKNOWN_CAUSE, WEATHER,
+};
+use gw_base::alert_effect::{MODIFIED_SERVICE, NO_SERVICE, SIGNIFICANT_DELAYS, UNKNOWN_EFFECT};
 use gw_base::{Period, Translation};
-
-// The causes and effects of GTFS Realtime that are told apart.
-const UNKNOWN_CAUSE: i32 = 1;
-
-const OTHER_CAUSE: i32 = 2;
-
-const TECHNICAL_PROBLEM: i32 = 3;
-
-const WEATHER: i32 = 8;
-
-const MEDICAL_EMERGENCY: i32 = 12;
-
-const NO_SERVICE: i32 = 1;
-
-const SIGNIFICANT_DELAYS: i32 = 3;
-
-const MODIFIED_SERVICE: i32 = 6;
-
-const UNKNOWN_EFFECT: i32 = 8;
 
 // Whether a period has neither a start nor an end.
 fn is_open(period: &Period) -> bool

@@ -5,12 +5,10 @@ ghost use Rattle.reverse_alerts.specs.Sx.{IsAnswer, IsFullAnswer};
 use crate::sx_fault::SxFault;
 use crate::texts::have_utf8;
 use crate::writing::write_all;
+use gw_base::incrementality::DIFFERENTIAL;
 use gw_base::{Bytes, Feed, Moment};
 use journey_model::{Context, Report};
 use std::alloc::Global;
-
-/// The incrementality of a differential feed (GTFS Realtime reference, FeedHeader, DIFFERENTIAL).
-const DIFFERENTIAL: i32 = 1;
 
 // The delivery of a feed that isn't differential, and the report on its entities.
 fn sx_of_full(
