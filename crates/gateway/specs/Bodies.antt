@@ -28,9 +28,11 @@ kind_name DeepGroup = codes "DeepGroup"
 -- the end that a fault of a feed's body is, with the place in bytes from the feed's first one
 abbrev pub feed_end : List ℕ → FeedFault → Exit
 feed_end name (feeds.EntityTooLong at) = exit.Refused (name ++ codes " EntityTooLong " ++ decimal at)
-feed_end name (feeds.Wire fault) = exit.Refused (name ++ codes " Wire " ++ decimal fault.at ++ codes " " ++ kind_name fault.kind)
+feed_end name (feeds.Wire fault) =
+    exit.Refused (name ++ codes " Wire " ++ decimal fault.at ++ codes " " ++ kind_name fault.kind)
 feed_end name (feeds.NotText at) = exit.Refused (name ++ codes " NotText " ++ decimal at)
-feed_end name (feeds.MissingField at field) = exit.Refused (name ++ codes " MissingField " ++ decimal at ++ codes " " ++ required_name field)
+feed_end name (feeds.MissingField at field) =
+    exit.Refused (name ++ codes " MissingField " ++ decimal at ++ codes " " ++ required_name field)
 feed_end name feeds.Memory = exit.Memory
 
 -- the end of a feed that isn't a full dataset, and of one with too many calls

@@ -54,11 +54,14 @@ decimal_number text = if is_number text then Some (going_on 0 text) else None
 
 -- a day that a window may begin with
 abbrev pub beginning : List ℕ → Option ℤ
-beginning word = option_and_then (λ day. if int_le first_day day && int_le day last_day then Some day else None) (day_of Dashed word)
+beginning word =
+    option_and_then (λ day. if int_le first_day day && int_le day last_day then Some day else None) (day_of Dashed word)
 
 -- such a number that is in a range
 abbrev pub number_in : ℕ → ℕ → List ℕ → Option ℕ
-number_in least most word = option_and_then (λ number. if nat_le least number && nat_le number most then Some number else None) (decimal_number word)
+number_in least most word =
+    option_and_then (λ number. if nat_le least number && nat_le number most then Some number else None)
+    (decimal_number word)
 
 -- a number of days of a window
 abbrev pub day_count : List ℕ → Option ℕ
@@ -94,8 +97,8 @@ keeps_fewer days None = false
 keeps_fewer None (Some kept) = true
 keeps_fewer (Some days) (Some kept) = nat_lt kept days
 
--- the forms: a text that isn't empty, a day, a number of days from the day before on, a number of days that are kept of the window
--- before, a number of connections, a moment, and the three numbers of a sample
+-- the forms: a text that isn't empty, a day, a number of days from the day before on, a number of days that are kept of
+-- the window before, a number of connections, a moment, and the three numbers of a sample
 abbrev pub is_filled : Form
 is_filled before [] = false
 is_filled before (_ ∷ _) = true

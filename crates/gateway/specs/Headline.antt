@@ -1,5 +1,5 @@
--- The headline: what a server shows, in the words of the two standards (SIRI 2.0, EstimatedVehicleJourney; GTFS Realtime 2.0,
--- FeedMessage), over the log of its connections (RFC 9112).
+-- The headline: what a server shows, in the words of the two standards (SIRI 2.0, EstimatedVehicleJourney; GTFS
+-- Realtime 2.0, FeedMessage), over the log of its connections (RFC 9112).
 use Rattle.std.specs.Prelude.{◌≡◌, ◌⊎◌, ℕ, ℤ, List, [], ◌∷◌, ◌++◌, Some}
 use Rattle.gw_base.specs.Connections.{Beside, Connections}
 use Rattle.gw_base.specs.declared.door.Entry.{Entry}
@@ -25,9 +25,9 @@ HasArrived setting before [] now = now ≡ before
 HasArrived setting before (entry ∷ later) now =
     (after : List Arrival) × Leaves setting before entry after × HasArrived setting after later now
 
--- a feed served: its bytes are those rebuilt from all that arrived; read as protobuf and propagated by GTFS Realtime's rules,
--- they give every stop of every dated journey the time, skip or absence of the last-recorded SIRI journey taken before it. The
--- output is that answer, or by a fault of the door a front of it
+-- a feed served: its bytes are those rebuilt from all that arrived; read as protobuf and propagated by GTFS Realtime's
+-- rules, they give every stop of every dated journey the time, skip or absence of the last-recorded SIRI journey taken
+-- before it. The output is that answer, or by a fault of the door a front of it
 pub record ServesFeed (Cause : Type 0) (setting : Setting) (arrivals : List Arrival) (entry : Entry) : Type 0 where
   pub moment : ℤ
   pub at : entry.moment ≡ Some moment
@@ -37,7 +37,8 @@ pub record ServesFeed (Cause : Type 0) (setting : Setting) (arrivals : List Arri
   pub rebuilt : IsRebuiltOf setting moment arrivals feed
   pub gives : GivesEach moment (schedule_at setting (moments_of arrivals)) (present setting arrivals) feed
 
--- a SIRI text served: it gives every call the propagated time of the last accepted feed, or has no journey where there was none
+-- a SIRI text served: it gives every call the propagated time of the last accepted feed, or has no journey where there
+-- was none
 pub record ServesText (Cause : Type 0) (setting : Setting) (arrivals : List Arrival) (entry : Entry) : Type 0 where
   pub asked : IsRequest entry.input (Get EtGet)
   pub text : List ℕ
@@ -51,7 +52,8 @@ pub record Shows (Cause : Type 0) (setting : Setting) (earlier : List Entry) (en
   pub served : ServesFeed Cause setting arrivals entry ⊎ ServesText Cause setting arrivals entry
 
 -- what a server of these words shows, over the setting of its files
-pub record ShowsAsTold (Cause : Type 0) (words : List (List ℕ)) (files : Directory) (earlier : List Entry) (entry : Entry) : Type 0 where
+pub record ShowsAsTold (Cause : Type 0) (words : List (List ℕ)) (files : Directory) (earlier : List Entry)
+    (entry : Entry) : Type 0 where
   pub command : Serve
   pub accepted : IsJob words (serve_job command)
   pub setting : Setting
@@ -59,7 +61,8 @@ pub record ShowsAsTold (Cause : Type 0) (words : List (List ℕ)) (files : Direc
   pub shows : Shows Cause setting earlier entry
 
 -- over any connections: the log got entries, and each that is marked Shown shows what it is to
-pub record Headline (Cause : Type 0) (words : List (List ℕ)) (files : Directory) (told : Connections) (now : Beside) : Type 0 where
+pub record Headline (Cause : Type 0) (words : List (List ℕ)) (files : Directory) (told : Connections)
+    (now : Beside) : Type 0 where
   pub entries : List Entry
   pub left : Connections
   pub logged : HasLogged told now entries left

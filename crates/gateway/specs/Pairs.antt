@@ -8,4 +8,5 @@ HasNoValue form before (value ∷ words) = form before value ≡ false
 
 abbrev pub IsWrongAt : Pair → List ℕ → List (List ℕ) → ℕ → Type 0
 IsWrongAt pair before [] at = at ≡ 0
-IsWrongAt pair before (flag ∷ words) at = MatchBool (is_flag pair flag) (HasNoValue pair.form before words × (at ≡ 1)) (at ≡ 0)
+IsWrongAt pair before (flag ∷ words) at =
+    MatchBool (is_flag pair flag) (HasNoValue pair.form before words × (at ≡ 1)) (at ≡ 0)

@@ -1,5 +1,5 @@
--- What the commands publish, in the words of the two standards (SIRI 2.0, EstimatedVehicleJourney, PtSituationElement; GTFS Realtime
--- 2.0, FeedMessage).
+-- What the commands publish, in the words of the two standards (SIRI 2.0, EstimatedVehicleJourney, PtSituationElement;
+-- GTFS Realtime 2.0, FeedMessage).
 use Rattle.std.specs.Prelude.{◌≡◌, ◌≢◌, ℕ, pos, List, Option, Some, None, Ok, IfSome}
 use Rattle.gw_base.specs.Directory.{bytes_of}
 use Rattle.gw_base.specs.Told.{with_bytes}
@@ -32,18 +32,18 @@ abbrev pub IsZone : NamedZone → Directory → Rules → Type 0
 IsZone (by_rule text) files zone = IsRuleZone text zone
 IsZone (by_file path) files zone = (bytes : List ℕ) × (bytes_of files path ≡ Some bytes) × IsTableZone bytes zone
 
--- the folder has a timetable, and the days make a window in the zone that is named, of which so many days are kept as it rolls,
--- or which stays: together they are the setting
+-- the folder has a timetable, and the days make a window in the zone that is named, of which so many days are kept as
+-- it rolls, or which stays: together they are the setting
 pub record IsSetting (over : Scope) (keep : Option ℕ) (files : Directory) (setting : Setting) : Type 0 where
   pub folder : timetable files over.gtfs ≡ Ok (seen setting.table)
   pub zone : IsZone over.zone files setting.zone
   pub window : IsWindow setting.zone over.from over.days setting.window
   pub keeps : setting.keep ≡ keep
 
--- standard output got the feed that is rebuilt of what arrived of the files' deliveries, in order, each taken behind those
--- before. Read as protobuf, its bytes mean a full dataset of version 2.0, made at the moment of the command; and this feed,
--- propagated by GTFS Realtime's rules, gives every stop of every journey exactly the time, skip or absence of the
--- last-recorded SIRI journey
+-- standard output got the feed that is rebuilt of what arrived of the files' deliveries, in order, each taken behind
+-- those before. Read as protobuf, its bytes mean a full dataset of version 2.0, made at the moment of the command; and
+-- this feed, propagated by GTFS Realtime's rules, gives every stop of every journey exactly the time, skip or absence
+-- of the last-recorded SIRI journey
 pub record PublishesFeed (command : ToGtfsrt) (files : Directory) (before now : Option (List ℕ)) : Type 0 where
   pub setting : Setting
   pub over : IsSetting command.over None files setting
@@ -62,8 +62,8 @@ pub record IsFullFeed (name : List ℕ) (files : Directory) (feed : Feed) : Type
   pub means : MeansFeed body feed
   pub full : feed.incrementality ≢ pos 1
 
--- standard output got the delivery that says what the file's feed says: each call has the propagated time of its stop, and read
--- again it gives just the journeys of the feed with their readings
+-- standard output got the delivery that says what the file's feed says: each call has the propagated time of its stop,
+-- and read again it gives just the journeys of the feed with their readings
 pub record PublishesSiri (command : ToSiri) (files : Directory) (before now : Option (List ℕ)) : Type 0 where
   pub setting : Setting
   pub over : IsSetting command.over None files setting
@@ -74,8 +74,9 @@ pub record PublishesSiri (command : ToSiri) (files : Directory) (before now : Op
   pub report : Report
   pub says : IsSiri (schedule_in setting) feed command.at text report
 
--- standard output got the delivery that says the alerts of the file's feed: read again it gives just the situations of those that
--- are taken, in order, each of which is served, and the alert of each has the sense of the one that it came from
+-- standard output got the delivery that says the alerts of the file's feed: read again it gives just the situations of
+-- those that are taken, in order, each of which is served, and the alert of each has the sense of the one that it came
+-- from
 pub record PublishesSituations (command : ToSiri) (files : Directory) (before now : Option (List ℕ)) : Type 0 where
   pub setting : Setting
   pub over : IsSetting command.over None files setting

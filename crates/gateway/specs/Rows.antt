@@ -24,9 +24,11 @@ abbrev pub pair_of : Pair → table.Pair
 pair_of pair = record { flags = map (λ flag. flag.now) pair.flags.now; form = form_of pair.form }
 
 abbrev pub row_of : Command → table.Command
-row_of command = record { name = command.name.now; pairs = map pair_of command.pairs.now; repeated = pair_of command.repeated }
+row_of command =
+    record { name = command.name.now; pairs = map pair_of command.pairs.now; repeated = pair_of command.repeated }
 
 -- there is a command, and each pair has a flag: what a table owes, since each form can be met
 abbrev pub have_flags : List Command → Bool
 have_flags commands =
-    nat_lt 0 (length commands) && list_all (λ command. list_all (λ pair. nat_lt 0 (length pair.flags.now)) command.pairs.now) commands
+    nat_lt 0 (length commands) && list_all (λ command. list_all
+    (λ pair. nat_lt 0 (length pair.flags.now)) command.pairs.now) commands

@@ -1,4 +1,5 @@
--- How a run of the program ends: its status, what standard output and standard error got, and what a server did at its door.
+-- How a run of the program ends: its status, what standard output and standard error got, and what a server did at its
+-- door.
 use Rattle.std.specs.Prelude.{◌≡◌, ◌≤◌, ◌⊎◌, ℕ, ℤ, List, ◌++◌, length, take, codes, decimal, Some, Result, Ok, Err, IfSome}
 use Rattle.gw_base.specs.Answers.{UnlessFree}
 use Rattle.gw_base.specs.Changes.{Change}
@@ -117,25 +118,27 @@ CountsFaults setting besides doorway =
     (told : Connections) → Tells doorway.output.before doorway.before told
     → HasCounted setting told doorway.now besides doorway.output doorway.clock
 
--- a server whose connections came to an end: with status 0 and nothing told; or with 74 where its door failed, which is one
--- fault besides those of the connections
+-- a server whose connections came to an end: with status 0 and nothing told; or with 74 where its door failed, which is
+-- one fault besides those of the connections
 abbrev pub EndsServing : Setting → ℕ → Change (List ℕ) → Doorway → Type 0
 EndsServing setting ended err doorway =
     ((ended ≡ 0) × GotNothing err × CountsFaults setting 0 doorway)
     ⊎ (HasFailed doorway.output × TellsEnd 74 (codes "failed") ended err × CountsFaults setting 1 doorway)
 
--- a server ends as what it is to work over comes out: early, before its first connection, or behind its connections; and it
--- served what came to a door that tells its connections
+-- a server ends as what it is to work over comes out: early, before its first connection, or behind its connections;
+-- and it served what came to a door that tells its connections
 abbrev pub EndsServer : Serve → Result Setting Exit → ℕ → Change (List ℕ) → Doorway → Type 0
-EndsServer command (Err exit) ended err doorway = TellsEnd (status_of exit) (text_of exit) ended err × IsUncalled doorway
+EndsServer command (Err exit) ended err doorway =
+    TellsEnd (status_of exit) (text_of exit) ended err × IsUncalled doorway
 EndsServer command (Ok setting) ended err doorway =
     EndsServing setting ended err doorway
     × ((told : Connections) → Tells doorway.output.before doorway.before told
     → Served (HasFailed doorway.output) (ended ≡ 0) command.connections setting told doorway.clock doorway.now)
 
--- a run of a server: it opens over the files that are told, and ends early by a failed device only where the files failed, or
--- for want of memory
-pub record RunsServer (command : Serve) (ended : ℕ) (files : Change Directory) (err : Change (List ℕ)) (doorway : Doorway) : Type 0 where
+-- a run of a server: it opens over the files that are told, and ends early by a failed device only where the files
+-- failed, or for want of memory
+pub record RunsServer (command : Serve) (ended : ℕ) (files : Change Directory) (err : Change (List ℕ))
+    (doorway : Doorway) : Type 0 where
   pub answer : Result Setting Exit
   pub work : IfSome files.before (λ told. UnlessFree is_free answer (SettingOf command.over (Some command.keep) told))
   pub cause : answer ≡ Err Failed → HasFailed files
@@ -149,4 +152,5 @@ pub record IsServing (words : List (List ℕ)) (ended : ℕ) (outside : Outside)
 
 -- a run of any words, which ended with that status
 abbrev pub IsRun : List (List ℕ) → ℕ → Outside → Type 0
-IsRun words ended outside = IsTurnedAway words ended outside ⊎ IsCarriedOut words ended outside ⊎ IsServing words ended outside
+IsRun words ended outside =
+    IsTurnedAway words ended outside ⊎ IsCarriedOut words ended outside ⊎ IsServing words ended outside

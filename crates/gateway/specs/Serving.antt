@@ -14,10 +14,11 @@ pub record HasLogged (told : Connections) (now : Beside) (entries : List Entry) 
   pub tells : now.told ≡ Some left
   pub log : left.log ≡ told.log ++ entries
 
--- the connections that were served: their entries are the door's next inputs in order, at most so many, and where that came to its
--- end so many or all that were to come; their moments are those that the clock gave, fewer only where its count rose; and each is
--- lawful behind what arrived of those before it
-pub record Served (Cause End : Type 0) (most : ℕ) (setting : Setting) (told : Connections) (clock : Change (List ℤ)) (now : Beside) : Type 0 where
+-- the connections that were served: their entries are the door's next inputs in order, at most so many, and where that
+-- came to its end so many or all that were to come; their moments are those that the clock gave, fewer only where its
+-- count rose; and each is lawful behind what arrived of those before it
+pub record Served (Cause End : Type 0) (most : ℕ) (setting : Setting) (told : Connections) (clock : Change (List ℤ))
+    (now : Beside) : Type 0 where
   pub entries : List Entry
   pub left : Connections
   pub logged : HasLogged told now entries left
@@ -29,8 +30,8 @@ pub record Served (Cause End : Type 0) (most : ℕ) (setting : Setting) (told : 
   pub arrived : List Arrival
   pub lawful : IsLawfulLog Cause setting [] entries arrived
 
--- each entry that is lost or shorter than its answer, and so many faults besides, have a fault of their own in the count of the door, and
--- each entry for which the clock failed has one in the clock's
+-- each entry that is lost or shorter than its answer, and so many faults besides, have a fault of their own in the
+-- count of the door, and each entry for which the clock failed has one in the clock's
 abbrev pub HasCounted : {Told Given : Type 0} → Setting → Connections → Beside → ℕ → Change Told → Change Given → Type 0
 HasCounted setting told now besides door clock =
     (entries : List Entry) (left : Connections) → HasLogged told now entries left

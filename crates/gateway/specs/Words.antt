@@ -103,23 +103,23 @@ pub record Scope : Type 0 where
   pub from : ℤ
   pub days : ℕ
 
--- what the words of `serve` say: what it works over, how many days before the local one are kept, the address, and how many
--- connections are served
+-- what the words of `serve` say: what it works over, how many days before the local one are kept, the address, and how
+-- many connections are served
 pub record Serve : Type 0 where
   pub over : Scope
   pub keep : ℕ
   pub listen : List ℕ
   pub connections : ℕ
 
--- what the words of `to-gtfsrt` say: what it works over, the second since 1970 at which the feed is made, and the words of the
--- deliveries, for each a flag and a file
+-- what the words of `to-gtfsrt` say: what it works over, the second since 1970 at which the feed is made, and the words
+-- of the deliveries, for each a flag and a file
 pub record ToGtfsrt : Type 0 where
   pub over : Scope
   pub at : ℤ
   pub more : List (List ℕ)
 
--- what the words of `to-siri` and of `to-siri-sx` say: what it works over, the second at which the delivery is made, and the feed's
--- file
+-- what the words of `to-siri` and of `to-siri-sx` say: what it works over, the second at which the delivery is made,
+-- and the feed's file
 pub record ToSiri : Type 0 where
   pub over : Scope
   pub at : ℤ
@@ -152,7 +152,8 @@ pub data Job : Type 0 where
 -- the words say this: the value of the pair of number n, from 0 on, is the word of number 2n + 2
 pub record SaysScope (words : List (List ℕ)) (scope : Scope) : Type 0 where
   pub gtfs : slice_get words 2 ≡ Some scope.gtfs
-  pub zone : (flag value : List ℕ) × (slice_get words 3 ≡ Some flag) × (slice_get words 4 ≡ Some value) × (scope.zone ≡ zone_by flag value)
+  pub zone : (flag value : List ℕ) × (slice_get words 3 ≡ Some flag) × (slice_get words 4 ≡ Some value)
+      × (scope.zone ≡ zone_by flag value)
   pub from : option_and_then beginning (slice_get words 6) ≡ Some scope.from
   pub days : option_and_then day_count (slice_get words 8) ≡ Some scope.days
 

@@ -1,5 +1,5 @@
--- The order of work of the commands: the timetable, the zone, the window, each further file and its content. Each step finds
--- something or ends the work, and the first end counts.
+-- The order of work of the commands: the timetable, the zone, the window, each further file and its content. Each step
+-- finds something or ends the work, and the first end counts.
 use Rattle.std.specs.Prelude.{◌≡◌, ℕ, ℤ, pos, List, [], ◌∷◌, ◌++◌, codes, length, nat_le, if◌then◌else◌, Bool, true, false, Option, Some, None, IfSome, Result, Ok, Err}
 use Rattle.std.specs.Bool.{MatchBool}
 use Rattle.std.specs.Ordering.{int_eq}
@@ -102,10 +102,11 @@ Zone (by_file path) files = do
 abbrev pub Found : {A : Type 0} → A → Result A Exit → Type 0
 Found found answer = answer ≡ Ok found
 
--- the timetable and the zone, with the window of so many days from the first on in that zone, and how many days are kept of it as
--- it rolls: without a number it stays
+-- the timetable and the zone, with the window of so many days from the first on in that zone, and how many days are
+-- kept of it as it rolls: without a number it stays
 abbrev pub Windowed : Timetable → Rules → ℤ → ℕ → Option ℕ → Result Setting Exit → Type 0
-Windowed table zone first days keep (Ok setting) = (setting.table ≡ table) × (setting.zone ≡ zone) × IsWindow zone first days setting.window × (setting.keep ≡ keep)
+Windowed table zone first days keep (Ok setting) =
+    (setting.table ≡ table) × (setting.zone ≡ zone) × IsWindow zone first days setting.window × (setting.keep ≡ keep)
 Windowed table zone first days keep (Err end) = ⊥
 
 -- the zone and the window behind a timetable
@@ -253,7 +254,8 @@ ToSiriSxWork command files = do
 -- the lines of what a feed says
 abbrev pub LinesOf : Setting → Feed → Result Done Exit → Type 0
 LinesOf setting feed (Ok done) =
-    (reading : FeedReading) × IsReading (schedule_in setting) feed reading × (done.out ≡ shown_lines (schedule_in setting) reading) × (done.err ≡ [])
+    (reading : FeedReading) × IsReading (schedule_in setting) feed reading
+    × (done.out ≡ shown_lines (schedule_in setting) reading) × (done.err ≡ [])
 LinesOf setting feed (Err end) = ⊥
 
 abbrev pub LinesOfFile : Setting → List ℕ → Directory → Result Done Exit → Type 0

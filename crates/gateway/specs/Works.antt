@@ -20,7 +20,13 @@ scope_of over = record { gtfs = over.gtfs.now; zone = zone_of over.zone; from = 
 
 -- what `serve` says
 abbrev pub server_of : Server → Serve
-server_of server = record { over = scope_of server.over; keep = server.keep; listen = server.listen.now; connections = server.connections }
+server_of server =
+    record {
+      over = scope_of server.over;
+      keep = server.keep;
+      listen = server.listen.now;
+      connections = server.connections;
+    }
 
 -- what a command says that writes its result and ends
 abbrev pub task_of : Task → SaidTask

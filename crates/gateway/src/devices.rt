@@ -1,5 +1,5 @@
-//! The real files and streams. They count their faults and tell nothing of their content, but what is read and written goes
-//! where std's own reads and writes say.
+//! The real files and streams. They count their faults and tell nothing of their content, but what is read and written
+//! goes where std's own reads and writes say.
 ghost use Rattle.std.specs.Prelude.{◌≡◌, ◌<◌, ◌≤◌, ◌++◌, ◌+◌, ℕ, List, None, length, take, min, IfOk, IfSome, IsErr, IsErrOf, OnOk};
 ghost use Rattle.std.specs.Io.KnownBytes.{WriteAppends};
 ghost use Rattle.gw_base.specs.Count.{Counts, last_count};

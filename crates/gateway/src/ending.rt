@@ -18,7 +18,8 @@ const BAD_WORD_ROOM: usize = 32;
 
 // Writes a text as the program's line on standard error.
 fn put_line<E: Sink>(err: &mut E, text: &str) -> Result<(), Failed>
-    ensures front { PutsUnless (Rose (E.faults err.old) (E.faults err.new)) (E.told err.old) (E.told err.new) (line text.now) }
+    ensures front { PutsUnless (Rose (E.faults err.old) (E.faults err.new)) (E.told err.old) (E.told err.new)
+        (line text.now) }
     ensures counts { Counts (IsErr result) (E.faults err.old) (E.faults err.new) }
     ensures others { E.beside err.new ≡ E.beside err.old }
 {
@@ -30,7 +31,8 @@ fn put_line<E: Sink>(err: &mut E, text: &str) -> Result<(), Failed>
 /// Ends a run with an exit's line and status. The status stays where the line can't be written.
 pub fn ended<E: Sink>(err: &mut E, exit: &Exit) -> u8
     ensures status { result ≡ status_of exit.now }
-    ensures front { PutsUnless (Rose (E.faults err.old) (E.faults err.new)) (E.told err.old) (E.told err.new) (line (text_of exit.now)) }
+    ensures front { PutsUnless (Rose (E.faults err.old) (E.faults err.new)) (E.told err.old) (E.told err.new)
+        (line (text_of exit.now)) }
     ensures counts { E.faults err.old ≤ E.faults err.new }
     ensures others { E.beside err.new ≡ E.beside err.old }
 {
@@ -41,7 +43,8 @@ pub fn ended<E: Sink>(err: &mut E, exit: &Exit) -> u8
 /// Ends a run of words that are no command's from that word on. Takes no memory.
 pub fn turned_away<E: Sink>(err: &mut E, at: u64) -> u8
     ensures status { result ≡ 2 }
-    ensures front { PutsUnless (Rose (E.faults err.old) (E.faults err.new)) (E.told err.old) (E.told err.new) (line (codes "bad word " ++ decimal at)) }
+    ensures front { PutsUnless (Rose (E.faults err.old) (E.faults err.new)) (E.told err.old) (E.told err.new)
+        (line (codes "bad word " ++ decimal at)) }
     ensures counts { E.faults err.old ≤ E.faults err.new }
     ensures others { E.beside err.new ≡ E.beside err.old }
 {

@@ -31,7 +31,8 @@ pub fn further_file<F: Files>(
     name: &str,
     limit: u64,
 ) -> Result<Bytes, Exit>
-    ensures told { IfSome (F.told files.old) (λ told. UnlessFree is_free result (steps.FurtherFile limit name.now told)) }
+    ensures told { IfSome (F.told files.old) (λ told. UnlessFree is_free result
+        (steps.FurtherFile limit name.now told)) }
     ensures counts { Counts (IsErrOf result Exit.Failed) (F.faults files.old) (F.faults files.new) }
     ensures same { F.told files.new ≡ F.told files.old }
 {

@@ -1,4 +1,5 @@
-//! A run of `serve`: it opens over its files, and then serves connections. The definitions are those of `specs/Runs.antt`.
+//! A run of `serve`: it opens over its files, and then serves connections. The definitions are those of
+//! `specs/Runs.antt`.
 ghost use Rattle.std.specs.Prelude.{◌≡◌, ◌≤◌, [], List, false, IfOk, IsErr, IsOk, OnErr};
 ghost use Rattle.gw_base.specs.Changes.{change};
 ghost use Rattle.gw_base.specs.Connections.{Connections};
@@ -19,8 +20,8 @@ use gw_base::{Bytes, Clock, Door, Failed, Files, Sink};
 use http_talk::HeadReader;
 use std::alloc::{AllocError, Global};
 
-// Serves so many connections over a setting, or all that come. All memory but that for what is posted is taken before the first
-// one.
+// Serves so many connections over a setting, or all that come. All memory but that for what is posted is taken before
+// the first one.
 fn served<D: Door, C: Clock>(
     alloc: Global,
     setting: Setting,
@@ -54,8 +55,8 @@ fn served<D: Door, C: Clock>(
     ))
 }
 
-/// Serves over the files, and answers the status: 0 where so many connections were served or none is to come, 74 where the files
-/// failed or the door, 71 for want of memory before the first connection.
+/// Serves over the files, and answers the status: 0 where so many connections were served or none is to come, 74 where
+/// the files failed or the door, 71 for want of memory before the first connection.
 
 pub fn run_server<F: Files, D: Door, C: Clock, E: Sink>(
     alloc: Global,

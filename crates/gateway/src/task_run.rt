@@ -19,10 +19,14 @@ use std::alloc::Global;
 
 // Writes what a command writes: all to `out`, then all to `err`.
 fn written<S: Sink, E: Sink>(out: &mut S, err: &mut E, done: &Done) -> Result<(), Failed>
-    ensures all { OnOk result ((S.told out.new ≡ with_bytes (S.told out.old) done.now.out) × (E.told err.new ≡ with_bytes (E.told err.old) done.now.err)) }
-    ensures out { PutsUnless (Rose (S.faults out.old) (S.faults out.new)) (S.told out.old) (S.told out.new) done.now.out }
-    ensures err { (n : ℕ) × (n ≤ length done.now.err) × (E.told err.new ≡ with_bytes (E.told err.old) (take n done.now.err)) }
-    ensures cause { IsErr result → Rose (S.faults out.old) (S.faults out.new) ⊎ Rose (E.faults err.old) (E.faults err.new) }
+    ensures all { OnOk result ((S.told out.new ≡ with_bytes (S.told out.old) done.now.out)
+        × (E.told err.new ≡ with_bytes (E.told err.old) done.now.err)) }
+    ensures out { PutsUnless (Rose (S.faults out.old) (S.faults out.new)) (S.told out.old)
+        (S.told out.new) done.now.out }
+    ensures err { (n : ℕ) × (n ≤ length done.now.err)
+        × (E.told err.new ≡ with_bytes (E.told err.old) (take n done.now.err)) }
+    ensures cause { IsErr result → Rose (S.faults out.old) (S.faults out.new)
+        ⊎ Rose (E.faults err.old) (E.faults err.new) }
     ensures counts { (S.faults out.old ≤ S.faults out.new) × (E.faults err.old ≤ E.faults err.new) }
     ensures others { (S.beside out.new ≡ S.beside out.old) × (E.beside err.new ≡ E.beside err.old) }
 {
@@ -30,8 +34,8 @@ fn written<S: Sink, E: Sink>(out: &mut S, err: &mut E, done: &Done) -> Result<()
     put_all(err, done.err())
 }
 
-/// Carries out a command over the files, and answers the status. Nothing is written to `out` before all input was read and
-/// accepted.
+/// Carries out a command over the files, and answers the status. Nothing is written to `out` before all input was read
+/// and accepted.
 
 pub fn run_task<F: Files, S: Sink, E: Sink>(
     alloc: Global,

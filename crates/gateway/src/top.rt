@@ -33,11 +33,13 @@ pub fn gateway<F: Files, D: Door, C: Clock, S: Sink, E: Sink>(
 ) -> u8
     requires { (D.beside door.old).present ≡ false }
 
-    // The headline, over the log of this call, where the files are told and the door tells its connections. Over any connections,
-    // each feed served, read as protobuf and propagated by GTFS Realtime's rules, gives every stop of every dated journey in the
-    // window exactly the time, skip or absence of the last-recorded SIRI journey taken before it; each SIRI text served gives every
-    // call the propagated time of the last accepted feed; the feed's bytes are those rebuilt from all deliveries taken.
-    ensures headline { IfSome (F.told files.old) (λ folder. (told : Connections) → Tells (D.told door.old) (D.beside door.old) told
+    // The headline, over the log of this call, where the files are told and the door tells its connections. Over any
+    // connections, each feed served, read as protobuf and propagated by GTFS Realtime's rules, gives every stop of
+    // every dated journey in the window exactly the time, skip or absence of the last-recorded SIRI journey taken
+    // before it; each SIRI text served gives every call the propagated time of the last accepted feed; the feed's bytes
+    // are those rebuilt from all deliveries taken.
+    ensures headline { IfSome (F.told files.old) (λ folder. (told : Connections)
+        → Tells (D.told door.old) (D.beside door.old) told
         → Headline (Rose (D.faults door.old) (D.faults door.new)) words.now folder told (D.beside door.new)) }
 
     // The status, and what the devices show before and after: how the run ended, by its words.
@@ -57,9 +59,10 @@ pub fn gateway<F: Files, D: Door, C: Clock, S: Sink, E: Sink>(
     // taken, or what else; and of `make` the counts of its sample, whatever is told.
     ensures publishes { result ≡ 0 → Publishes words.now (F.told files.old) (S.told out.old) (S.told out.new) }
 
-    // With words of no command no device but `err` is called; other commands than `serve` call neither door nor clock, and
-    // `make` calls no files either.
-    ensures uncalled { result ≡ 2 → (files.new ≡ files.old) × (out.new ≡ out.old) × (door.new ≡ door.old) × (clock.new ≡ clock.old) }
+    // With words of no command no device but `err` is called; other commands than `serve` call neither door nor clock,
+    // and `make` calls no files either.
+    ensures uncalled { result ≡ 2 → (files.new ≡ files.old) × (out.new ≡ out.old) × (door.new ≡ door.old)
+        × (clock.new ≡ clock.old) }
     ensures idle { (task : Task) → IsJob words.now (task_job task) → (door.new ≡ door.old) × (clock.new ≡ clock.old) }
     ensures unread { (command : Make) → IsJob words.now (task_job (make_task command)) → files.new ≡ files.old }
 
@@ -95,7 +98,8 @@ pub fn print<S: Sink>(out: &mut S, text: &str) -> u8
 /// Ends for want of memory, before any command was carried out.
 pub fn no_memory<E: Sink>(err: &mut E) -> u8
     ensures status { result ≡ 71 }
-    ensures front { PutsUnless (Rose (E.faults err.old) (E.faults err.new)) (E.told err.old) (E.told err.new) (line (codes "memory")) }
+    ensures front { PutsUnless (Rose (E.faults err.old) (E.faults err.new)) (E.told err.old) (E.told err.new)
+        (line (codes "memory")) }
     ensures counts { E.faults err.old ≤ E.faults err.new }
     ensures others { E.beside err.new ≡ E.beside err.old }
 {

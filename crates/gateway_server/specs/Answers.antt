@@ -48,16 +48,17 @@ mark_of (journeys records) = mark.Taken
 mark_of (situations all) = mark.Taken
 mark_of (feed one) = mark.Fed
 
--- a feed that is rebuilt from all that arrived; read as protobuf and propagated, it gives each journey the reading of its latest
--- record
+-- a feed that is rebuilt from all that arrived; read as protobuf and propagated, it gives each journey the reading of
+-- its latest record
 abbrev pub IsFeedShown : Setting → ℤ → List Arrival → List ℕ → Type 0
 IsFeedShown setting moment arrivals bytes =
     IsRebuiltOf setting moment arrivals bytes
     × GivesEach moment (schedule_at setting (moments_of arrivals)) (present setting arrivals) bytes
 
--- what a connection with this whole input is answered at a moment, and the mark that it gets: the refusal of its request; the
--- feed; the SIRI text; the refusal of its body; or the report on a body that is taken
-pub data IsAnswered (setting : Setting) (arrivals : List Arrival) (input : List ℕ) (moment : ℤ) (ends : Mark) (bytes : List ℕ) : Type 0 where
+-- what a connection with this whole input is answered at a moment, and the mark that it gets: the refusal of its
+-- request; the feed; the SIRI text; the refusal of its body; or the report on a body that is taken
+pub data IsAnswered (setting : Setting) (arrivals : List Arrival) (input : List ℕ) (moment : ℤ) (ends : Mark)
+    (bytes : List ℕ) : Type 0 where
   refused : (why : Refusal) → IsRequest input (Refused why)
       → ends ≡ mark.Refused (status_of why) → bytes ≡ refused_with why
       → IsAnswered setting arrivals input moment ends bytes

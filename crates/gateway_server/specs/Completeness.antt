@@ -1,5 +1,5 @@
--- What is well formed over what arrived before it, and how a connection ends that brings it (RFC 9112; SIRI 2.0, ServiceDelivery;
--- GTFS Realtime, FeedMessage).
+-- What is well formed over what arrived before it, and how a connection ends that brings it (RFC 9112; SIRI 2.0,
+-- ServiceDelivery; GTFS Realtime, FeedMessage).
 use Rattle.std.specs.Prelude.{◌≡◌, ◌≤◌, ℕ, ℤ, false, List, [], ◌∷◌, ◌++◌, length, map, filter, Some, Result, Ok}
 use Rattle.gw_base.specs.declared.door.Entry.{Entry}
 use Rattle.gw_base.specs.declared.door.Mark.{Mark}
@@ -29,18 +29,22 @@ use Rattle.gateway_server.specs.Log.{IsLawful}
 
 -- ---- what is well formed
 
--- the journeys that were admitted before and have days in the window, and those of these records, are together at most 50,000
+-- the journeys that were admitted before and have days in the window, and those of these records, are together at most
+-- 50,000
 abbrev pub JourneysHaveRoom : DayStarts → List Recorded → List Recorded → Type 0
-JourneysHaveRoom window before records = length (firsts is_same_journey (filter (is_within window) before ++ records)) ≤ most_journeys
+JourneysHaveRoom window before records =
+    length (firsts is_same_journey (filter (is_within window) before ++ records)) ≤ most_journeys
 
 -- the numbers that were admitted before, and those of these situations, are together at most 5,000
 abbrev pub NumbersHaveRoom : List Situation → List Situation → Type 0
 NumbersHaveRoom before given = length (firsts is_same_number (before ++ given)) ≤ most_numbers
 
--- a body is a delivery of journeys of which none has a fault at a moment, behind what arrived: it is JSON in the frame of a delivery;
--- each of its journeys gives a record, as its members have their forms, it names a trip on a day of the window on which that runs, its
--- calls match the trip's stops, and its delays are in range; and there is room. These are the records, and so many calls are passed over
-pub record IsSoundDelivery (setting : Setting) (arrivals : List Arrival) (moment : ℤ) (body : List ℕ) (records : List Recorded) (passed : ℕ) : Type 0 where
+-- a body is a delivery of journeys of which none has a fault at a moment, behind what arrived: it is JSON in the frame
+-- of a delivery; each of its journeys gives a record, as its members have their forms, it names a trip on a day of the
+-- window on which that runs, its calls match the trip's stops, and its delays are in range; and there is room. These
+-- are the records, and so many calls are passed over
+pub record IsSoundDelivery (setting : Setting) (arrivals : List Arrival) (moment : ℤ) (body : List ℕ)
+    (records : List Recorded) (passed : ℕ) : Type 0 where
   pub root : Data
   pub is_tree : tree_of body ≡ Some root
   pub all : List (Result (Recorded × ℕ) Fault)
@@ -50,7 +54,8 @@ pub record IsSoundDelivery (setting : Setting) (arrivals : List Arrival) (moment
   pub room : JourneysHaveRoom (window_at setting (moment ∷ moments_of arrivals)) (admitted setting arrivals) records
 
 -- the same of a delivery of situations, none of which has too long an alert. So many references aren't known
-pub record IsSoundSituations (setting : Setting) (arrivals : List Arrival) (moment : ℤ) (body : List ℕ) (given : List Situation) (passed : ℕ) : Type 0 where
+pub record IsSoundSituations (setting : Setting) (arrivals : List Arrival) (moment : ℤ) (body : List ℕ)
+    (given : List Situation) (passed : ℕ) : Type 0 where
   pub root : Data
   pub is_tree : tree_of body ≡ Some root
   pub all : List (Result (Situation × ℕ) Fault)
@@ -67,8 +72,10 @@ pub record IsSoundFeed (schedule : Schedule) (body : List ℕ) (one : Feed) : Ty
 
 -- ---- how a connection ends
 
--- the clock gave a connection this moment, its entry is lawful, and there is no cause for which an output may be cut short
-pub record IsUndisturbed (Cause : Type 0) (setting : Setting) (arrivals : List Arrival) (entry : Entry) (moment : ℤ) : Type 0 where
+-- the clock gave a connection this moment, its entry is lawful, and there is no cause for which an output may be cut
+-- short
+pub record IsUndisturbed (Cause : Type 0) (setting : Setting) (arrivals : List Arrival) (entry : Entry)
+    (moment : ℤ) : Type 0 where
   pub calm : ¬ Cause
   pub timed : entry.moment ≡ Some moment
   pub lawful : IsLawful Cause setting arrivals entry

@@ -18,7 +18,8 @@ pub record IsFresh (output : Option (List ℕ)) (beside : Beside) (told : Connec
 
 -- the clock was asked once: it gave this moment without a fault, or it failed, gave none and its count rose
 abbrev pub AsksClock : Change (List ℤ) → Option ℤ → Type 0
-AsksClock clock (Some moment) = (clock.before ≡ option_map (λ later. moment ∷ later) clock.now) × (clock.faults_now ≡ clock.faults_before)
+AsksClock clock (Some moment) =
+    (clock.before ≡ option_map (λ later. moment ∷ later) clock.now) × (clock.faults_now ≡ clock.faults_before)
 AsksClock clock None = (clock.now ≡ clock.before) × Rose clock.faults_before clock.faults_now
 
 -- the present connection was finished with this entry
@@ -26,9 +27,10 @@ pub record IsLogged (told : Connections) (now : Beside) (entry : Entry) : Type 0
   pub input : entry.input ≡ told.input
   pub log : now.told ≡ Some (record { coming = told.coming; input = []; unread = []; log = told.log ++ entry ∷ [] })
 
--- a connection, after which the log has one entry more, which is lawful behind what arrived before; a gateway that stood for
--- these arrivals stands for what arrived by its end, and nothing is written to the next connection yet
-pub record Serves (Cause : Type 0) (before : Kept) (arrivals : List Arrival) (told : Connections) (clock : Change (List ℤ)) (output : Option (List ℕ)) (beside : Beside) (now : Kept) : Type 0 where
+-- a connection, after which the log has one entry more, which is lawful behind what arrived before; a gateway that
+-- stood for these arrivals stands for what arrived by its end, and nothing is written to the next connection yet
+pub record Serves (Cause : Type 0) (before : Kept) (arrivals : List Arrival) (told : Connections)
+    (clock : Change (List ℤ)) (output : Option (List ℕ)) (beside : Beside) (now : Kept) : Type 0 where
   pub entry : Entry
   pub logged : IsLogged told beside entry
   pub unwritten : output ≡ Some []
@@ -43,10 +45,11 @@ pub record Tells (output : Option (List ℕ)) (beside : Beside) (told : Connecti
   pub tells : beside.told ≡ Some told
   pub written : (held : List ℕ) × (output ≡ Some held)
 
--- connections one after the other: the log got so many entries more, which are the next inputs of the door in order and lawful
--- behind what arrived before them; their moments are those that the clock gave, and there are fewer only where its count rose;
--- and a gateway that stood for these arrivals stands for what arrived by the end
-pub record ServesAll (Cause : Type 0) (before : Kept) (arrivals : List Arrival) (told : Connections) (clock : Change (List ℤ)) (output : Option (List ℕ)) (beside : Beside) (now : Kept) (count : ℕ) : Type 0 where
+-- connections one after the other: the log got so many entries more, which are the next inputs of the door in order and
+-- lawful behind what arrived before them; their moments are those that the clock gave, and there are fewer only where
+-- its count rose; and a gateway that stood for these arrivals stands for what arrived by the end
+pub record ServesAll (Cause : Type 0) (before : Kept) (arrivals : List Arrival) (told : Connections)
+    (clock : Change (List ℤ)) (output : Option (List ℕ)) (beside : Beside) (now : Kept) (count : ℕ) : Type 0 where
   pub entries : List Entry
   pub left : Connections
   pub tells : Tells output beside left
@@ -68,9 +71,11 @@ abbrev pub failures : {A E : Type 0} → Result A E → ℕ
 failures (Ok value) = 0
 failures (Err fault) = 1
 
--- the causes of entries, one by one: those that have one, for which alone an entry may be lost or its output shorter than its answer,
--- are with so many further faults no more than the door counted, and those for which the clock failed no more than the clock counted
-pub record CountsCauses (setting : Setting) (arrivals : List Arrival) (entries : List Entry) (further door_before door_now clock_before clock_now : ℕ) : Type 0 where
+-- the causes of entries, one by one: those that have one, for which alone an entry may be lost or its output shorter
+-- than its answer, are with so many further faults no more than the door counted, and those for which the clock failed
+-- no more than the clock counted
+pub record CountsCauses (setting : Setting) (arrivals : List Arrival) (entries : List Entry)
+    (further door_before door_now clock_before clock_now : ℕ) : Type 0 where
   pub causes : List Bool
   pub arrived : List Arrival
   pub lawful : IsCausedLog setting arrivals entries causes arrived

@@ -19,7 +19,8 @@ use Rattle.gateway_server.specs.Bodies.{Brings, RefusesBody}
 use Rattle.gateway_server.specs.Log.{IsLawful, Leaves}
 
 -- a GET puts the feed or the SIRI text
-pub data PutsShown (Cause : Type 0) (setting : Setting) (arrivals : List Arrival) (moment : ℤ) (target : Target) (before now : Option (List ℕ)) : Type 0 where
+pub data PutsShown (Cause : Type 0) (setting : Setting) (arrivals : List Arrival) (moment : ℤ) (target : Target)
+    (before now : Option (List ℕ)) : Type 0 where
   feed : (body : List ℕ) → target ≡ RtGet → IsFeedShown setting moment arrivals body
       → PutsUnless Cause before now (answer_of answer.Feed body)
       → PutsShown Cause setting arrivals moment target before now
@@ -28,12 +29,14 @@ pub data PutsShown (Cause : Type 0) (setting : Setting) (arrivals : List Arrival
       → PutsShown Cause setting arrivals moment target before now
 
 -- a POST puts the report on a body that is taken, or its refusal, after which all is as before
-pub data PutsTaken (Cause : Type 0) (kept : Kept) (arrivals : List Arrival) (moment : ℤ) (target : Target) (body : List ℕ) (ends : Mark) (before now : Option (List ℕ)) (after : Kept) : Type 0 where
+pub data PutsTaken (Cause : Type 0) (kept : Kept) (arrivals : List Arrival) (moment : ℤ) (target : Target)
+    (body : List ℕ) (ends : Mark) (before now : Option (List ℕ)) (after : Kept) : Type 0 where
   taken : (report : Report) (given : Given) → Brings kept.setting arrivals moment target body report given
       → ends ≡ mark_of given → PutsUnless Cause before now (answer_of answer.Json (report_json report))
       → Stands after (record { moment = moment; gives = given } ∷ arrivals)
       → PutsTaken Cause kept arrivals moment target body ends before now after
-  refused : (fault : BodyFault) → RefusesBody (schedule_at kept.setting (moment ∷ moments_of arrivals)) target body fault
+  refused : (fault : BodyFault) → RefusesBody (schedule_at kept.setting
+      (moment ∷ moments_of arrivals)) target body fault
       → ends ≡ mark.Refused 400 → PutsUnless Cause before now (refused_with (refusal.Body fault)) → after ≡ kept
       → PutsTaken Cause kept arrivals moment target body ends before now after
   no_memory : ends ≡ mark.Memory → PutsUnless Cause before now (refused_with refusal.Memory) → after ≡ kept
@@ -44,7 +47,8 @@ abbrev pub entry_at : List ℕ → ℤ → Mark → List ℕ → Entry
 entry_at input moment ends output = record { input = input; mark = ends; moment = Some moment; output = output }
 
 -- a connection has this output by its end, and its entry is lawful
-pub record Answers (Cause : Type 0) (setting : Setting) (arrivals : List Arrival) (input : List ℕ) (moment : ℤ) (ends : Mark) (output : Option (List ℕ)) (now : Kept) : Type 0 where
+pub record Answers (Cause : Type 0) (setting : Setting) (arrivals : List Arrival) (input : List ℕ) (moment : ℤ)
+    (ends : Mark) (output : Option (List ℕ)) (now : Kept) : Type 0 where
   pub written : List ℕ
   pub told : output ≡ Some written
   pub lawful : IsLawful Cause setting arrivals (entry_at input moment ends written)

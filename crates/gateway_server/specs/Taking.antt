@@ -19,7 +19,8 @@ use Rattle.gateway_server.specs.Bodies.{Brings, RefusesBody}
 use Rattle.gateway_server.specs.declared.took.Took.{Took}
 use Rattle.gateway_server.specs.declared.took.Took.TheVariants.{Taken, Refused, NoMemory}
 
--- it was taken, and a gateway stands for one arrival more; or it was refused, or there was no memory for it, and all is as before
+-- it was taken, and a gateway stands for one arrival more; or it was refused, or there was no memory for it, and all is
+-- as before
 abbrev pub TookBody : Kept → List Arrival → ℤ → Target → List ℕ → Took → Kept → Type 0
 TookBody kept arrivals moment target body (Taken ends text) now =
     (report : Report) × (given : Given) × Brings kept.setting arrivals moment target body report given

@@ -20,23 +20,28 @@ ghost use Rattle.gateway_server.specs.Completeness.{EndsWith, IsSoundDelivery, I
 
 use feed_messages::the_feed_is_one;
 
-/// What is well formed is taken, and what is asked for is shown (RFC 9112, section 3; SIRI 2.0, ServiceDelivery; GTFS Realtime,
-/// FeedMessage). Over any two values of a door's count of faults between which it didn't rise, a connection that has a moment
-/// and whose entry is lawful ends with the whole answer: a delivery without a fault is taken and nothing of it is set aside, and
-/// a full dataset without a fault is taken, or there was no memory for it; and the feed and the SIRI text are shown.
+/// What is well formed is taken, and what is asked for is shown (RFC 9112, section 3; SIRI 2.0, ServiceDelivery; GTFS
+/// Realtime, FeedMessage). Over any two values of a door's count of faults between which it didn't rise, a connection
+/// that has a moment and whose entry is lawful ends with the whole answer: a delivery without a fault is taken and
+/// nothing of it is set aside, and a full dataset without a fault is taken, or there was no memory for it; and the feed
+/// and the SIRI text are shown.
 pub fn what_is_well_formed_is_taken()
-    ensures journeys { (before now : ℕ) (setting : settings.Setting) (arrivals : List Arrival) (entry : Entry) (moment : ℤ)
+    ensures journeys { (before now : ℕ) (setting : settings.Setting) (arrivals : List Arrival) (entry : Entry)
+        (moment : ℤ)
         (body : List ℕ) (records : List Recorded) (passed : ℕ)
         → IsUndisturbed (Rose before now) setting arrivals entry moment
         → IsRequest entry.input (Post EtPost body)
         → IsSoundDelivery setting arrivals moment body records passed
-        → EndsWith entry mark.Taken (answer_of answer.Json (report_json (none_aside (length records) passed))) ⊎ WantsMemory entry }
-    ensures situations { (before now : ℕ) (setting : settings.Setting) (arrivals : List Arrival) (entry : Entry) (moment : ℤ)
+        → EndsWith entry mark.Taken (answer_of answer.Json (report_json (none_aside (length records) passed)))
+        ⊎ WantsMemory entry }
+    ensures situations { (before now : ℕ) (setting : settings.Setting) (arrivals : List Arrival) (entry : Entry)
+        (moment : ℤ)
         (body : List ℕ) (given : List Situation) (passed : ℕ)
         → IsUndisturbed (Rose before now) setting arrivals entry moment
         → IsRequest entry.input (Post SxPost body)
         → IsSoundSituations setting arrivals moment body given passed
-        → EndsWith entry mark.Taken (answer_of answer.Json (report_json (none_aside (length given) passed))) ⊎ WantsMemory entry }
+        → EndsWith entry mark.Taken (answer_of answer.Json (report_json (none_aside (length given) passed)))
+        ⊎ WantsMemory entry }
     ensures feed { (before now : ℕ) (setting : settings.Setting) (arrivals : List Arrival) (entry : Entry) (moment : ℤ)
         (body : List ℕ) (one : Feed)
         → IsUndisturbed (Rose before now) setting arrivals entry moment
@@ -44,12 +49,14 @@ pub fn what_is_well_formed_is_taken()
         → IsSoundFeed (schedule_at setting (moment ∷ moments_of arrivals)) body one
         → ((report : Report) × TakesFeed setting arrivals moment body report one
         × EndsWith entry mark.Fed (answer_of answer.Json (report_json report))) ⊎ WantsMemory entry }
-    ensures feed_shown { (before now : ℕ) (setting : settings.Setting) (arrivals : List Arrival) (entry : Entry) (moment : ℤ)
+    ensures feed_shown { (before now : ℕ) (setting : settings.Setting) (arrivals : List Arrival) (entry : Entry)
+        (moment : ℤ)
         → IsUndisturbed (Rose before now) setting arrivals entry moment
         → IsRequest entry.input (Get RtGet)
         → (body : List ℕ) × IsFeedShown setting moment arrivals body
         × EndsWith entry mark.Shown (answer_of answer.Feed body) }
-    ensures text_shown { (before now : ℕ) (setting : settings.Setting) (arrivals : List Arrival) (entry : Entry) (moment : ℤ)
+    ensures text_shown { (before now : ℕ) (setting : settings.Setting) (arrivals : List Arrival) (entry : Entry)
+        (moment : ℤ)
         → IsUndisturbed (Rose before now) setting arrivals entry moment
         → IsRequest entry.input (Get EtGet)
         → (body : List ℕ) × IsLastSiri setting arrivals body

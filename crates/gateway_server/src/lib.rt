@@ -1,5 +1,5 @@
-//! The server's one step: a connection is read, answered and logged (RFC 9112), over a gateway. What an entry of the log may be is
-//! `IsLawful` of `specs/Log.antt`.
+//! The server's one step: a connection is read, answered and logged (RFC 9112), over a gateway. What an entry of the
+//! log may be is `IsLawful` of `specs/Log.antt`.
 #![tactic(auto)]
 
 mod answering;

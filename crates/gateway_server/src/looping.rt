@@ -14,10 +14,11 @@ use gw_base::{Bytes, Clock, Door, Failed};
 use http_talk::HeadReader;
 use std::alloc::Global;
 
-/// Serves connections until none is to come or so many were served; Failed is a fault of the door in `next`, which ends it.
-/// Where the door tells its connections, each has its entry in the log, which is lawful behind what arrived before it. The entries that
-/// are lost or cut short are, with that fault of the door, no more than the faults that the door counted, and those for which the clock
-/// failed no more than the clock counted. `body` holds at most 16,777,216 bytes, where it did before.
+/// Serves connections until none is to come or so many were served; Failed is a fault of the door in `next`, which ends
+/// it. Where the door tells its connections, each has its entry in the log, which is lawful behind what arrived before
+/// it. The entries that are lost or cut short are, with that fault of the door, no more than the faults that the door
+/// counted, and those for which the clock failed no more than the clock counted. `body` holds at most 16,777,216 bytes,
+/// where it did before.
 pub fn serve<D: Door, C: Clock>(
     alloc: Global,
     gate: &mut Gateway,
@@ -34,7 +35,8 @@ pub fn serve<D: Door, C: Clock>(
         × ServesAll (Rose (D.faults door.old) (D.faults door.new)) gate.old arrivals told
         (change C.told C.faults clock.old clock.new) (D.told door.new) (D.beside door.new) gate.new count
         × OnOk result ((count ≡ connections) ⊎ IsEnd (D.beside door.new)) }
-    ensures causes { (told left : Connections) → Tells (D.told door.old) (D.beside door.old) told → (D.beside door.new).told ≡ Some left
+    ensures causes { (told left : Connections) → Tells (D.told door.old) (D.beside door.old) told
+        → (D.beside door.new).told ≡ Some left
         → (arrivals : List Arrival) → Stands gate.old arrivals
         → (logged : List entries.Entry) → left.log ≡ told.log ++ logged
         → CountsCauses gate.old.setting arrivals logged (failures result) (D.faults door.old) (D.faults door.new)

@@ -107,9 +107,10 @@ fn answer<D: Door>(
     }
 }
 
-/// Serves the present connection: the clock is asked once, the request is read, what is posted is taken and what is asked for is
-/// answered, and the connection is finished, whatever fails (RFC 9112). Where the door tells its connections, the log has one entry
-/// more, which is lawful behind what arrived before. `body` holds at most 16,777,216 bytes, where it did before.
+/// Serves the present connection: the clock is asked once, the request is read, what is posted is taken and what is
+/// asked for is answered, and the connection is finished, whatever fails (RFC 9112). Where the door tells its
+/// connections, the log has one entry more, which is lawful behind what arrived before. `body` holds at most 16,777,216
+/// bytes, where it did before.
 pub fn serve_one<D: Door, C: Clock>(
     alloc: Global,
     gate: &mut Gateway,

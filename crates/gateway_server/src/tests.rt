@@ -21,7 +21,10 @@ type Row = (&'static [u8], Mark, Answer, &'static [u8]);
 const NO_ENTITY: &[u8] = b"\x0a\x0d\x0a\x032.0\x10\x00\x18\xe0\xb4\xc7\xb1\x06";
 
 const NO_JOURNEY: &[u8] =
-    b"{\"Siri\":{\"ServiceDelivery\":{\"EstimatedTimetableDelivery\":[{\"EstimatedJourneyVersionFrame\":[{\"EstimatedVehicleJourney\":[],\"RecordedAtTime\":\"1970-01-01T00:00:00Z\"}],\"ResponseTimestamp\":\"1970-01-01T00:00:00Z\",\"version\":\"2.0\"}],\"ResponseTimestamp\":\"1970-01-01T00:00:00Z\"}}}";
+    b"{\"Siri\":{\"ServiceDelivery\":{\"EstimatedTimetableDelivery\":[{\"EstimatedJourneyVersionFrame\":[{\
+      \"EstimatedVehicleJourney\":[],\"RecordedAtTime\":\"1970-01-01T00:00:00Z\"}],\
+      \"ResponseTimestamp\":\"1970-01-01T00:00:00Z\",\"version\":\"2.0\"}],\
+      \"ResponseTimestamp\":\"1970-01-01T00:00:00Z\"}}}";
 
 static ROWS: [Row; 16] = [
     (
@@ -125,7 +128,13 @@ static ROWS: [Row; 16] = [
 // A delivery of the journeys T1, NOPE and T1 again, and the connections that are served around it.
 static THREE: [Row; 3] = [
     (
-        b"POST /siri/et HTTP/1.1\r\nHost: a\r\nContent-Length: 483\r\n\r\n{\"ServiceDelivery\":{\"EstimatedTimetableDelivery\":[{\"EstimatedJourneyVersionFrame\":[{\"RecordedAtTime\":\"2024-05-01T06:00:00Z\",\"EstimatedVehicleJourney\":[{\"FramedVehicleJourneyRef\":{\"DataFrameRef\":\"2024-05-01\",\"DatedVehicleJourneyRef\":\"T1\"},\"Cancellation\":true},{\"FramedVehicleJourneyRef\":{\"DataFrameRef\":\"2024-05-01\",\"DatedVehicleJourneyRef\":\"NOPE\"},\"Cancellation\":true},{\"FramedVehicleJourneyRef\":{\"DataFrameRef\":\"2024-05-01\",\"DatedVehicleJourneyRef\":\"T1\"},\"Cancellation\":true}]}]}]}}",
+        b"POST /siri/et HTTP/1.1\r\nHost: a\r\nContent-Length: 483\r\n\r\n\
+          {\"ServiceDelivery\":{\"EstimatedTimetableDelivery\":[{\"EstimatedJourneyVersionFrame\":[{\
+          \"RecordedAtTime\":\"2024-05-01T06:00:00Z\",\"EstimatedVehicleJourney\":[{\"FramedVehicleJourneyRef\":{\
+          \"DataFrameRef\":\"2024-05-01\",\"DatedVehicleJourneyRef\":\"T1\"},\"Cancellation\":true},\
+          {\"FramedVehicleJourneyRef\":{\"DataFrameRef\":\"2024-05-01\",\"DatedVehicleJourneyRef\":\"NOPE\"},\
+          \"Cancellation\":true},{\"FramedVehicleJourneyRef\":{\"DataFrameRef\":\"2024-05-01\",\
+          \"DatedVehicleJourneyRef\":\"T1\"},\"Cancellation\":true}]}]}]}}",
         Mark::Taken,
         Answer::Json,
         b"{\"aside\":[{\"fault\":\"UnknownJourney\",\"index\":1}],\"passed\":0,\"taken\":2}",
@@ -134,7 +143,8 @@ static THREE: [Row; 3] = [
         b"GET /gtfs-rt HTTP/1.0\r\n\r\n",
         Mark::Shown,
         Answer::Feed,
-        b"\x0a\x0d\x0a\x032.0\x10\x00\x18\xe0\xb4\xc7\xb1\x06\x12\x27\x0a\x0b20240501:T1\x1a\x18\x0a\x10\x0a\x02T1\x1a\x0820240501\x20\x03\x20\xe0\xb4\xc7\xb1\x06",
+        b"\x0a\x0d\x0a\x032.0\x10\x00\x18\xe0\xb4\xc7\xb1\x06\x12\x27\x0a\x0b20240501:\
+          T1\x1a\x18\x0a\x10\x0a\x02T1\x1a\x0820240501\x20\x03\x20\xe0\xb4\xc7\xb1\x06",
     ),
     (
         b"GET /siri/et HTTP/1.1\r\n\r\n",

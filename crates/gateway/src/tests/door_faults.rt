@@ -1,5 +1,5 @@
-//! A server whose door and clock fail: a failed call costs its own connection alone, and each later one is answered for what
-//! arrived by then.
+//! A server whose door and clock fail: a failed call costs its own connection alone, and each later one is answered for
+//! what arrived by then.
 use super::doors::{MAY_1, Row, SERVE, door, inputs, is_entry, run_rows};
 use gw_base::{Entry, Mark};
 use http_talk::Answer;
@@ -9,7 +9,11 @@ use std::process::Abort;
 // A delivery, what is shown then, and a feed.
 static ROUND: [Row; 3] = [
     (
-        b"POST /siri/et HTTP/1.1\r\nContent-Length: 265\r\n\r\n{\"ServiceDelivery\":{\"EstimatedTimetableDelivery\":[{\"EstimatedJourneyVersionFrame\":[{\"EstimatedVehicleJourney\":[{\"RecordedAtTime\":\"2024-05-01T06:00:00Z\",\"FramedVehicleJourneyRef\":{\"DataFrameRef\":\"2024-05-01\",\"DatedVehicleJourneyRef\":\"T1\"},\"Cancellation\":true}]}]}]}}",
+        b"POST /siri/et HTTP/1.1\r\nContent-Length: 265\r\n\r\n\
+          {\"ServiceDelivery\":{\"EstimatedTimetableDelivery\":[{\"EstimatedJourneyVersionFrame\":[{\
+          \"EstimatedVehicleJourney\":[{\"RecordedAtTime\":\"2024-05-01T06:00:00Z\",\
+          \"FramedVehicleJourneyRef\":{\"DataFrameRef\":\"2024-05-01\",\"DatedVehicleJourneyRef\":\"T1\"},\
+          \"Cancellation\":true}]}]}]}}",
         MAY_1,
         Mark::Taken,
         Answer::Json,
@@ -20,7 +24,8 @@ static ROUND: [Row; 3] = [
         MAY_1,
         Mark::Shown,
         Answer::Feed,
-        b"\n\r\n\x032.0\x10\x00\x18\xe0\xb4\xc7\xb1\x06\x12'\n\x0b20240501:T1\x1a\x18\n\x10\n\x02T1\x1a\x0820240501 \x03 \xe0\xb4\xc7\xb1\x06",
+        b"\n\r\n\x032.0\x10\x00\x18\xe0\xb4\xc7\xb1\x06\x12'\n\x0b20240501:T1\x1a\x18\n\x10\n\
+          \x02T1\x1a\x0820240501 \x03 \xe0\xb4\xc7\xb1\x06",
     ),
     (
         b"POST /gtfs-rt HTTP/1.1\r\nContent-Length: 7\r\n\r\n\n\x05\n\x032.0",
@@ -34,8 +39,8 @@ static ROUND: [Row; 3] = [
 // What is shown where the delivery wasn't taken.
 const NOTHING: &[u8] = b"\n\r\n\x032.0\x10\x00\x18\xe0\xb4\xc7\xb1\x06";
 
-// How a run of these went: its status, how many connections were answered, and of how many the entry isn't the whole answer for what
-// arrived by then.
+// How a run of these went: its status, how many connections were answered, and of how many the entry isn't the whole
+// answer for what arrived by then.
 #[derive(Clone, Copy, Debug, PartialEq, Eq)]
 struct Outcome {
     status: u8,

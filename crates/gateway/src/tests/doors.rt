@@ -1,4 +1,5 @@
-//! What the tests of `serve` share: a door and a clock in memory, the server that runs over them, and the entries of its log.
+//! What the tests of `serve` share: a door and a clock in memory, the server that runs over them, and the entries of
+//! its log.
 ghost use Rattle.std.specs.Prelude.{◌≡◌, ◌≤◌, false};
 
 use super::runs::{Other, clock_of, files_with, numbers, sink, words_of};
@@ -10,11 +11,13 @@ use std::process::Abort;
 
 /// The words of a server over the sample folder, whose window stays as long as the clock is in May 2024.
 pub const SERVE: &str =
-    "serve --gtfs g --zone-rule CET-1CEST,M3.5.0,M10.5.0/3 --from 2024-05-01 --days 2 --keep 0 --listen a --connections 20";
+    "serve --gtfs g --zone-rule CET-1CEST,M3.5.0,M10.5.0/3 --from 2024-05-01 --days 2 --keep 0 --listen a \
+      --connections 20";
 
 /// The same with a window that keeps one day before the local one.
 pub const ROLL: &str =
-    "serve --gtfs g --zone-rule CET-1CEST,M3.5.0,M10.5.0/3 --from 2024-05-01 --days 3 --keep 1 --listen a --connections 20";
+    "serve --gtfs g --zone-rule CET-1CEST,M3.5.0,M10.5.0/3 --from 2024-05-01 --days 3 --keep 1 --listen a \
+      --connections 20";
 
 /// 2024-05-01T06:00:00Z, and the same time two days later.
 pub const MAY_1: i64 = 1_714_543_200;
@@ -27,7 +30,8 @@ const ROOM: u64 = 10_000;
 /// An input, its moment, the mark of its entry, and the kind and the body of what it is answered.
 pub type Row = (&'static [u8], i64, Mark, Answer, &'static [u8]);
 
-/// A server: its words, the files in place of the sample's, the moments of its clock, and the calls of the clock that fail.
+/// A server: its words, the files in place of the sample's, the moments of its clock, and the calls of the clock that
+/// fail.
 #[derive(Clone, Copy)]
 pub struct Server<'a> {
     pub words: &'a str,
@@ -91,7 +95,8 @@ fn told_with(status: u8) -> &'static str {
     if status == 0 { "" } else { "gateway: failed\n" }
 }
 
-/// A run of a server over a door, with its status; standard output got nothing, and standard error what belongs to 0 or 74.
+/// A run of a server over a door, with its status; standard output got nothing, and standard error what belongs to 0 or
+/// 74.
 pub fn run_door(rt: &impl Abort, alloc: Global, server: &Server, door: &mut MemoryDoor) -> u8
     requires { door.old.present ≡ false }
 {

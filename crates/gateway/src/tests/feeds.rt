@@ -4,24 +4,43 @@ use std::alloc::Global;
 use std::process::Abort;
 
 const TO_SIRI: &str =
-    "to-siri --gtfs g --zone-rule CET-1CEST,M3.5.0,M10.5.0/3 --from 2024-05-01 --days 2 --at 2024-05-01T06:00:00Z --feed f";
+    "to-siri --gtfs g --zone-rule CET-1CEST,M3.5.0,M10.5.0/3 --from 2024-05-01 --days 2 --at 2024-05-01T06:00:00Z \
+      --feed f";
 
 const SHOW: &str =
     "show --gtfs g --zone-rule CET-1CEST,M3.5.0,M10.5.0/3 --from 2024-05-01 --days 2 --feed f";
 
 // The feed in which T1 is a minute late, by one update at its first stop.
 const LATE: &[u8] =
-    b"\x0a\x0d\x0a\x03\x32\x2e\x30\x10\x00\x18\xe0\xb4\xc7\xb1\x06\x12\x3f\x0a\x0b\x32\x30\x32\x34\x30\x35\x30\x31\x3a\x54\x31\x1a\x30\x0a\x10\x0a\x02\x54\x31\x1a\x08\x32\x30\x32\x34\x30\x35\x30\x31\x20\x00\x12\x16\x08\x0a\x12\x08\x08\x3c\x10\x9c\xb5\xc7\xb1\x06\x1a\x08\x08\x3c\x10\x9c\xb5\xc7\xb1\x06\x20\xe0\xb4\xc7\xb1\x06";
+    b"\x0a\x0d\x0a\x03\x32\x2e\x30\x10\x00\x18\xe0\xb4\xc7\xb1\x06\x12\x3f\x0a\x0b\x32\x30\x32\x34\x30\x35\x30\x31\
+      \x3a\x54\x31\x1a\x30\x0a\x10\x0a\x02\x54\x31\x1a\x08\x32\x30\x32\x34\x30\x35\x30\x31\x20\x00\x12\x16\x08\x0a\
+      \x12\x08\x08\x3c\x10\x9c\xb5\xc7\xb1\x06\x1a\x08\x08\x3c\x10\x9c\xb5\xc7\xb1\x06\x20\xe0\xb4\xc7\xb1\x06";
 
 // A feed of a header alone.
 const NO_ENTITY: &[u8] = b"\x0a\x05\x0a\x032.0";
 
 // Both as deliveries.
 const LATE_TEXT: &[u8] =
-    b"{\"Siri\":{\"ServiceDelivery\":{\"EstimatedTimetableDelivery\":[{\"EstimatedJourneyVersionFrame\":[{\"EstimatedVehicleJourney\":[{\"Cancellation\":false,\"EstimatedCalls\":{\"EstimatedCall\":[{\"AimedArrivalTime\":\"2024-05-01T06:00:00Z\",\"AimedDepartureTime\":\"2024-05-01T06:00:00Z\",\"ExpectedArrivalTime\":\"2024-05-01T06:01:00Z\",\"ExpectedDepartureTime\":\"2024-05-01T06:01:00Z\",\"Order\":1,\"StopPointRef\":\"A\"},{\"AimedArrivalTime\":\"2024-05-01T06:10:00Z\",\"AimedDepartureTime\":\"2024-05-01T06:11:00Z\",\"ExpectedArrivalTime\":\"2024-05-01T06:11:00Z\",\"ExpectedDepartureTime\":\"2024-05-01T06:12:00Z\",\"Order\":2,\"StopPointRef\":\"B\"},{\"AimedArrivalTime\":\"2024-05-01T06:20:00Z\",\"AimedDepartureTime\":\"2024-05-01T06:20:00Z\",\"ExpectedArrivalTime\":\"2024-05-01T06:21:00Z\",\"ExpectedDepartureTime\":\"2024-05-01T06:21:00Z\",\"Order\":3,\"StopPointRef\":\"C\"}]},\"FramedVehicleJourneyRef\":{\"DataFrameRef\":\"2024-05-01\",\"DatedVehicleJourneyRef\":\"T1\"},\"IsCompleteStopSequence\":true,\"LineRef\":\"R1\",\"RecordedAtTime\":\"2024-05-01T06:00:00Z\"}],\"RecordedAtTime\":\"2024-05-01T06:00:00Z\"}],\"ResponseTimestamp\":\"2024-05-01T06:00:00Z\",\"version\":\"2.0\"}],\"ResponseTimestamp\":\"2024-05-01T06:00:00Z\"}}}";
+    b"{\"Siri\":{\"ServiceDelivery\":{\"EstimatedTimetableDelivery\":[{\"EstimatedJourneyVersionFrame\":[{\
+      \"EstimatedVehicleJourney\":[{\"Cancellation\":false,\
+      \"EstimatedCalls\":{\"EstimatedCall\":[{\"AimedArrivalTime\":\"2024-05-01T06:00:00Z\",\
+      \"AimedDepartureTime\":\"2024-05-01T06:00:00Z\",\"ExpectedArrivalTime\":\"2024-05-01T06:01:00Z\",\
+      \"ExpectedDepartureTime\":\"2024-05-01T06:01:00Z\",\"Order\":1,\"StopPointRef\":\"A\"},\
+      {\"AimedArrivalTime\":\"2024-05-01T06:10:00Z\",\"AimedDepartureTime\":\"2024-05-01T06:11:00Z\",\
+      \"ExpectedArrivalTime\":\"2024-05-01T06:11:00Z\",\"ExpectedDepartureTime\":\"2024-05-01T06:12:00Z\",\
+      \"Order\":2,\"StopPointRef\":\"B\"},{\"AimedArrivalTime\":\"2024-05-01T06:20:00Z\",\
+      \"AimedDepartureTime\":\"2024-05-01T06:20:00Z\",\"ExpectedArrivalTime\":\"2024-05-01T06:21:00Z\",\
+      \"ExpectedDepartureTime\":\"2024-05-01T06:21:00Z\",\"Order\":3,\"StopPointRef\":\"C\"}]},\
+      \"FramedVehicleJourneyRef\":{\"DataFrameRef\":\"2024-05-01\",\"DatedVehicleJourneyRef\":\"T1\"},\
+      \"IsCompleteStopSequence\":true,\"LineRef\":\"R1\",\"RecordedAtTime\":\"2024-05-01T06:00:00Z\"}],\
+      \"RecordedAtTime\":\"2024-05-01T06:00:00Z\"}],\"ResponseTimestamp\":\"2024-05-01T06:00:00Z\",\
+      \"version\":\"2.0\"}],\"ResponseTimestamp\":\"2024-05-01T06:00:00Z\"}}}";
 
 const NO_JOURNEY_TEXT: &[u8] =
-    b"{\"Siri\":{\"ServiceDelivery\":{\"EstimatedTimetableDelivery\":[{\"EstimatedJourneyVersionFrame\":[{\"EstimatedVehicleJourney\":[],\"RecordedAtTime\":\"2024-05-01T06:00:00Z\"}],\"ResponseTimestamp\":\"2024-05-01T06:00:00Z\",\"version\":\"2.0\"}],\"ResponseTimestamp\":\"2024-05-01T06:00:00Z\"}}}";
+    b"{\"Siri\":{\"ServiceDelivery\":{\"EstimatedTimetableDelivery\":[{\"EstimatedJourneyVersionFrame\":[{\
+      \"EstimatedVehicleJourney\":[],\"RecordedAtTime\":\"2024-05-01T06:00:00Z\"}],\
+      \"ResponseTimestamp\":\"2024-05-01T06:00:00Z\",\"version\":\"2.0\"}],\
+      \"ResponseTimestamp\":\"2024-05-01T06:00:00Z\"}}}";
 
 // And as lines.
 const LATE_LINES: &[u8] = b"2024-05-01 T1 1 A 2024-05-01T06:01:00Z 2024-05-01T06:01:00Z\n\

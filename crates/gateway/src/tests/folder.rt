@@ -79,7 +79,8 @@ static REFUSED: [(&str, Other, u8, &str); 14] = [
         (
             "g/stop_times.txt",
             Some(
-                b"trip_id,arrival_time,departure_time,stop_id,stop_sequence\nT1,08:00:00,08:00:00,A,1\nT1,8:1:00,8:10:00,B,2\n",
+                b"trip_id,arrival_time,departure_time,stop_id,stop_sequence\nT1,08:00:00,08:00:00,A,1\n\
+                  T1,8:1:00,8:10:00,B,2\n",
             ),
         ),
         65,
@@ -90,7 +91,8 @@ static REFUSED: [(&str, Other, u8, &str); 14] = [
         (
             "g/stop_times.txt",
             Some(
-                b"trip_id,arrival_time,departure_time,stop_id,stop_sequence\nT1,08:00:00,,A,1\nT1,,,B,2\nT1,08:10:00,,C,3\nT1,,,A,4\n",
+                b"trip_id,arrival_time,departure_time,stop_id,stop_sequence\nT1,08:00:00,,A,1\nT1,,,B,2\n\
+                  T1,08:10:00,,C,3\nT1,,,A,4\n",
             ),
         ),
         65,
@@ -189,7 +191,8 @@ static ZONES: [(&str, &[Other], u8, &str); 7] = [
 
 // The TZif file of UTC (RFC 9636, version 2, without transitions).
 const UTC: &[u8] =
-    b"TZif2\0\0\0\0\0\0\0\0\0\0\0\0\0\0\0\0\0\0\0\0\0\0\0\0\0\0\0\0\0\0\0\0\0\0\x01\0\0\0\x04\0\0\0\0\0\0UTC\0TZif2\0\0\0\0\0\0\0\0\0\0\0\0\0\0\0\0\0\0\0\0\0\0\0\0\0\0\0\0\0\0\0\0\0\0\x01\0\0\0\x04\0\0\0\0\0\0UTC\0\nUTC0\n";
+    b"TZif2\0\0\0\0\0\0\0\0\0\0\0\0\0\0\0\0\0\0\0\0\0\0\0\0\0\0\0\0\0\0\0\0\0\0\x01\0\0\0\x04\0\0\0\0\0\0UTC\0TZif2\0\
+      \0\0\0\0\0\0\0\0\0\0\0\0\0\0\0\0\0\0\0\0\0\0\0\0\0\0\0\0\0\0\0\0\0\x01\0\0\0\x04\0\0\0\0\0\0UTC\0\nUTC0\n";
 
 // The run of the words with that zone.
 fn assert_zone(rt: &impl Abort, alloc: Global, zone: &str, others: &[Other], ends: (u8, &str)) {

@@ -1,5 +1,5 @@
-//! The delivery's file: frames that are read, and bodies that are refused. The crate `siri_calls` tests the form of each
-//! member.
+//! The delivery's file: frames that are read, and bodies that are refused. The crate `siri_calls` tests the form of
+//! each member.
 use super::runs::{JOURNEY, NO_ENTITY, ONE_ENTITY, ONE_TAKEN, assert_delivery, assert_other, json};
 use std::alloc::{AllocError, Global};
 

@@ -1,11 +1,12 @@
-//! What is kept at most, over all deliveries: 50,000 journeys and 5,000 situation numbers. What would be one more is set
-//! aside as Full, and what is kept still has room for a later one.
+//! What is kept at most, over all deliveries: 50,000 journeys and 5,000 situation numbers. What would be one more is
+//! set aside as Full, and what is kept still has room for a later one.
 use super::runs::{Given, run_given, sink};
 use std::alloc::{AllocError, Global};
 use std::process::Abort;
 
 const WORDS: &str =
-    "to-gtfsrt --gtfs g --zone-rule CET-1CEST,M3.5.0,M10.5.0/3 --from 2024-05-01 --days 32 --at 2024-05-01T06:00:00Z --et f --sx h";
+    "to-gtfsrt --gtfs g --zone-rule CET-1CEST,M3.5.0,M10.5.0/3 --from 2024-05-01 --days 32 --at 2024-05-01T06:00:00Z \
+      --et f --sx h";
 
 // The days of the window.
 static DAYS: [&str; 32] = [
@@ -21,22 +22,25 @@ const MORE_DAYS: usize = 17;
 
 // The way down to the journeys, which are all recorded at one moment unless they say otherwise.
 const TO_JOURNEYS: &str =
-    "{\"ServiceDelivery\":{\"EstimatedTimetableDelivery\":[{\"EstimatedJourneyVersionFrame\":[{\"RecordedAtTime\":\"2024-05-01T06:00:00Z\",\"EstimatedVehicleJourney\":[";
+    "{\"ServiceDelivery\":{\"EstimatedTimetableDelivery\":[{\"EstimatedJourneyVersionFrame\":[{\"RecordedAtTime\":\
+      \"2024-05-01T06:00:00Z\",\"EstimatedVehicleJourney\":[";
 
 // The first journey again, recorded a second later.
 const FIRST_AGAIN: &str =
-    "{\"RecordedAtTime\":\"2024-05-01T06:00:01Z\",\"FramedVehicleJourneyRef\":{\"DataFrameRef\":\"20240501\",\"DatedVehicleJourneyRef\":\"T0\"},\"Cancellation\":true}]}]}]}}";
+    "{\"RecordedAtTime\":\"2024-05-01T06:00:01Z\",\"FramedVehicleJourneyRef\":{\"DataFrameRef\":\"20240501\",\
+      \"DatedVehicleJourneyRef\":\"T0\"},\"Cancellation\":true}]}]}]}}";
 
 const TO_SITUATIONS: &str =
     "{\"ServiceDelivery\":{\"SituationExchangeDelivery\":[{\"Situations\":{\"PtSituationElement\":[";
 
 // The first situation again, closed now.
-const CLOSED_AGAIN: &str =
-    "{\"SituationNumber\":\"S0\",\"Progress\":\"closed\",\"Affects\":{\"StopPoints\":{\"AffectedStopPoint\":{\"StopPointRef\":\"A\"}}}}]}}]}}";
+const CLOSED_AGAIN: &str = "{\"SituationNumber\":\"S0\",\"Progress\":\"closed\",\
+      \"Affects\":{\"StopPoints\":{\"AffectedStopPoint\":{\"StopPointRef\":\"A\"}}}}]}}]}}";
 
 // The header, and the entity of the first journey as it was recorded last.
 const FEED_BEGINS: &[u8] =
-    b"\x0a\x0d\x0a\x032.0\x10\x00\x18\xe0\xb4\xc7\xb1\x06\x12\x27\x0a\x0b20240501:T0\x1a\x18\x0a\x10\x0a\x02T0\x1a\x0820240501\x20\x03\x20\xe1\xb4\xc7\xb1\x06";
+    b"\x0a\x0d\x0a\x032.0\x10\x00\x18\xe0\xb4\xc7\xb1\x06\x12\x27\x0a\x0b20240501:\
+      T0\x1a\x18\x0a\x10\x0a\x02T0\x1a\x0820240501\x20\x03\x20\xe1\xb4\xc7\xb1\x06";
 
 // The alert of the last situation by the bytes of its number.
 const FEED_ENDS: &[u8] = b"\x12\x17\x0a\x0aalert:S999*\x09*\x03*\x01A0\x018\x08";
@@ -59,7 +63,8 @@ fn trips(alloc: Global) -> Result<String, AllocError> {
 fn add_days(alloc: Global, text: &mut String, trip: u32, days: &[&str]) -> Result<(), AllocError> {
     for day in days {
         let item = format!(in alloc;
-            "{{\"FramedVehicleJourneyRef\":{{\"DataFrameRef\":\"2024{day}\",\"DatedVehicleJourneyRef\":\"T{trip}\"}},\"Cancellation\":true}},"
+            "{{\"FramedVehicleJourneyRef\":{{\"DataFrameRef\":\"2024{day}\",\"DatedVehicleJourneyRef\":\"T{trip}\"}},\
+              \"Cancellation\":true}},"
         )?;
         text.push_str(item.as_str())?;
     }
@@ -84,7 +89,8 @@ fn situations(alloc: Global) -> Result<String, AllocError> {
     text.push_str(TO_SITUATIONS)?;
     for number in 0..5_001 {
         let item = format!(in alloc;
-            "{{\"SituationNumber\":\"S{number}\",\"Affects\":{{\"StopPoints\":{{\"AffectedStopPoint\":{{\"StopPointRef\":\"A\"}}}}}}}},"
+            "{{\"SituationNumber\":\"S{number}\",\"Affects\":{{\"StopPoints\":{{\"AffectedStopPoint\":{{\
+              \"StopPointRef\":\"A\"}}}}}}}},"
         )?;
         text.push_str(item.as_str())?;
     }

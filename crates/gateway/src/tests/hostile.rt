@@ -1,5 +1,5 @@
-//! What nobody should send to a server: each input is answered by its rule, whether it is read and answered a byte at a time or in
-//! pieces of 4,096 bytes.
+//! What nobody should send to a server: each input is answered by its rule, whether it is read and answered a byte at a
+//! time or in pieces of 4,096 bytes.
 ghost use Rattle.std.specs.Prelude.{◌≤◌};
 
 use super::doors::{MAY_1, SERVE, Server, door, is_answered, run_door};
@@ -146,7 +146,8 @@ static CASES: [Case; 19] = [
         front: b"POST /siri/sx HTTP/1.1\r\nContent-Length: 400\r\n\r\n",
         piece: b"[",
         times: 200,
-        behind: b"]]]]]]]]]]]]]]]]]]]]]]]]]]]]]]]]]]]]]]]]]]]]]]]]]]]]]]]]]]]]]]]]]]]]]]]]]]]]]]]]]]]]]]]]]]]]]]]]]]]]]]]]]]]]]]]]]]]]]]]]]]]]]]]]]]]]]]]]]]]]]]]]]]]]]]]]]]]]]]]]]]]]]]]]]]]]]]]]]]]]]]]]]]]]]]]]]]]]]]]]",
+        behind: b"]]]]]]]]]]]]]]]]]]]]]]]]]]]]]]]]]]]]]]]]]]]]]]]]]]]]]]]]]]]]]]]]]]]]]]]]]]]]]]]]]]]]]]]]]]]]]]]]]]]\
+          ]]]]]]]]]]]]]]]]]]]]]]]]]]]]]]]]]]]]]]]]]]]]]]]]]]]]]]]]]]]]]]]]]]]]]]]]]]]]]]]]]]]]]]]]]]]]]]]]]]]]]",
         mark: Mark::Refused(400),
         kind: REFUSED,
         body: b"H400 NotJson\n",

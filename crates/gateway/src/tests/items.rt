@@ -1,5 +1,5 @@
-//! The items of a delivery: which are taken, and why others are set aside. The crate `siri_calls` tests the forms of each
-//! member.
+//! The items of a delivery: which are taken, and why others are set aside. The crate `siri_calls` tests the forms of
+//! each member.
 use super::entities::{T1_FIRST, T1_NEWEST, T1_OLDEST, T1_SECOND, assert_feed};
 use super::runs::{NO_ENTITY, ONE_TAKEN, assert_delivery};
 use super::told::assert_told;
@@ -89,6 +89,7 @@ fn items_are_numbered_over_all_frames(rt: HostRuntime) {
         rt.alloc(),
         "{$S:{$T:[{$V:[{$J:[7]},{},{$J:[{$R,$1,$C}]}]},{},{$V:[{$J:[7,{$R,$1,$C}]}]}]}}",
         &[T1_FIRST],
-        "f aside 0 BadField EstimatedVehicleJourney\nf aside 2 BadField EstimatedVehicleJourney\nf taken 2 passed 0 aside 2\n",
+        "f aside 0 BadField EstimatedVehicleJourney\nf aside 2 BadField EstimatedVehicleJourney\n\
+          f taken 2 passed 0 aside 2\n",
     );
 }

@@ -1,5 +1,5 @@
-//! A delivery as a producer writes it, posted to a server: under `Siri`, with references as `{"value": text}`, times with a
-//! fraction and an offset, and members that aren't read. Its 1,200 journeys of 35 calls are taken whole.
+//! A delivery as a producer writes it, posted to a server: under `Siri`, with references as `{"value": text}`, times
+//! with a fraction and an offset, and members that aren't read. Its 1,200 journeys of 35 calls are taken whole.
 use super::doors::{MAY_1, SERVE, Server, door, is_answered, run_door};
 use super::runs::Other;
 use gw_base::{Bytes, List, Mark};
@@ -13,7 +13,9 @@ const TRIPS: u32 = 1_200;
 const CALLS: u32 = 35;
 
 const TO_JOURNEYS: &str =
-    "{\"Siri\":{\"ServiceDelivery\":{\"ResponseTimestamp\":\"2024-05-01T08:00:00.000+02:00\",\"EstimatedTimetableDelivery\":[{\"version\":\"2.0\",\"EstimatedJourneyVersionFrame\":[{\"EstimatedVehicleJourney\":[";
+    "{\"Siri\":{\"ServiceDelivery\":{\"ResponseTimestamp\":\"2024-05-01T08:00:00.000+02:00\",\
+      \"EstimatedTimetableDelivery\":[{\"version\":\"2.0\",\"EstimatedJourneyVersionFrame\":[{\
+      \"EstimatedVehicleJourney\":[";
 
 const TO_THE_END: &str = "]}]}]}}}";
 
@@ -86,7 +88,8 @@ fn add_calls(alloc: Global, text: &mut String, trip: u32) -> Result<(), AllocErr
         add_time(alloc, text, "ExpectedDepartureTime", expected.as_str())?;
         let order = call + 1;
         let rest = format!(in alloc;
-            "\"StopPointRef\":{{\"value\":\"Quay:{call:02}\"}},\"Order\":{order},\"Cancellation\":false,\"DepartureStatus\":\"delayed\"}},"
+            "\"StopPointRef\":{{\"value\":\"Quay:{call:02}\"}},\"Order\":{order},\"Cancellation\":false,\
+              \"DepartureStatus\":\"delayed\"}},"
         )?;
         text.push_str(rest.as_str())?;
     }
@@ -99,7 +102,10 @@ fn add_journey(alloc: Global, text: &mut String, trip: u32) -> Result<(), AllocE
     add_calls(alloc, text, trip)?;
     text.pop();
     let rest = format!(in alloc;
-        "]}},\"FramedVehicleJourneyRef\":{{\"DataFrameRef\":{{\"value\":\"2024-05-01\"}},\"DatedVehicleJourneyRef\":\"T{trip}\"}},\"LineRef\":{{\"value\":\"R1\"}},\"Monitored\":true,\"RecordedAtTime\":\"2024-05-01T07:59:30.250+02:00\",\"VehicleLocation\":{{\"Longitude\":2.35,\"Latitude\":48.85}}}},"
+        "]}},\"FramedVehicleJourneyRef\":{{\"DataFrameRef\":{{\"value\":\"2024-05-01\"}},\
+          \"DatedVehicleJourneyRef\":\"T{trip}\"}},\"LineRef\":{{\"value\":\"R1\"}},\"Monitored\":true,\
+          \"RecordedAtTime\":\"2024-05-01T07:59:30.250+02:00\",\"VehicleLocation\":{{\"Longitude\":2.35,\
+          \"Latitude\":48.85}}}},"
     )?;
     text.push_str(rest.as_str())
 }

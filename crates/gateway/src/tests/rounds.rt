@@ -1,14 +1,16 @@
-//! Going round: what a delivery says is shown of its feed, and of the feed of the delivery that the feed becomes. The table is
-//! made by `bench/lines.py`, apart from the program.
+//! Going round: what a delivery says is shown of its feed, and of the feed of the delivery that the feed becomes. The
+//! table is made by `bench/lines.py`, apart from the program.
 use super::runs::{Given, Left, json, left_by};
 use std::alloc::Global;
 use std::process::Abort;
 
 const TO_GTFSRT: &str =
-    "to-gtfsrt --gtfs g --zone-rule CET-1CEST,M3.5.0,M10.5.0/3 --from 2024-05-01 --days 2 --at 2024-05-01T06:00:00Z --et f";
+    "to-gtfsrt --gtfs g --zone-rule CET-1CEST,M3.5.0,M10.5.0/3 --from 2024-05-01 --days 2 --at 2024-05-01T06:00:00Z \
+      --et f";
 
 const TO_SIRI: &str =
-    "to-siri --gtfs g --zone-rule CET-1CEST,M3.5.0,M10.5.0/3 --from 2024-05-01 --days 2 --at 2024-05-01T06:00:00Z --feed f";
+    "to-siri --gtfs g --zone-rule CET-1CEST,M3.5.0,M10.5.0/3 --from 2024-05-01 --days 2 --at 2024-05-01T06:00:00Z \
+      --feed f";
 
 const SHOW: &str =
     "show --gtfs g --zone-rule CET-1CEST,M3.5.0,M10.5.0/3 --from 2024-05-01 --days 2 --feed f";

@@ -7,7 +7,8 @@ use std::process::Abort;
 /// Words that are accepted, each behind one space: the folder `g`, the delivery `f`, and a window of the
 /// first two days of May 2024.
 pub const WORDS: &str =
-    "to-gtfsrt --gtfs g --zone-rule CET-1CEST,M3.5.0,M10.5.0/3 --from 2024-05-01 --days 2 --at 2024-05-01T06:00:00Z --et f";
+    "to-gtfsrt --gtfs g --zone-rule CET-1CEST,M3.5.0,M10.5.0/3 --from 2024-05-01 --days 2 --at 2024-05-01T06:00:00Z \
+      --et f";
 
 /// The files of a run, unless it has others: the sample folder `g`, with a journey of T1 in the delivery `f`.
 pub static SAMPLE: [(&str, &[u8]); 8] = [
@@ -20,7 +21,8 @@ pub static SAMPLE: [(&str, &[u8]); 8] = [
     ),
     (
         "g/calendar.txt",
-        b"service_id,monday,tuesday,wednesday,thursday,friday,saturday,sunday,start_date,end_date\nD,1,1,1,1,1,1,1,20240301,20240630\n",
+        b"service_id,monday,tuesday,wednesday,thursday,friday,saturday,sunday,start_date,end_date\n\
+          D,1,1,1,1,1,1,1,20240301,20240630\n",
     ),
     (
         "g/calendar_dates.txt",
@@ -28,11 +30,16 @@ pub static SAMPLE: [(&str, &[u8]); 8] = [
     ),
     (
         "g/stop_times.txt",
-        b"trip_id,arrival_time,departure_time,stop_id,stop_sequence\nT1,08:00:00,08:00:00,A,10\nT1,08:10:00,08:11:00,B,20\nT1,08:20:00,08:20:00,C,30\nL1,09:00:00,09:00:00,A,1\nL1,09:10:00,09:10:00,B,2\nL1,09:20:00,09:20:00,A,3\n",
+        b"trip_id,arrival_time,departure_time,stop_id,stop_sequence\nT1,08:00:00,08:00:00,A,10\n\
+          T1,08:10:00,08:11:00,B,20\nT1,08:20:00,08:20:00,C,30\nL1,09:00:00,09:00:00,A,1\nL1,09:10:00,09:10:00,B,2\n\
+          L1,09:20:00,09:20:00,A,3\n",
     ),
     (
         "f",
-        b"{\"ServiceDelivery\":{\"EstimatedTimetableDelivery\":[{\"EstimatedJourneyVersionFrame\":[{\"EstimatedVehicleJourney\":[{\"RecordedAtTime\":\"2024-05-01T06:00:00Z\",\"FramedVehicleJourneyRef\":{\"DataFrameRef\":\"2024-05-01\",\"DatedVehicleJourneyRef\":\"T1\"},\"Cancellation\":true}]}]}]}}",
+        b"{\"ServiceDelivery\":{\"EstimatedTimetableDelivery\":[{\"EstimatedJourneyVersionFrame\":[{\
+          \"EstimatedVehicleJourney\":[{\"RecordedAtTime\":\"2024-05-01T06:00:00Z\",\
+          \"FramedVehicleJourneyRef\":{\"DataFrameRef\":\"2024-05-01\",\"DatedVehicleJourneyRef\":\"T1\"},\
+          \"Cancellation\":true}]}]}]}}",
     ),
 ];
 
@@ -44,7 +51,8 @@ pub const NO_ENTITY: &[u8] = b"\x0a\x0d\x0a\x032.0\x10\x00\x18\xe0\xb4\xc7\xb1\x
 
 /// The feed with the entity of that journey.
 pub const ONE_ENTITY: &[u8] =
-    b"\x0a\x0d\x0a\x032.0\x10\x00\x18\xe0\xb4\xc7\xb1\x06\x12\x27\x0a\x0b20240501:T1\x1a\x18\x0a\x10\x0a\x02T1\x1a\x0820240501\x20\x03\x20\xe0\xb4\xc7\xb1\x06";
+    b"\x0a\x0d\x0a\x032.0\x10\x00\x18\xe0\xb4\xc7\xb1\x06\x12\x27\x0a\x0b20240501:\
+      T1\x1a\x18\x0a\x10\x0a\x02T1\x1a\x0820240501\x20\x03\x20\xe0\xb4\xc7\xb1\x06";
 
 /// The report on a delivery of one journey that is taken.
 pub const ONE_TAKEN: &str = "f taken 1 passed 0 aside 0\n";
@@ -77,7 +85,8 @@ fn meaning(letter: char) -> &'static str {
         'V' => "\"EstimatedJourneyVersionFrame\"",
         'J' => "\"EstimatedVehicleJourney\"",
         '<' => {
-            "{\"ServiceDelivery\":{\"EstimatedTimetableDelivery\":[{\"EstimatedJourneyVersionFrame\":[{\"EstimatedVehicleJourney\":["
+            "{\"ServiceDelivery\":{\"EstimatedTimetableDelivery\":[{\"EstimatedJourneyVersionFrame\":[{\
+              \"EstimatedVehicleJourney\":["
         }
         '>' => "]}]}]}}",
         'R' => "\"RecordedAtTime\":\"2024-05-01T06:00:00Z\"",

@@ -17,10 +17,21 @@ static CONNECTIONS: [Row; 13] = [
         MAY_1,
         Mark::Shown,
         Answer::Json,
-        b"{\"Siri\":{\"ServiceDelivery\":{\"EstimatedTimetableDelivery\":[{\"EstimatedJourneyVersionFrame\":[{\"EstimatedVehicleJourney\":[],\"RecordedAtTime\":\"1970-01-01T00:00:00Z\"}],\"ResponseTimestamp\":\"1970-01-01T00:00:00Z\",\"version\":\"2.0\"}],\"ResponseTimestamp\":\"1970-01-01T00:00:00Z\"}}}",
+        b"{\"Siri\":{\"ServiceDelivery\":{\"EstimatedTimetableDelivery\":[{\"EstimatedJourneyVersionFrame\":[{\
+          \"EstimatedVehicleJourney\":[],\"RecordedAtTime\":\"1970-01-01T00:00:00Z\"}],\
+          \"ResponseTimestamp\":\"1970-01-01T00:00:00Z\",\"version\":\"2.0\"}],\
+          \"ResponseTimestamp\":\"1970-01-01T00:00:00Z\"}}}",
     ),
     (
-        b"POST /siri/et HTTP/1.1\r\nContent-Length: 563\r\n\r\n{\"ServiceDelivery\":{\"EstimatedTimetableDelivery\":[{\"EstimatedJourneyVersionFrame\":[{\"EstimatedVehicleJourney\":[{\"RecordedAtTime\":\"2024-05-01T06:00:00Z\",\"FramedVehicleJourneyRef\":{\"DataFrameRef\":\"2024-05-01\",\"DatedVehicleJourneyRef\":\"T1\"},\"Cancellation\":true},{\"RecordedAtTime\":\"2024-05-01T06:00:00Z\",\"FramedVehicleJourneyRef\":{\"DataFrameRef\":\"2024-05-01\",\"DatedVehicleJourneyRef\":\"NOPE\"},\"Cancellation\":true},{\"RecordedAtTime\":\"2024-05-01T06:00:00Z\",\"FramedVehicleJourneyRef\":{\"DataFrameRef\":\"2024-05-01\",\"DatedVehicleJourneyRef\":\"L1\"},\"Cancellation\":true}]}]}]}}",
+        b"POST /siri/et HTTP/1.1\r\nContent-Length: 563\r\n\r\n\
+          {\"ServiceDelivery\":{\"EstimatedTimetableDelivery\":[{\"EstimatedJourneyVersionFrame\":[{\
+          \"EstimatedVehicleJourney\":[{\"RecordedAtTime\":\"2024-05-01T06:00:00Z\",\
+          \"FramedVehicleJourneyRef\":{\"DataFrameRef\":\"2024-05-01\",\"DatedVehicleJourneyRef\":\"T1\"},\
+          \"Cancellation\":true},{\"RecordedAtTime\":\"2024-05-01T06:00:00Z\",\
+          \"FramedVehicleJourneyRef\":{\"DataFrameRef\":\"2024-05-01\",\"DatedVehicleJourneyRef\":\"NOPE\"},\
+          \"Cancellation\":true},{\"RecordedAtTime\":\"2024-05-01T06:00:00Z\",\
+          \"FramedVehicleJourneyRef\":{\"DataFrameRef\":\"2024-05-01\",\"DatedVehicleJourneyRef\":\"L1\"},\
+          \"Cancellation\":true}]}]}]}}",
         MAY_1,
         Mark::Taken,
         Answer::Json,
@@ -31,10 +42,17 @@ static CONNECTIONS: [Row; 13] = [
         MAY_3,
         Mark::Shown,
         Answer::Feed,
-        b"\n\r\n\x032.0\x10\x00\x18\xe0\xfa\xd1\xb1\x06\x12'\n\x0b20240501:T1\x1a\x18\n\x10\n\x02T1\x1a\x0820240501 \x03 \xe0\xb4\xc7\xb1\x06\x12'\n\x0b20240501:L1\x1a\x18\n\x10\n\x02L1\x1a\x0820240501 \x03 \xe0\xb4\xc7\xb1\x06",
+        b"\n\r\n\x032.0\x10\x00\x18\xe0\xfa\xd1\xb1\x06\x12'\n\x0b20240501:T1\x1a\x18\n\x10\n\
+          \x02T1\x1a\x0820240501 \x03 \xe0\xb4\xc7\xb1\x06\x12'\n\x0b20240501:L1\x1a\x18\n\x10\n\
+          \x02L1\x1a\x0820240501 \x03 \xe0\xb4\xc7\xb1\x06",
     ),
     (
-        b"POST /siri/sx HTTP/1.1\r\nContent-Length: 373\r\n\r\n{\"ServiceDelivery\":{\"SituationExchangeDelivery\":[{\"Situations\":{\"PtSituationElement\":[{\"SituationNumber\":\"S1\",\"Version\":1,\"ValidityPeriod\":[{\"StartTime\":\"2024-05-01T00:00:00Z\"}],\"Affects\":{\"Networks\":{\"AffectedNetwork\":[{\"AffectedLine\":[{\"LineRef\":\"R1\"}]}]}},\"EquipmentReason\":\"signalFailure\",\"Consequences\":{\"Consequence\":[{\"Condition\":\"delayed\"}]},\"Summary\":\"Late\"}]}}]}}",
+        b"POST /siri/sx HTTP/1.1\r\nContent-Length: 373\r\n\r\n\
+          {\"ServiceDelivery\":{\"SituationExchangeDelivery\":[{\"Situations\":{\"PtSituationElement\":[{\
+          \"SituationNumber\":\"S1\",\"Version\":1,\"ValidityPeriod\":[{\"StartTime\":\"2024-05-01T00:00:00Z\"}],\
+          \"Affects\":{\"Networks\":{\"AffectedNetwork\":[{\"AffectedLine\":[{\"LineRef\":\"R1\"}]}]}},\
+          \"EquipmentReason\":\"signalFailure\",\"Consequences\":{\"Consequence\":[{\"Condition\":\"delayed\"}]},\
+          \"Summary\":\"Late\"}]}}]}}",
         MAY_1,
         Mark::Taken,
         Answer::Json,
@@ -45,7 +63,10 @@ static CONNECTIONS: [Row; 13] = [
         MAY_1,
         Mark::Shown,
         Answer::Feed,
-        b"\n\r\n\x032.0\x10\x00\x18\xe0\xb4\xc7\xb1\x06\x12'\n\x0b20240501:T1\x1a\x18\n\x10\n\x02T1\x1a\x0820240501 \x03 \xe0\xb4\xc7\xb1\x06\x12'\n\x0b20240501:L1\x1a\x18\n\x10\n\x02L1\x1a\x0820240501 \x03 \xe0\xb4\xc7\xb1\x06\x12(\n\x08alert:S1*\x1c\n\x06\x08\x80\x8c\xc6\xb1\x06*\x04\x12\x02R10\x038\x03R\x08\n\x06\n\x04Late",
+        b"\n\r\n\x032.0\x10\x00\x18\xe0\xb4\xc7\xb1\x06\x12'\n\x0b20240501:T1\x1a\x18\n\x10\n\
+          \x02T1\x1a\x0820240501 \x03 \xe0\xb4\xc7\xb1\x06\x12'\n\x0b20240501:L1\x1a\x18\n\x10\n\
+          \x02L1\x1a\x0820240501 \x03 \xe0\xb4\xc7\xb1\x06\x12(\n\x08alert:S1*\x1c\n\
+          \x06\x08\x80\x8c\xc6\xb1\x06*\x04\x12\x02R10\x038\x03R\x08\n\x06\n\x04Late",
     ),
     (
         b"POST /gtfs-rt HTTP/1.1\r\nContent-Length: 1\r\n\r\n\n",
@@ -62,7 +83,10 @@ static CONNECTIONS: [Row; 13] = [
         b"H400 MissingField 0 header\n",
     ),
     (
-        b"POST /gtfs-rt HTTP/1.1\r\nContent-Length: 91\r\n\r\n\n\r\n\x032.0\x10\x00\x18\xe0\xb4\xc7\xb1\x06\x12J\n\x0b20240501:T1\x1a;\n\x04\n\x02T1\xa0\x06\x05\xab\x06\x08\x01\xac\x06\n\x0c\x1a\x0820240501 \x00\x12\x16\x08\n\x12\x08\x08<\x10\x9c\xb5\xc7\xb1\x06\x1a\x08\x08<\x10\x9c\xb5\xc7\xb1\x06 \xe0\xb4\xc7\xb1\x06",
+        b"POST /gtfs-rt HTTP/1.1\r\nContent-Length: 91\r\n\r\n\n\r\n\x032.0\x10\x00\x18\xe0\xb4\xc7\xb1\x06\x12J\n\
+          \x0b20240501:T1\x1a;\n\x04\n\x02T1\xa0\x06\x05\xab\x06\x08\x01\xac\x06\n\
+          \x0c\x1a\x0820240501 \x00\x12\x16\x08\n\
+          \x12\x08\x08<\x10\x9c\xb5\xc7\xb1\x06\x1a\x08\x08<\x10\x9c\xb5\xc7\xb1\x06 \xe0\xb4\xc7\xb1\x06",
         MAY_1,
         Mark::Fed,
         Answer::Json,
@@ -73,7 +97,20 @@ static CONNECTIONS: [Row; 13] = [
         MAY_3,
         Mark::Shown,
         Answer::Json,
-        b"{\"Siri\":{\"ServiceDelivery\":{\"EstimatedTimetableDelivery\":[{\"EstimatedJourneyVersionFrame\":[{\"EstimatedVehicleJourney\":[{\"Cancellation\":false,\"EstimatedCalls\":{\"EstimatedCall\":[{\"AimedArrivalTime\":\"2024-05-01T06:00:00Z\",\"AimedDepartureTime\":\"2024-05-01T06:00:00Z\",\"ExpectedArrivalTime\":\"2024-05-01T06:01:00Z\",\"ExpectedDepartureTime\":\"2024-05-01T06:01:00Z\",\"Order\":1,\"StopPointRef\":\"A\"},{\"AimedArrivalTime\":\"2024-05-01T06:10:00Z\",\"AimedDepartureTime\":\"2024-05-01T06:11:00Z\",\"ExpectedArrivalTime\":\"2024-05-01T06:11:00Z\",\"ExpectedDepartureTime\":\"2024-05-01T06:12:00Z\",\"Order\":2,\"StopPointRef\":\"B\"},{\"AimedArrivalTime\":\"2024-05-01T06:20:00Z\",\"AimedDepartureTime\":\"2024-05-01T06:20:00Z\",\"ExpectedArrivalTime\":\"2024-05-01T06:21:00Z\",\"ExpectedDepartureTime\":\"2024-05-01T06:21:00Z\",\"Order\":3,\"StopPointRef\":\"C\"}]},\"FramedVehicleJourneyRef\":{\"DataFrameRef\":\"2024-05-01\",\"DatedVehicleJourneyRef\":\"T1\"},\"IsCompleteStopSequence\":true,\"LineRef\":\"R1\",\"RecordedAtTime\":\"2024-05-01T06:00:00Z\"}],\"RecordedAtTime\":\"2024-05-01T06:00:00Z\"}],\"ResponseTimestamp\":\"2024-05-01T06:00:00Z\",\"version\":\"2.0\"}],\"ResponseTimestamp\":\"2024-05-01T06:00:00Z\"}}}",
+        b"{\"Siri\":{\"ServiceDelivery\":{\"EstimatedTimetableDelivery\":[{\"EstimatedJourneyVersionFrame\":[{\
+          \"EstimatedVehicleJourney\":[{\"Cancellation\":false,\
+          \"EstimatedCalls\":{\"EstimatedCall\":[{\"AimedArrivalTime\":\"2024-05-01T06:00:00Z\",\
+          \"AimedDepartureTime\":\"2024-05-01T06:00:00Z\",\"ExpectedArrivalTime\":\"2024-05-01T06:01:00Z\",\
+          \"ExpectedDepartureTime\":\"2024-05-01T06:01:00Z\",\"Order\":1,\"StopPointRef\":\"A\"},\
+          {\"AimedArrivalTime\":\"2024-05-01T06:10:00Z\",\"AimedDepartureTime\":\"2024-05-01T06:11:00Z\",\
+          \"ExpectedArrivalTime\":\"2024-05-01T06:11:00Z\",\"ExpectedDepartureTime\":\"2024-05-01T06:12:00Z\",\
+          \"Order\":2,\"StopPointRef\":\"B\"},{\"AimedArrivalTime\":\"2024-05-01T06:20:00Z\",\
+          \"AimedDepartureTime\":\"2024-05-01T06:20:00Z\",\"ExpectedArrivalTime\":\"2024-05-01T06:21:00Z\",\
+          \"ExpectedDepartureTime\":\"2024-05-01T06:21:00Z\",\"Order\":3,\"StopPointRef\":\"C\"}]},\
+          \"FramedVehicleJourneyRef\":{\"DataFrameRef\":\"2024-05-01\",\"DatedVehicleJourneyRef\":\"T1\"},\
+          \"IsCompleteStopSequence\":true,\"LineRef\":\"R1\",\"RecordedAtTime\":\"2024-05-01T06:00:00Z\"}],\
+          \"RecordedAtTime\":\"2024-05-01T06:00:00Z\"}],\"ResponseTimestamp\":\"2024-05-01T06:00:00Z\",\
+          \"version\":\"2.0\"}],\"ResponseTimestamp\":\"2024-05-01T06:00:00Z\"}}}",
     ),
     (
         b"POST /gtfs-rt HTTP/1.1\r\nContent-Length: 9\r\n\r\n\n\x07\n\x032.0\x10\x01",
@@ -87,7 +124,20 @@ static CONNECTIONS: [Row; 13] = [
         MAY_1,
         Mark::Shown,
         Answer::Json,
-        b"{\"Siri\":{\"ServiceDelivery\":{\"EstimatedTimetableDelivery\":[{\"EstimatedJourneyVersionFrame\":[{\"EstimatedVehicleJourney\":[{\"Cancellation\":false,\"EstimatedCalls\":{\"EstimatedCall\":[{\"AimedArrivalTime\":\"2024-05-01T06:00:00Z\",\"AimedDepartureTime\":\"2024-05-01T06:00:00Z\",\"ExpectedArrivalTime\":\"2024-05-01T06:01:00Z\",\"ExpectedDepartureTime\":\"2024-05-01T06:01:00Z\",\"Order\":1,\"StopPointRef\":\"A\"},{\"AimedArrivalTime\":\"2024-05-01T06:10:00Z\",\"AimedDepartureTime\":\"2024-05-01T06:11:00Z\",\"ExpectedArrivalTime\":\"2024-05-01T06:11:00Z\",\"ExpectedDepartureTime\":\"2024-05-01T06:12:00Z\",\"Order\":2,\"StopPointRef\":\"B\"},{\"AimedArrivalTime\":\"2024-05-01T06:20:00Z\",\"AimedDepartureTime\":\"2024-05-01T06:20:00Z\",\"ExpectedArrivalTime\":\"2024-05-01T06:21:00Z\",\"ExpectedDepartureTime\":\"2024-05-01T06:21:00Z\",\"Order\":3,\"StopPointRef\":\"C\"}]},\"FramedVehicleJourneyRef\":{\"DataFrameRef\":\"2024-05-01\",\"DatedVehicleJourneyRef\":\"T1\"},\"IsCompleteStopSequence\":true,\"LineRef\":\"R1\",\"RecordedAtTime\":\"2024-05-01T06:00:00Z\"}],\"RecordedAtTime\":\"2024-05-01T06:00:00Z\"}],\"ResponseTimestamp\":\"2024-05-01T06:00:00Z\",\"version\":\"2.0\"}],\"ResponseTimestamp\":\"2024-05-01T06:00:00Z\"}}}",
+        b"{\"Siri\":{\"ServiceDelivery\":{\"EstimatedTimetableDelivery\":[{\"EstimatedJourneyVersionFrame\":[{\
+          \"EstimatedVehicleJourney\":[{\"Cancellation\":false,\
+          \"EstimatedCalls\":{\"EstimatedCall\":[{\"AimedArrivalTime\":\"2024-05-01T06:00:00Z\",\
+          \"AimedDepartureTime\":\"2024-05-01T06:00:00Z\",\"ExpectedArrivalTime\":\"2024-05-01T06:01:00Z\",\
+          \"ExpectedDepartureTime\":\"2024-05-01T06:01:00Z\",\"Order\":1,\"StopPointRef\":\"A\"},\
+          {\"AimedArrivalTime\":\"2024-05-01T06:10:00Z\",\"AimedDepartureTime\":\"2024-05-01T06:11:00Z\",\
+          \"ExpectedArrivalTime\":\"2024-05-01T06:11:00Z\",\"ExpectedDepartureTime\":\"2024-05-01T06:12:00Z\",\
+          \"Order\":2,\"StopPointRef\":\"B\"},{\"AimedArrivalTime\":\"2024-05-01T06:20:00Z\",\
+          \"AimedDepartureTime\":\"2024-05-01T06:20:00Z\",\"ExpectedArrivalTime\":\"2024-05-01T06:21:00Z\",\
+          \"ExpectedDepartureTime\":\"2024-05-01T06:21:00Z\",\"Order\":3,\"StopPointRef\":\"C\"}]},\
+          \"FramedVehicleJourneyRef\":{\"DataFrameRef\":\"2024-05-01\",\"DatedVehicleJourneyRef\":\"T1\"},\
+          \"IsCompleteStopSequence\":true,\"LineRef\":\"R1\",\"RecordedAtTime\":\"2024-05-01T06:00:00Z\"}],\
+          \"RecordedAtTime\":\"2024-05-01T06:00:00Z\"}],\"ResponseTimestamp\":\"2024-05-01T06:00:00Z\",\
+          \"version\":\"2.0\"}],\"ResponseTimestamp\":\"2024-05-01T06:00:00Z\"}}}",
     ),
     (
         b"POST /gtfs-rt HTTP/1.1\r\nContent-Length: 7\r\n\r\n\n\x05\n\x032.0more",
@@ -168,7 +218,11 @@ static REFUSALS: [Row; 9] = [
 // A window of three days, of which one before the local one is kept.
 static ROLLING: [Row; 6] = [
     (
-        b"POST /siri/et HTTP/1.1\r\nContent-Length: 265\r\n\r\n{\"ServiceDelivery\":{\"EstimatedTimetableDelivery\":[{\"EstimatedJourneyVersionFrame\":[{\"EstimatedVehicleJourney\":[{\"RecordedAtTime\":\"2024-05-01T06:00:00Z\",\"FramedVehicleJourneyRef\":{\"DataFrameRef\":\"2024-05-01\",\"DatedVehicleJourneyRef\":\"T1\"},\"Cancellation\":true}]}]}]}}",
+        b"POST /siri/et HTTP/1.1\r\nContent-Length: 265\r\n\r\n\
+          {\"ServiceDelivery\":{\"EstimatedTimetableDelivery\":[{\"EstimatedJourneyVersionFrame\":[{\
+          \"EstimatedVehicleJourney\":[{\"RecordedAtTime\":\"2024-05-01T06:00:00Z\",\
+          \"FramedVehicleJourneyRef\":{\"DataFrameRef\":\"2024-05-01\",\"DatedVehicleJourneyRef\":\"T1\"},\
+          \"Cancellation\":true}]}]}]}}",
         MAY_1,
         Mark::Taken,
         Answer::Json,
@@ -179,10 +233,15 @@ static ROLLING: [Row; 6] = [
         MAY_3,
         Mark::Shown,
         Answer::Feed,
-        b"\n\r\n\x032.0\x10\x00\x18\xe0\xfa\xd1\xb1\x06\x12'\n\x0b20240501:T1\x1a\x18\n\x10\n\x02T1\x1a\x0820240501 \x03 \xe0\xb4\xc7\xb1\x06",
+        b"\n\r\n\x032.0\x10\x00\x18\xe0\xfa\xd1\xb1\x06\x12'\n\x0b20240501:T1\x1a\x18\n\x10\n\
+          \x02T1\x1a\x0820240501 \x03 \xe0\xb4\xc7\xb1\x06",
     ),
     (
-        b"POST /siri/et HTTP/1.1\r\nContent-Length: 265\r\n\r\n{\"ServiceDelivery\":{\"EstimatedTimetableDelivery\":[{\"EstimatedJourneyVersionFrame\":[{\"EstimatedVehicleJourney\":[{\"RecordedAtTime\":\"2024-05-01T06:00:00Z\",\"FramedVehicleJourneyRef\":{\"DataFrameRef\":\"2024-05-04\",\"DatedVehicleJourneyRef\":\"T1\"},\"Cancellation\":true}]}]}]}}",
+        b"POST /siri/et HTTP/1.1\r\nContent-Length: 265\r\n\r\n\
+          {\"ServiceDelivery\":{\"EstimatedTimetableDelivery\":[{\"EstimatedJourneyVersionFrame\":[{\
+          \"EstimatedVehicleJourney\":[{\"RecordedAtTime\":\"2024-05-01T06:00:00Z\",\
+          \"FramedVehicleJourneyRef\":{\"DataFrameRef\":\"2024-05-04\",\"DatedVehicleJourneyRef\":\"T1\"},\
+          \"Cancellation\":true}]}]}]}}",
         MAY_3,
         Mark::Taken,
         Answer::Json,
@@ -193,10 +252,15 @@ static ROLLING: [Row; 6] = [
         MAY_3,
         Mark::Shown,
         Answer::Feed,
-        b"\n\r\n\x032.0\x10\x00\x18\xe0\xfa\xd1\xb1\x06\x12'\n\x0b20240504:T1\x1a\x18\n\x10\n\x02T1\x1a\x0820240504 \x03 \xe0\xb4\xc7\xb1\x06",
+        b"\n\r\n\x032.0\x10\x00\x18\xe0\xfa\xd1\xb1\x06\x12'\n\x0b20240504:T1\x1a\x18\n\x10\n\
+          \x02T1\x1a\x0820240504 \x03 \xe0\xb4\xc7\xb1\x06",
     ),
     (
-        b"POST /siri/et HTTP/1.1\r\nContent-Length: 265\r\n\r\n{\"ServiceDelivery\":{\"EstimatedTimetableDelivery\":[{\"EstimatedJourneyVersionFrame\":[{\"EstimatedVehicleJourney\":[{\"RecordedAtTime\":\"2024-05-01T06:00:00Z\",\"FramedVehicleJourneyRef\":{\"DataFrameRef\":\"2024-05-01\",\"DatedVehicleJourneyRef\":\"T1\"},\"Cancellation\":true}]}]}]}}",
+        b"POST /siri/et HTTP/1.1\r\nContent-Length: 265\r\n\r\n\
+          {\"ServiceDelivery\":{\"EstimatedTimetableDelivery\":[{\"EstimatedJourneyVersionFrame\":[{\
+          \"EstimatedVehicleJourney\":[{\"RecordedAtTime\":\"2024-05-01T06:00:00Z\",\
+          \"FramedVehicleJourneyRef\":{\"DataFrameRef\":\"2024-05-01\",\"DatedVehicleJourneyRef\":\"T1\"},\
+          \"Cancellation\":true}]}]}]}}",
         MAY_1,
         Mark::Taken,
         Answer::Json,
@@ -207,7 +271,8 @@ static ROLLING: [Row; 6] = [
         MAY_1,
         Mark::Shown,
         Answer::Feed,
-        b"\n\r\n\x032.0\x10\x00\x18\xe0\xb4\xc7\xb1\x06\x12'\n\x0b20240504:T1\x1a\x18\n\x10\n\x02T1\x1a\x0820240504 \x03 \xe0\xb4\xc7\xb1\x06",
+        b"\n\r\n\x032.0\x10\x00\x18\xe0\xb4\xc7\xb1\x06\x12'\n\x0b20240504:T1\x1a\x18\n\x10\n\
+          \x02T1\x1a\x0820240504 \x03 \xe0\xb4\xc7\xb1\x06",
     ),
 ];
 

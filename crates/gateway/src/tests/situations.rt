@@ -1,5 +1,5 @@
-//! Situations in a run: of all situations of a number the newest counts (SIRI 2.0, Version), and it is an alert of the feed
-//! where it is served. `bench/entities.py` makes the expected entities.
+//! Situations in a run: of all situations of a number the newest counts (SIRI 2.0, Version), and it is an alert of the
+//! feed where it is served. `bench/entities.py` makes the expected entities.
 use super::deliveries::assert_taken;
 use super::entities::{T1_FIRST, T1_LATE};
 use super::runs::assert_delivery;

@@ -72,8 +72,9 @@ fn left_over(alloc: Global, others: &[Other]) -> Result<Left, AllocError> {
     left_by(alloc, &given)
 }
 
-/// The run on a delivery, which is given by its short text, leaves that report and a feed that says this: for each entity
-/// a line `ID RELATION`, and behind it `|SEQUENCE RELATION ARRIVAL DEPARTURE` for each update, with `DELAY@TIME` or `-`.
+/// The run on a delivery, which is given by its short text, leaves that report and a feed that says this: for each
+/// entity a line `ID RELATION`, and behind it `|SEQUENCE RELATION ARRIVAL DEPARTURE` for each update, with `DELAY@TIME`
+/// or `-`.
 pub fn assert_told(rt: &impl Abort, alloc: Global, short: &str, expected: &str, report: &str) {
     let delivery = json(alloc, short).expect(rt, "memory");
     let others = [("f", Some(delivery.as_str().as_bytes()))];

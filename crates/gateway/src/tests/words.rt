@@ -134,7 +134,8 @@ static LISTS: [(&str, usize); 36] = [
         5,
     ),
     (
-        "to-gtfsrt --gtfs g --zone-rule R --from 2024-05-01 --days 2 --at 2024-05-01T06:00:00Z --at 2024-05-01T06:00:00Z",
+        "to-gtfsrt --gtfs g --zone-rule R --from 2024-05-01 --days 2 --at 2024-05-01T06:00:00Z --at \
+          2024-05-01T06:00:00Z",
         11,
     ),
     (
@@ -167,27 +168,41 @@ static LISTS: [(&str, usize); 36] = [
 static RIGHT: [&str; 18] = [
     // The fewest and the most of a server.
     "serve --gtfs g --zone-rule x --from 2024-05-01 --days 1 --keep 0 --listen a --connections 0000000001",
-    "serve --gtfs g --zone-rule x --from 2024-05-01 --days 32 --keep 31 --listen 127.0.0.1:8080 --connections 4294967295",
+    "serve --gtfs g --zone-rule x --from 2024-05-01 --days 32 --keep 31 --listen 127.0.0.1:8080 --connections \
+      4294967295",
     // Each rule, each number of days.
-    "to-gtfsrt --gtfs g --zone-rule CET-1CEST,M3.5.0,M10.5.0/3 --from 2024-05-01 --days 2 --at 2024-05-01T06:00:00Z --et f",
+    "to-gtfsrt --gtfs g --zone-rule CET-1CEST,M3.5.0,M10.5.0/3 --from 2024-05-01 --days 2 --at 2024-05-01T06:00:00Z \
+      --et f",
     "to-gtfsrt --gtfs g --zone-rule x --from 2024-05-01 --days 2 --at 2024-05-01T06:00:00Z --et f",
-    "to-gtfsrt --gtfs g --zone-rule CET-1CEST,M3.5.0,M10.5.0/3 --from 2024-05-01 --days 1 --at 2024-05-01T06:00:00Z --et f",
-    "to-gtfsrt --gtfs g --zone-rule CET-1CEST,M3.5.0,M10.5.0/3 --from 2024-05-01 --days 32 --at 2024-05-01T06:00:00Z --et f",
-    "to-gtfsrt --gtfs g --zone-rule CET-1CEST,M3.5.0,M10.5.0/3 --from 2024-05-01 --days 02 --at 2024-05-01T06:00:00Z --et f",
-    "to-gtfsrt --gtfs g --zone-rule CET-1CEST,M3.5.0,M10.5.0/3 --from 2024-05-01 --days 0000000002 --at 2024-05-01T06:00:00Z --et f",
-    "to-gtfsrt --gtfs g --zone-rule CET-1CEST,M3.5.0,M10.5.0/3 --from 2024-05-01 --days 0000000032 --at 2024-05-01T06:00:00Z --et f",
+    "to-gtfsrt --gtfs g --zone-rule CET-1CEST,M3.5.0,M10.5.0/3 --from 2024-05-01 --days 1 --at 2024-05-01T06:00:00Z \
+      --et f",
+    "to-gtfsrt --gtfs g --zone-rule CET-1CEST,M3.5.0,M10.5.0/3 --from 2024-05-01 --days 32 --at 2024-05-01T06:00:00Z \
+      --et f",
+    "to-gtfsrt --gtfs g --zone-rule CET-1CEST,M3.5.0,M10.5.0/3 --from 2024-05-01 --days 02 --at 2024-05-01T06:00:00Z \
+      --et f",
+    "to-gtfsrt --gtfs g --zone-rule CET-1CEST,M3.5.0,M10.5.0/3 --from 2024-05-01 --days 0000000002 --at \
+      2024-05-01T06:00:00Z --et f",
+    "to-gtfsrt --gtfs g --zone-rule CET-1CEST,M3.5.0,M10.5.0/3 --from 2024-05-01 --days 0000000032 --at \
+      2024-05-01T06:00:00Z --et f",
     // The first and the last window and moment.
-    "to-gtfsrt --gtfs g --zone-rule CET-1CEST,M3.5.0,M10.5.0/3 --from 1971-01-01 --days 32 --at 2024-05-01T06:00:00Z --et f",
-    "to-gtfsrt --gtfs g --zone-rule CET-1CEST,M3.5.0,M10.5.0/3 --from 9997-12-31 --days 1 --at 2024-05-01T06:00:00Z --et f",
-    "to-gtfsrt --gtfs g --zone-rule CET-1CEST,M3.5.0,M10.5.0/3 --from 9997-11-30 --days 32 --at 2024-05-01T06:00:00Z --et f",
-    "to-gtfsrt --gtfs g --zone-rule CET-1CEST,M3.5.0,M10.5.0/3 --from 2024-02-29 --days 2 --at 2024-05-01T06:00:00Z --et f",
-    "to-gtfsrt --gtfs g --zone-rule CET-1CEST,M3.5.0,M10.5.0/3 --from 2024-05-01 --days 2 --at 1970-01-01T00:00:00Z --et f",
-    "to-gtfsrt --gtfs g --zone-rule CET-1CEST,M3.5.0,M10.5.0/3 --from 2024-05-01 --days 2 --at 9998-12-31T23:59:59Z --et f",
+    "to-gtfsrt --gtfs g --zone-rule CET-1CEST,M3.5.0,M10.5.0/3 --from 1971-01-01 --days 32 --at 2024-05-01T06:00:00Z \
+      --et f",
+    "to-gtfsrt --gtfs g --zone-rule CET-1CEST,M3.5.0,M10.5.0/3 --from 9997-12-31 --days 1 --at 2024-05-01T06:00:00Z \
+      --et f",
+    "to-gtfsrt --gtfs g --zone-rule CET-1CEST,M3.5.0,M10.5.0/3 --from 9997-11-30 --days 32 --at 2024-05-01T06:00:00Z \
+      --et f",
+    "to-gtfsrt --gtfs g --zone-rule CET-1CEST,M3.5.0,M10.5.0/3 --from 2024-02-29 --days 2 --at 2024-05-01T06:00:00Z \
+      --et f",
+    "to-gtfsrt --gtfs g --zone-rule CET-1CEST,M3.5.0,M10.5.0/3 --from 2024-05-01 --days 2 --at 1970-01-01T00:00:00Z \
+      --et f",
+    "to-gtfsrt --gtfs g --zone-rule CET-1CEST,M3.5.0,M10.5.0/3 --from 2024-05-01 --days 2 --at 9998-12-31T23:59:59Z \
+      --et f",
     // A feed whose alerts are read.
     "to-siri-sx --gtfs g --zone-rule x --from 2024-05-01 --days 2 --at 2024-05-01T06:00:00Z --feed f",
     // No delivery, and several.
     "to-gtfsrt --gtfs g --zone-rule CET-1CEST,M3.5.0,M10.5.0/3 --from 2024-05-01 --days 2 --at 2024-05-01T06:00:00Z",
-    "to-gtfsrt --gtfs g --zone-rule CET-1CEST,M3.5.0,M10.5.0/3 --from 2024-05-01 --days 2 --at 2024-05-01T06:00:00Z --et f --et h --et f",
+    "to-gtfsrt --gtfs g --zone-rule CET-1CEST,M3.5.0,M10.5.0/3 --from 2024-05-01 --days 2 --at 2024-05-01T06:00:00Z \
+      --et f --et h --et f",
 ];
 
 // A run that calls no device but standard error: the first call of each other one is to fail, and is
