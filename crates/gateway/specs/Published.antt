@@ -1,5 +1,5 @@
--- What the commands publish, in the words of the two standards (SIRI 2.0, EstimatedVehicleJourney, PtSituationElement; GTFS Realtime
--- 2.0, FeedMessage).
+-- What the commands publish, in the words of the two standards (SIRI 2.0, EstimatedVehicleJourney, PtSituationElement;
+-- GTFS Realtime 2.0, FeedMessage).
 use Rattle.std.specs.Prelude.{◌≡◌, ◌≢◌, ℕ, pos, List, Option, Some, None, Ok, IfSome}
 use Rattle.gw_base.specs.Directory.{bytes_of}
 use Rattle.gw_base.specs.Told.{with_bytes}
@@ -74,8 +74,8 @@ pub record PublishesSiri (command : ToSiri) (files : Directory) (before now : Op
   pub report : Report
   pub says : IsSiri (schedule_in setting) feed command.at text report
 
--- standard output got the delivery that says the alerts of the file's feed: read again it gives just the situations of those that
--- are taken, in order, each of which is served, and the alert of each has the sense of the one that it came from
+-- standard output got the delivery that says the alerts of the file's feed: read again it gives just the situations of
+-- those that are taken, in order, each served, and the alert of each has the sense of the one that it came from
 pub record PublishesSituations (command : ToSiri) (files : Directory) (before now : Option (List ℕ)) : Type 0 where
   pub setting : Setting
   pub over : IsSetting command.over None files setting

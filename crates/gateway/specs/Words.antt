@@ -118,8 +118,8 @@ pub record ToGtfsrt : Type 0 where
   pub at : ℤ
   pub more : List (List ℕ)
 
--- what the words of `to-siri` and of `to-siri-sx` say: what it works over, the second at which the delivery is made, and the feed's
--- file
+-- what the words of `to-siri` and of `to-siri-sx` say: what it works over, the second at which the delivery is made, and
+-- the feed's file
 pub record ToSiri : Type 0 where
   pub over : Scope
   pub at : ℤ
