@@ -4,7 +4,7 @@ import os
 import random
 import sys
 
-SIZE = 16 << 20
+SIZE = 16_000_000
 
 
 def varint(number):

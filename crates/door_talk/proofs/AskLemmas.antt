@@ -11,6 +11,8 @@ use Rattle.http_talk.specs.declared.refusal.Refusal.TheVariants as refusal
 use Rattle.http_talk.specs.declared.target.Head.{Head}
 use Rattle.door_talk.specs.Requests.{AsksFor, HasRead, IsEnded}
 use Rattle.door_talk.specs.declared.asked.Asked.{Asked}
+use Rattle.door_talk.specs.declared.asked.Asked.TheVariants as asked
+use Rattle.http_talk.specs.declared.target.Target.{Target}
 use Rattle.door_talk.proofs.ReadLemmas.{cut, gets, posts}
 
 abbrev Read : Option Connections → Beside → List ℕ → Type 0
@@ -49,17 +51,17 @@ asks_cut before now bytes why h end is = by before.told h.1
         subst (λ (z : List ℕ). IsRequest z (Refused why)) (sym (unread ∙ ap (λ (z : List ℕ). bytes ++ z) none ∙ append-nil bytes)) is
 
 -- what is asked for behind a head
-pub asks_behind : (before now : Beside) (bytes part body : List ℕ) (count : ℕ) (head : Head) (asked : Asked) → HasRead before now bytes
+pub asks_behind : (Stands : Target → List ℕ → Type 0) (before now : Beside) (bytes part : List ℕ) (count : ℕ) (head : Head) (asked : Asked) → HasRead before now bytes
     → ((more : List ℕ) → IsHead (bytes ++ more) count (Ok head)) → drop count bytes ≡ part → count ≤ length bytes
-    → IfSome now.told (λ told. (input : List ℕ) (count : ℕ) → IsHead input count (Ok head) → drop count input ≡ part ++ told.unread → AsksFor input body asked)
-    → IfSome before.told (λ told. AsksFor told.unread body asked)
-asks_behind before now bytes part body count head asked h is_head behind within asks = by before.told h.1
+    → IfSome now.told (λ told. (input : List ℕ) (count : ℕ) → IsHead input count (Ok head) → drop count input ≡ part ++ told.unread → AsksFor Stands input asked)
+    → IfSome before.told (λ told. AsksFor Stands told.unread asked)
+asks_behind Stands before now bytes part count head asked h is_head behind within asks = by before.told h.1
   where
-    by : (t : Option Connections) → Read t now bytes → IfSome t (λ told. AsksFor told.unread body asked)
+    by : (t : Option Connections) → Read t now bytes → IfSome t (λ told. AsksFor Stands told.unread asked)
     by None e = tt
     by (Some k) (rest, unread, told) =
-        subst (λ (z : List ℕ). AsksFor z body asked) (sym unread)
-        (subst (λ (s : Option Connections). IfSome s (λ told. (input : List ℕ) (count : ℕ) → IsHead input count (Ok head) → drop count input ≡ part ++ told.unread → AsksFor input body asked)) told asks
+        subst (λ (z : List ℕ). AsksFor Stands z asked) (sym unread)
+        (subst (λ (s : Option Connections). IfSome s (λ told. (input : List ℕ) (count : ℕ) → IsHead input count (Ok head) → drop count input ≡ part ++ told.unread → AsksFor Stands input asked)) told asks
         (bytes ++ rest) count (is_head rest) (drop-append-le count bytes rest within ∙ ap (λ (z : List ℕ). z ++ rest) behind))
 
 -- a body of which a front came with the head
@@ -131,3 +133,10 @@ asks_less before now bytes part front head h post front_is end less = by before.
         let none : rest ≡ [] = subst (λ (s : Option Connections). IfSome s (λ t. t.unread ≡ [])) told end in
         cut input (front ++ bytes) count head is_head post
         (behind ∙ ap (λ (z : List ℕ). part ++ z) (unread ∙ ap (λ (z : List ℕ). bytes ++ z) none ∙ append-nil bytes) ∙ ap (λ (z : List ℕ). z ++ bytes) (sym (cases (nat_le head.length (length part)) refl))) less
+
+-- what took the body of a POST stands for it
+pub asks_taken : (Stands : Target → List ℕ → Type 0) (told : Option Connections) (part body : List ℕ) (head : Head) → Stands head.target body
+    → IfSome told (λ told. (input : List ℕ) (count : ℕ) → IsHead input count (Ok head) → drop count input ≡ part ++ told.unread → IsRequest input (Post head.target body))
+    → IfSome told (λ told. (input : List ℕ) (count : ℕ) → IsHead input count (Ok head) → drop count input ≡ part ++ told.unread → AsksFor Stands input (asked.Post head.target))
+asks_taken Stands None part body head stands h = tt
+asks_taken Stands (Some told) part body head stands h = λ input count is_head behind. (body, h input count is_head behind, stands)

@@ -1,5 +1,5 @@
 -- What was read of a connection's input, piece by piece.
-use Rattle.std.proofs.Common.{◌≡◌, ◌∙◌, ◌++◌, ◌≤◌, ◌<◌, [], ℕ, true, false, inl, inr, Ok, Err, List, Option, Some, None, length, drop, take, ap, sym, refl, subst, arith, length-append, append-nil}
+use Rattle.std.proofs.Common.{◌≡◌, ◌∙◌, ◌++◌, ◌≤◌, ◌<◌, [], ℕ, ℤ, true, false, inl, inr, Ok, Err, List, Option, Some, None, length, drop, take, ap, sym, refl, subst, arith, length-append, append-nil}
 use Rattle.std.specs.Prelude.{IfSome, MatchOption, ◌↔◌, nat_le, if◌then◌else◌}
 use Rattle.std.proofs.Math.Seq.{take-append_seam}
 use Rattle.std.proofs.lemmas.List.{append_assoc}
@@ -10,6 +10,7 @@ use Rattle.http_talk.specs.declared.refusal.Refusal.{Refusal}
 use Rattle.http_talk.specs.declared.refusal.Refusal.TheVariants as refusal
 use Rattle.http_talk.specs.declared.target.Head.{Head}
 use Rattle.http_talk.specs.declared.target.Target.{Target}
+use Rattle.door_talk.specs.Bodies.{StandsOn}
 use Rattle.door_talk.specs.Requests.{HasRead, IsEnded}
 
 -- before the first piece
@@ -96,3 +97,9 @@ takes_end b c y t none = by b.told t.1
 
 pub takes_none : (a b c : Beside) (x y : List ℕ) → HasRead a b x → Takes b c y → y ≡ [] → HasRead a c x
 takes_none a b c x y h t none = subst (HasRead a c) (ap (λ (z : List ℕ). x ++ z) none ∙ append-nil x) (takes_on a b c x y h t)
+
+-- ---- a body that is taken as it arrives
+
+-- one piece more stands with what stood before
+pub stands_on : (Before Mid Now : ℤ → Target → List ℕ → Type 0) (x y : List ℕ) → StandsOn Before Mid x → StandsOn Mid Now y → StandsOn Before Now (x ++ y)
+stands_on Before Mid Now x y h t moment target front before = subst (Now moment target) (append_assoc front x y) (t moment target (front ++ x) (h moment target front before))

@@ -1,12 +1,19 @@
 -- How the reading of a request's body ended.
-use Rattle.std.specs.Prelude.{◌≡◌, ◌<◌, ◌++◌, ⊤, ℕ, List, length}
+use Rattle.std.specs.Prelude.{◌≡◌, ◌<◌, ◌+◌, ◌++◌, ⊤, ℕ, ℤ, List, length}
 use Rattle.gw_base.specs.Connections.{Beside}
+use Rattle.http_talk.specs.declared.target.Target.{Target}
 use Rattle.door_talk.specs.Requests.{IsEnded}
 use Rattle.door_talk.specs.declared.bodies.BodyRead.{BodyRead}
 use Rattle.door_talk.specs.declared.bodies.BodyRead.TheVariants.{Cut, NoRoom, Whole}
 
--- behind the front of a body these bytes were read: it is whole, or the input is at its end before
-abbrev pub ReadsBody : Beside → List ℕ → List ℕ → List ℕ → ℕ → BodyRead → Type 0
-ReadsBody now front bytes body size Whole = (body ≡ front ++ bytes) × (length body ≡ size)
-ReadsBody now front bytes body size Cut = IsEnded now × (length (front ++ bytes) < size)
-ReadsBody now front bytes body size NoRoom = ⊤
+-- what stood for the first bytes of a body stands for these and the bytes after them
+abbrev pub StandsOn : (ℤ → Target → List ℕ → Type 0) → (ℤ → Target → List ℕ → Type 0) → List ℕ → Type 0
+StandsOn Before Now bytes =
+    (moment : ℤ) (target : Target) (front : List ℕ) → Before moment target front → Now moment target (front ++ bytes)
+
+-- after so many bytes of a body these were read: it is whole and was taken, or the input is at its end before
+abbrev pub ReadsBody : Beside → (ℤ → Target → List ℕ → Type 0) → (ℤ → Target → List ℕ → Type 0) → ℕ → List ℕ → ℕ
+    → BodyRead → Type 0
+ReadsBody now Before Now came bytes size Whole = StandsOn Before Now bytes × (came + length bytes ≡ size)
+ReadsBody now Before Now came bytes size Cut = IsEnded now × (came + length bytes < size)
+ReadsBody now Before Now came bytes size NoRoom = ⊤

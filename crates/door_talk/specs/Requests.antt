@@ -5,6 +5,7 @@ use Rattle.http_talk.specs.Asked.{is_post}
 use Rattle.http_talk.specs.Request.{IsHead, IsRequest}
 use Rattle.http_talk.specs.Request as request
 use Rattle.http_talk.specs.declared.target.Head.{Head}
+use Rattle.http_talk.specs.declared.target.Target.{Target}
 use Rattle.door_talk.specs.declared.asked.Asked.{Asked}
 use Rattle.door_talk.specs.declared.asked.Asked.TheVariants as asked
 use Rattle.door_talk.specs.declared.heads.HeadRead.{HeadRead}
@@ -41,19 +42,20 @@ ReadsHead now bytes piece (heads.Ended head from to) =
 ReadsHead now bytes piece (heads.Refused why) = (more : List ℕ) → IsRequest (bytes ++ more) (request.Refused why)
 ReadsHead now bytes piece (heads.Cut why) = IsEnded now × IsRequest bytes (request.Refused why)
 
--- an input asks for this, with this body
-abbrev pub AsksFor : List ℕ → List ℕ → Asked → Type 0
-AsksFor input body (asked.Get target) = IsRequest input (request.Get target)
-AsksFor input body (asked.Post target) = IsRequest input (request.Post target body)
-AsksFor input body (asked.Refused why) = IsRequest input (request.Refused why)
-AsksFor input body asked.NoRoom =
+-- an input asks for this; what took the body of a POST stands for it
+abbrev pub AsksFor : (Target → List ℕ → Type 0) → List ℕ → Asked → Type 0
+AsksFor Stands input (asked.Get target) = IsRequest input (request.Get target)
+AsksFor Stands input (asked.Post target) =
+    (body : List ℕ) × IsRequest input (request.Post target body) × Stands target body
+AsksFor Stands input (asked.Refused why) = IsRequest input (request.Refused why)
+AsksFor Stands input asked.NoRoom =
     (count : ℕ) × (head : Head) × IsHead input count (Ok head) × (is_post head.target ≡ true)
-AsksFor input body asked.Lost = ⊤
+AsksFor Stands input asked.Lost = ⊤
 
--- a GET is of a target that is got, and a POST is to one that is posted
-abbrev pub HasMethod : Asked → Type 0
-HasMethod (asked.Get target) = is_post target ≡ false
-HasMethod (asked.Post target) = is_post target ≡ true
-HasMethod (asked.Refused why) = ⊤
-HasMethod asked.NoRoom = ⊤
-HasMethod asked.Lost = ⊤
+-- a GET is of a target that is got, and a POST is to one that is posted, of which what took its body stands for some
+abbrev pub HasMethod : (Target → List ℕ → Type 0) → Asked → Type 0
+HasMethod Stands (asked.Get target) = is_post target ≡ false
+HasMethod Stands (asked.Post target) = (is_post target ≡ true) × (body : List ℕ) × Stands target body
+HasMethod Stands (asked.Refused why) = ⊤
+HasMethod Stands asked.NoRoom = ⊤
+HasMethod Stands asked.Lost = ⊤

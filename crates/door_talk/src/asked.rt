@@ -6,7 +6,7 @@ use http_talk::{Refusal, Target};
 pub enum Asked {
     /// A GET of a target.
     Get(Target),
-    /// A POST to a target; the body is where it was to be read.
+    /// A POST to a target, whose body was taken as it arrived.
     Post(Target),
     /// The request is refused.
     Refused(Refusal),

@@ -1,17 +1,19 @@
 //! The body of a request, read off a door.
-ghost use Rattle.std.specs.Prelude.{◌≡◌, ◌≤◌, ◌<◌, ◌+◌, true, [], ℕ, List, length, IfOk, IsErr};
+ghost use Rattle.std.specs.Prelude.{◌≡◌, ◌≤◌, ◌<◌, ◌+◌, ◌++◌, true, ℕ, ℤ, List, length, IfOk, OnOk, IsErr};
 ghost use Rattle.gw_base.specs.Count.{Counts};
 ghost use Rattle.door_talk.specs.Bodies.{ReadsBody};
 ghost use Rattle.door_talk.specs.Requests.{HasRead};
+ghost use Rattle.http_talk.specs.declared.target.Target.{Target};
 
 use crate::piece::read_piece;
-use gw_base::{Bytes, Door, Failed};
-use std::alloc::{AllocError, Global};
+use crate::taker::TakesBody;
+use gw_base::{Door, Failed};
+use std::alloc::AllocError;
 
 /// How the reading of a body ended.
 #[derive(Clone, Copy, Debug, PartialEq, Eq)]
 pub enum BodyRead {
-    /// The body is whole.
+    /// The body was taken whole.
     Whole,
     /// The input ended before.
     Cut,
@@ -19,43 +21,51 @@ pub enum BodyRead {
     NoRoom,
 }
 
-/// Makes room for so many bytes in an empty buffer.
-pub fn make_room(alloc: Global, body: &mut Bytes, size: usize) -> Result<(), AllocError>
-    ensures empty { body.new ≡ [] }
+// Hands on the next bytes of a body, if there are some.
+pub fn hand_on<G, B: TakesBody<G>>(over: &G, taker: &mut B, bytes: &[u8]) -> Result<(), AllocError>
+    requires room { B.taken taker.old + length bytes.now ≤ 16777216 }
+    ensures takes { (moment : ℤ) (target : Target) (front : List ℕ) → B.stands over.now taker.old moment target front
+        → OnOk result (B.stands over.now taker.new moment target (front ++ bytes.now)) }
+    ensures counted { OnOk result (B.taken taker.new ≡ B.taken taker.old + length bytes.now) }
+    ensures within { B.taken taker.new ≤ B.taken taker.old + length bytes.now }
 {
-    let mut bytes = std::mem::replace(body, Bytes::new(alloc)).into_vec();
-    bytes.clear();
-    bytes.reserve_exact(size)?;
-    *body = Bytes::from_vec(bytes);
-    Ok(())
+    if bytes.is_empty() {
+        return Ok(());
+    }
+    taker.take(over, bytes)
 }
 
-/// Reads the present connection's input behind what is in `body` already, until that has so many bytes.
-pub fn read_body<D: Door>(
+/// Reads the present connection's input and hands it on, until the body that is taken has so many bytes.
+pub fn read_body<D: Door, G, B: TakesBody<G>>(
     door: &mut D,
     piece: &mut [u8],
     size: usize,
-    body: &mut Bytes,
+    came: usize,
+    over: &G,
+    taker: &mut B,
 ) -> Result<BodyRead, Failed>
     requires present { (D.beside door.old).present ≡ true }
     requires room { 0 < length piece.old }
-    requires front { length body.old ≤ size }
+    requires small { (came ≤ size) × (size ≤ 16777216) }
+    requires came { B.taken taker.old ≡ came }
     ensures reads { (bytes : List ℕ) × HasRead (D.beside door.old) (D.beside door.new) bytes
-        × IfOk result (λ it. ReadsBody (D.beside door.new) body.old bytes body.new size it)
-        × (length body.old + length bytes ≤ size) }
-    ensures held { length body.new ≤ size }
+        × IfOk result (λ it. ReadsBody (D.beside door.new) (B.stands over.now taker.old) (B.stands over.now taker.new)
+        came bytes size it) × (came + length bytes ≤ size) }
+    ensures taken { B.taken taker.new ≤ size }
     ensures output { D.told door.new ≡ D.told door.old }
     ensures counts { Counts (IsErr result) (D.faults door.old) (D.faults door.new) }
 {
-    while body.len() < size {
-        let count = read_piece(door, piece, size - body.len())?;
+    let mut done = came;
+    while done < size {
+        let count = read_piece(door, piece, size - done)?;
         if count == 0 {
             return Ok(BodyRead::Cut);
         }
-        let (came, _) = piece.split_at(count);
-        if body.extend(came).is_err() {
+        let (bytes, _) = piece.split_at(count);
+        if taker.take(over, bytes).is_err() {
             return Ok(BodyRead::NoRoom);
         }
+        done += count;
     }
     Ok(BodyRead::Whole)
 }

@@ -7,8 +7,8 @@ mod bodies;
 mod heads;
 mod piece;
 mod requests;
-#[cfg(test)]
-mod tests;
+mod taker;
 
 pub use asked::Asked;
 pub use requests::read_request;
+pub use taker::TakesBody;

@@ -6,9 +6,10 @@ ghost use Rattle.http_talk.specs.Request.{IsHead};
 ghost use Rattle.door_talk.specs.Requests.{AsksFor, HasMethod, HasRead, IsWithin};
 
 use crate::asked::Asked;
-use crate::bodies::{BodyRead, make_room, read_body};
+use crate::bodies::{BodyRead, hand_on, read_body};
 use crate::heads::{HeadRead, read_head};
-use gw_base::{Bytes, Door, Failed};
+use crate::taker::TakesBody;
+use gw_base::{Door, Failed, Moment};
 use http_talk::{Head, HeadReader, Refusal};
 use std::alloc::Global;
 
@@ -16,40 +17,45 @@ use std::alloc::Global;
 const PIECE: usize = 16_384;
 
 /// Reads the body of a POST, of which the part of the last piece from there to there came already.
-fn read_post<D: Door>(
+fn read_post<D: Door, G, B: TakesBody<G>>(
     alloc: Global,
     head: Head,
     from: usize,
     to: usize,
     piece: &mut [u8],
-    body: &mut Bytes,
+    over: &G,
+    moment: Moment,
+    taker: &mut B,
     door: &mut D,
 ) -> Asked
     requires present { (D.beside door.old).present ≡ true }
     requires room { 0 < length piece.old }
     requires part { (from ≤ to) × (to ≤ length piece.old) }
     requires post { is_post head.target ≡ true }
+    requires small { head.length ≤ 16777216 }
     ensures asks { IfSome (D.beside door.old).told (λ told. (input : List ℕ) (count : ℕ) → IsHead input count (Ok head)
-        → drop count input ≡ drop from (take to piece.old) ++ told.unread → AsksFor input body.new result) }
+        → drop count input ≡ drop from (take to piece.old) ++ told.unread
+        → AsksFor (B.stands over.now taker.new moment) input result) }
     ensures reads { (bytes : List ℕ) × HasRead (D.beside door.old) (D.beside door.new) bytes
         × (length bytes ≤ head.length - length (drop from (take to piece.old))) }
-    ensures held { length body.new ≤ head.length }
-    ensures method { HasMethod result }
+    ensures taken { B.taken taker.new ≤ head.length }
+    ensures method { HasMethod (B.stands over.now taker.new moment) result }
     ensures lost { result ≡ Asked.Lost → Rose (D.faults door.old) (D.faults door.new) }
     ensures counts { D.faults door.old ≤ D.faults door.new }
     ensures output { D.told door.new ≡ D.told door.old }
 {
     let size = head.length as usize;
-    if make_room(alloc, body, size).is_err() {
+    if taker.begin(alloc, over, moment, head.target, size).is_err() {
         return Asked::NoRoom;
     }
     let (came, _) = piece.split_at(to);
     let (_, part) = came.split_at(from);
     let (front, _) = part.split_at(size.min(part.len()));
-    if body.extend(front).is_err() {
+    if hand_on(over, taker, front).is_err() {
         return Asked::NoRoom;
     }
-    match read_body(door, piece, size, body) {
+    let len = front.len();
+    match read_body(door, piece, size, len, over, taker) {
         Ok(BodyRead::Whole) => Asked::Post(head.target),
         Ok(BodyRead::Cut) => Asked::Refused(Refusal::Cut),
         Ok(BodyRead::NoRoom) => Asked::NoRoom,
@@ -57,21 +63,24 @@ fn read_post<D: Door>(
     }
 }
 
-/// Reads what the present connection asks for, of which nothing was read yet. The body of a POST is read into `body`,
-/// which then has at most 16,777,216 bytes. No more is read than the 16,384 bytes that a head may have, or the head of
-/// a POST and its body (RFC 9112, section 6.3); a read that isn't at the input's end takes a byte or more, so the reads
-/// end.
-pub fn read_request<D: Door>(
+/// Reads what the present connection asks for at a moment, of which nothing was read yet. The body of a POST, which has
+/// at most 16,777,216 bytes, is taken as it arrives. No more is read than the 16,384 bytes that a head may have, or the
+/// head of a POST and its body (RFC 9112, section 6.3); a read that isn't at the input's end takes a byte or more, so
+/// the reads end.
+pub fn read_request<D: Door, G, B: TakesBody<G>>(
     alloc: Global,
     reader: &mut HeadReader,
-    body: &mut Bytes,
+    over: &G,
+    moment: Moment,
+    taker: &mut B,
     door: &mut D,
 ) -> Asked
     requires present { (D.beside door.old).present ≡ true }
-    ensures asks { IfSome (D.beside door.old).told (λ told. AsksFor told.unread body.new result) }
+    ensures asks { IfSome (D.beside door.old).told (λ told.
+        AsksFor (B.stands over.now taker.new moment) told.unread result) }
     ensures reads { (bytes : List ℕ) × HasRead (D.beside door.old) (D.beside door.new) bytes × IsWithin bytes }
-    ensures held { length body.old ≤ 16777216 → length body.new ≤ 16777216 }
-    ensures method { HasMethod result }
+    ensures taken { B.taken taker.old ≤ 16777216 → B.taken taker.new ≤ 16777216 }
+    ensures method { HasMethod (B.stands over.now taker.new moment) result }
     ensures lost { result ≡ Asked.Lost → Rose (D.faults door.old) (D.faults door.new) }
     ensures counts { D.faults door.old ≤ D.faults door.new }
     ensures output { D.told door.new ≡ D.told door.old }
@@ -83,7 +92,7 @@ pub fn read_request<D: Door>(
             if !head.target.is_post() {
                 return Asked::Get(head.target);
             }
-            read_post(alloc, head, from, to, &mut piece, body, door)
+            read_post(alloc, head, from, to, &mut piece, over, moment, taker, door)
         }
         Ok(HeadRead::Refused(why)) => Asked::Refused(why),
         Ok(HeadRead::Cut(why)) => Asked::Refused(why),

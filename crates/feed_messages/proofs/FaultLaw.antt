@@ -155,7 +155,7 @@ read_alert end piece pieces fields w none =
       },
     )
 
-read_entity : Reads entity_known OfFeedEntity
+pub read_entity : Reads entity_known OfFeedEntity
 read_entity end piece pieces fields w none =
     let id = last_there (bodies 1 fields)
     (not_missing 1 end names.Id piece pieces fields w (λ f x. none f (inl (inr x)))) in

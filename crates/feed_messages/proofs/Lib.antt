@@ -1,9 +1,20 @@
+pub mod Bodies
 pub mod Building
 pub mod Deciding
 pub mod FaultLaw
 pub mod FaultOrder
+pub mod FeedEnds
+pub mod FeedReading
+pub mod FieldFaults
+pub mod FieldFaultsKnown
+pub mod FieldFaultsLaw
+pub mod FieldFaultsMoved
+pub mod FieldFaultsOpen
+pub mod FieldFaultsOwn
+pub mod FieldFaultsSplit
 mod FieldLengths
 mod Finding
+pub mod HeadsSoFar
 mod HeaderLemmas
 pub mod MessageFaults
 pub mod MissingFields

@@ -1,4 +1,7 @@
 pub mod Faults
+pub mod FeedPieces
+pub mod FeedSteps
+pub mod FieldFaults
 pub mod Found
 pub mod Known
 pub mod Limits

@@ -4,10 +4,10 @@ ghost use Rattle.std.specs.Prelude.{◌≡◌, IfOk};
 ghost use Rattle.feed_messages.specs.Faults.{HasFault, IsLeast};
 
 pub mod lengths;
-mod messages;
-mod order;
-mod piece;
-mod pieces;
+pub mod messages;
+pub mod order;
+pub mod piece;
+pub mod pieces;
 mod tables;
 
 use crate::fault::FeedFault;

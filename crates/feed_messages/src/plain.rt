@@ -5,7 +5,7 @@ ghost use Rattle.gw_base.specs.declared.messages.Feed.{Feed};
 ghost use Rattle.feed_messages.specs.Tables.{MeansFeed};
 
 pub mod kinds;
-mod nested;
+pub mod nested;
 pub mod tables;
 
 use crate::plain_fault::PlainFault;

@@ -4,10 +4,10 @@ ghost use Rattle.std.specs.Prelude.{IfOk};
 ghost use Rattle.feed_messages.specs.Partly.{MeansShortFeed};
 
 mod alerts;
-mod feeds;
-mod fields;
+pub mod feeds;
+pub mod fields;
 mod found;
-mod nested;
+pub mod nested;
 mod room;
 mod trips;
 

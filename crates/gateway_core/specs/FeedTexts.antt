@@ -1,5 +1,5 @@
 -- What is answered to the bytes of a feed, over what journeys are read over (GTFS Realtime, FeedMessage).
-use Rattle.std.specs.Prelude.{◌≡◌, ℕ, ℤ, false, true, List, ⊤}
+use Rattle.std.specs.Prelude.{◌≡◌, ℕ, ℤ, false, true, List, Result, Ok, Err, ⊤}
 use Rattle.gw_base.specs.declared.messages.Feed.{Feed}
 use Rattle.feed_messages.specs.Tables.{MeansFeed}
 use Rattle.feed_messages.specs.Faults.{HasFault}
@@ -8,23 +8,16 @@ use Rattle.feed_messages.specs.declared.fault.FeedFault.TheVariants as fault
 use Rattle.journey_model.specs.Schedules.{Schedule}
 use Rattle.journey_model.specs.declared.report.Report.{Report}
 use Rattle.reverse_calls.specs.Siri.{HasTooMany, IsSiri, is_differential}
-use Rattle.reverse_calls.specs.declared.reverse_fault.ReverseFault as reverse
-use Rattle.reverse_calls.specs.declared.reverse_fault.ReverseFault.TheVariants as none
 use Rattle.gateway_core.specs.declared.accepted.FeedRefusal.{FeedRefusal}
 use Rattle.gateway_core.specs.declared.accepted.FeedRefusal.TheVariants as refusal
 
--- the refusal of bytes that have a fault, and that of a feed that has no delivery
+-- the refusal of bytes that have a fault
 abbrev pub of_bytes : faults.FeedFault → FeedRefusal
 of_bytes (fault.EntityTooLong at) = refusal.Feed (fault.EntityTooLong at)
 of_bytes (fault.Wire one) = refusal.Feed (fault.Wire one)
 of_bytes (fault.NotText at) = refusal.Feed (fault.NotText at)
 of_bytes (fault.MissingField at name) = refusal.Feed (fault.MissingField at name)
 of_bytes fault.Memory = refusal.Memory
-
-abbrev pub of_feed : reverse.ReverseFault → FeedRefusal
-of_feed none.Differential = refusal.Differential
-of_feed (none.TooManyCalls calls) = refusal.TooManyCalls calls
-of_feed none.Memory = refusal.Memory
 
 -- bytes are a feed without a fault
 pub record IsFeed (body : List ℕ) (given : Feed) : Type 0 where
@@ -45,3 +38,14 @@ IsRefusedFeed schedule body refusal.Differential = (given : Feed) × IsFeed body
 IsRefusedFeed schedule body (refusal.TooManyCalls calls) =
     (given : Feed) × IsFeed body given × (is_differential given ≡ false) × HasTooMany schedule given calls
 IsRefusedFeed schedule body refusal.Memory = ⊤
+
+-- what is answered to the end of a feed without a fault: that it is differential, that it has too many calls, or its
+-- SIRI text and the report on its entities; want of memory is free
+abbrev pub IsEnded : Schedule → ℤ → Feed → Result (List ℕ × Report) FeedRefusal → Type 0
+IsEnded schedule moment given (Ok both) =
+    (is_differential given ≡ false) × IsSiri schedule given moment both.0 both.1
+IsEnded schedule moment given (Err (refusal.Feed one)) = ⊥
+IsEnded schedule moment given (Err refusal.Differential) = is_differential given ≡ true
+IsEnded schedule moment given (Err (refusal.TooManyCalls calls)) =
+    (is_differential given ≡ false) × HasTooMany schedule given calls
+IsEnded schedule moment given (Err refusal.Memory) = ⊤

@@ -1,5 +1,6 @@
 pub mod Alerts
 pub mod Arrivals
+pub mod Arriving
 pub mod Deliveries
 pub mod Feeds
 pub mod FeedTexts

@@ -6,6 +6,7 @@ mod accepted;
 mod arrival_laws;
 mod estimated;
 mod feed_law;
+mod feed_taking;
 mod gateway;
 mod journeys;
 mod keys;
@@ -18,12 +19,11 @@ mod setting;
 mod situations;
 mod state_laws;
 mod taking;
-#[cfg(test)]
-mod tests;
 
 pub use accepted::{Accepted, FeedRefusal, TakeFault};
 pub use arrival_laws::recording_decides;
 pub use feed_law::serves_what_arrived;
+pub use feed_taking::FeedTaking;
 pub use gateway::Gateway;
 pub use keys::{Edition, JourneyKey};
 pub use laws::the_rebuilt_feed_is_one;

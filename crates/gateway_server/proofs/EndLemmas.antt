@@ -217,12 +217,12 @@ serves_without P Q before arrivals told clock old mid new first output last wide
 
 -- ---- what was asked
 
-pub asked_of : (output : Option (List ℕ)) (beside : Beside) (told : Connections) (body : List ℕ) (asked one : Asked) → IsFresh output beside told
-    → IfSome beside.told (λ told. AsksFor told.unread body asked) → asked ≡ one → AsksFor told.input body one
-asked_of output beside told body asked one fresh asks is =
-    subst (AsksFor told.input body) is
-    (subst (λ (input : List ℕ). AsksFor input body asked) fresh.unread
-    (subst (λ (t : Option Connections). IfSome t (λ told. AsksFor told.unread body asked)) fresh.tells asks))
+pub asked_of : (Stands : Target → List ℕ → Type 0) (output : Option (List ℕ)) (beside : Beside) (told : Connections) (asked one : Asked) → IsFresh output beside told
+    → IfSome beside.told (λ told. AsksFor Stands told.unread asked) → asked ≡ one → AsksFor Stands told.input one
+asked_of Stands output beside told asked one fresh asks is =
+    subst (AsksFor Stands told.input) is
+    (subst (λ (input : List ℕ). AsksFor Stands input asked) fresh.unread
+    (subst (λ (t : Option Connections). IfSome t (λ told. AsksFor Stands told.unread asked)) fresh.tells asks))
 
 pub answers_wider : (P Q : Type 0) (setting : Setting) (arrivals : List Arrival) (input : List ℕ) (moment : ℤ) (ends : Mark) (output : Option (List ℕ)) (now : Kept)
     → (P → Q) → Answers P setting arrivals input moment ends output now → Answers Q setting arrivals input moment ends output now

@@ -1,16 +1,21 @@
 -- What a gateway's answers to posted bodies are.
-use Rattle.std.proofs.Common.{◌≡◌, ℕ, ℤ, List, Result, Ok, Err, IfOk, OnErr, refl}
+use Rattle.std.proofs.Common.{◌≡◌, ◌∷◌, ℕ, ℤ, List, Some, Result, Ok, Err, IfOk, OnErr, refl, subst, sym}
 use Rattle.feed_messages.specs.declared.fault.FeedFault.TheVariants as feed_fault
+use Rattle.http_talk.specs.declared.target.Target.{Target}
 use Rattle.http_talk.specs.declared.target.Target.TheVariants.{EtPost, RtPost, SxPost}
 use Rattle.siri_calls.specs.declared.delivery.DeliveryFault.{DeliveryFault}
 use Rattle.siri_calls.specs.declared.delivery.DeliveryFault.TheVariants as delivery_fault
-use Rattle.gateway_core.specs.Arrivals.{Arrival, feed, journeys, situations}
-use Rattle.gateway_core.specs.Standing.{Kept}
+use Rattle.gateway_core.specs.Arrivals.{Arrival, feed, journeys, moments_of, situations, window_at}
+use Rattle.gateway_core.specs.Arriving as arriving
+use Rattle.gateway_core.specs.Arriving.{Arriving}
+use Rattle.gateway_core.specs.Standing.{Kept, Stands}
 use Rattle.gateway_core.specs.Taking.{FeedAnswer, JourneysAnswer, SituationsAnswer, report_json}
 use Rattle.gateway_core.specs.declared.accepted.Accepted.{Accepted}
 use Rattle.gateway_core.specs.declared.accepted.FeedRefusal.{FeedRefusal}
 use Rattle.gateway_core.specs.declared.accepted.FeedRefusal.TheVariants as feed_refusal
+use Rattle.gateway_server.specs.Posted.{FeedStands, StandsForBody}
 use Rattle.gateway_server.specs.Taking.{TookBody, of_delivery, of_feed}
+use Rattle.gateway_server.proofs.PostedLemmas.{feed_of}
 
 pub took_journeys : (kept : Kept) (arrivals : List Arrival) (moment : ℤ) (body : List ℕ) (answer : Result Accepted DeliveryFault) (now : Kept)
     → JourneysAnswer kept arrivals moment body answer now → IfOk answer (λ accepted. accepted.text ≡ report_json accepted.report) → OnErr answer (now ≡ kept)
@@ -40,3 +45,17 @@ took_feed kept arrivals moment body (Err (feed_refusal.Feed feed_fault.Memory)) 
 took_feed kept arrivals moment body (Err feed_refusal.Differential) now says text same = ((says.0, (says.1, says.2), says.3), same)
 took_feed kept arrivals moment body (Err (feed_refusal.TooManyCalls calls)) now says text same = ((says.0, (says.1, says.2), says.3, says.4), same)
 took_feed kept arrivals moment body (Err feed_refusal.Memory) now says text same = same
+
+-- a feed that arrived, at its target
+pub took_arrived : (kept : Kept) (arrivals : List Arrival) (moment : ℤ) (body : List ℕ) (one : Arriving) (target : Target) (bytes : List ℕ) (answer : Result Accepted FeedRefusal) (now : Kept)
+    → Stands kept arrivals → StandsForBody kept moment body (Some one) target bytes
+    → (one.window ≡ window_at kept.setting (one.moment ∷ moments_of arrivals) → (bytes : List ℕ) → arriving.StandsFor kept.setting one bytes → FeedAnswer kept arrivals one.moment bytes answer now)
+    → IfOk answer (λ accepted. accepted.text ≡ report_json accepted.report) → OnErr answer (now ≡ kept)
+    → TookBody kept arrivals moment target bytes (of_feed answer) now
+took_arrived kept arrivals moment body one target bytes answer now stands posts takes text same =
+    let posted : (target ≡ RtPost) × FeedStands kept moment one bytes = feed_of kept moment body one target bytes posts in
+    subst (λ (t : Target). TookBody kept arrivals moment t bytes (of_feed answer) now) (sym posted.0)
+    (took_feed kept arrivals moment bytes answer now
+    (subst (λ (m : ℤ). FeedAnswer kept arrivals m bytes answer now) posted.1.moment_is
+    (takes (subst (λ (m : ℤ). one.window ≡ window_at kept.setting (m ∷ moments_of arrivals)) (sym posted.1.moment_is) (posted.1.window_is arrivals stands)) bytes posted.1.stands))
+    text same)

@@ -5,9 +5,8 @@
 mod answering;
 mod completeness;
 mod looping;
+mod posted;
 mod serving;
-#[cfg(test)]
-mod tests;
 mod took;
 
 pub use completeness::what_is_well_formed_is_taken;

@@ -7,13 +7,15 @@ ghost use Rattle.door_talk.specs.Requests.{HasRead, IsWithin};
 ghost use Rattle.http_talk.specs.Asked.{is_post};
 ghost use Rattle.gateway_core.specs.Arrivals.{Arrival};
 ghost use Rattle.gateway_core.specs.Standing.{Stands};
+ghost use Rattle.gateway_server.specs.Posted.{StandsForBody};
 ghost use Rattle.gateway_server.specs.Serving.{IsFresh, Serves};
 ghost use Rattle.gateway_server.specs.Steps.{Answers, PutsShown, PutsTaken};
 
 use crate::answering::{put_answer, put_feed, put_refusal, put_siri, status_of};
+use crate::posted::PostedBody;
 use crate::took::{Took, take_body};
 use door_talk::{Asked, read_request};
-use gateway_core::{Gateway, serves_what_arrived};
+use gateway_core::{FeedTaking, Gateway, serves_what_arrived};
 use gw_base::{Bytes, Clock, Door, Failed, Mark, Moment, Sink};
 use http_talk::{Answer, HeadReader, Refusal, Target};
 use std::alloc::Global;
@@ -36,24 +38,27 @@ fn show<S: Sink>(sink: &mut S, gate: &Gateway, target: Target, moment: Moment)
     }
 }
 
-// Takes a posted body, and answers with the report on it or its refusal.
+// Takes a body that was posted and arrived whole, and answers with the report on it or its refusal.
 fn take<S: Sink>(
     alloc: Global,
     gate: &mut Gateway,
     target: Target,
     body: &[u8],
+    feed: Option<FeedTaking>,
     moment: Moment,
     sink: &mut S,
 ) -> Mark
     requires post { is_post target ≡ true }
+    requires stands { (bytes : List ℕ) × StandsForBody gate.old moment body.now feed target bytes }
     ensures takes { (arrivals : List Arrival) → Stands gate.old arrivals
-        → PutsTaken (Rose (S.faults sink.old) (S.faults sink.new)) gate.old arrivals moment target body.now result
+        → (bytes : List ℕ) → StandsForBody gate.old moment body.now feed target bytes
+        → PutsTaken (Rose (S.faults sink.old) (S.faults sink.new)) gate.old arrivals moment target bytes result
         (S.told sink.old) (S.told sink.new) gate.new }
     ensures setting { gate.new.setting ≡ gate.old.setting }
     ensures counts { S.faults sink.old ≤ S.faults sink.new }
     ensures others { S.beside sink.new ≡ S.beside sink.old }
 {
-    match take_body(alloc, gate, target, body, moment) {
+    match take_body(alloc, gate, target, body, feed, moment) {
         Took::Taken(mark, text) => {
             put_answer(sink, &Answer::Json, text.as_slice());
             mark
@@ -89,12 +94,16 @@ fn answer<D: Door>(
     ensures setting { gate.new.setting ≡ gate.old.setting }
     ensures counts { D.faults door.old ≤ D.faults door.new }
 {
-    match read_request(alloc, reader, body, door) {
+    let mut posted = PostedBody::with_buffer(std::mem::replace(body, Bytes::new(alloc)));
+    let asked = read_request(alloc, reader, &*gate, moment, &mut posted, door);
+    let (held, feed) = posted.into_parts();
+    *body = held;
+    match asked {
         Asked::Get(target) => {
             show(door, gate, target, moment);
             Mark::Shown
         }
-        Asked::Post(target) => take(alloc, gate, target, body.as_slice(), moment, door),
+        Asked::Post(target) => { take(alloc, gate, target, body.as_slice(), feed, moment, door) },
         Asked::Refused(why) => {
             put_refusal(door, why);
             Mark::Refused(status_of(&why))

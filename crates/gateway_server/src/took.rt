@@ -1,12 +1,13 @@
 //! What a gateway does with a posted body. The functions meet `specs/Taking.antt`.
-ghost use Rattle.std.specs.Prelude.{◌≡◌, true, List};
+ghost use Rattle.std.specs.Prelude.{◌≡◌, ◌⊎◌, true, ℕ, List};
 ghost use Rattle.http_talk.specs.Asked.{is_post};
 ghost use Rattle.gateway_core.specs.Arrivals.{Arrival};
 ghost use Rattle.gateway_core.specs.Standing.{Stands};
+ghost use Rattle.gateway_server.specs.Posted.{StandsForBody};
 ghost use Rattle.gateway_server.specs.Taking as spec;
 
 use feed_messages::FeedFault;
-use gateway_core::{Accepted, FeedRefusal, Gateway, TakeFault};
+use gateway_core::{Accepted, FeedRefusal, FeedTaking, Gateway, TakeFault};
 use gw_base::{Bytes, Mark, Moment};
 use http_talk::{BodyFault, Target};
 use std::alloc::Global;
@@ -60,22 +61,44 @@ fn of_feed(answer: Result<Accepted, FeedRefusal>) -> Took
     }
 }
 
-/// Hands a posted body to the gateway, by its target.
-pub fn take_body(
+// Hands the body of a delivery to the gateway, by its target.
+fn take_delivery(
     alloc: Global,
     gate: &mut Gateway,
     target: Target,
     body: &[u8],
     moment: Moment,
 ) -> Took
-    requires post { is_post target ≡ true }
+    requires delivery { (target ≡ Target.EtPost) ⊎ (target ≡ Target.SxPost) }
     ensures takes { (arrivals : List Arrival) → Stands gate.old arrivals
         → spec.TookBody gate.old arrivals moment target body.now result gate.new }
     ensures setting { gate.new.setting ≡ gate.old.setting }
 {
     match target {
         Target::SxPost => of_delivery(gate.take_situations(alloc, body, moment)),
-        Target::RtPost => of_feed(gate.take_feed(alloc, body, moment)),
         _ => of_delivery(gate.take_estimated(alloc, body, moment)),
+    }
+}
+
+/// What the gateway does with a body that was posted to a target and arrived whole: a feed that was read on the way is
+/// ended, and a delivery is handed over.
+pub fn take_body(
+    alloc: Global,
+    gate: &mut Gateway,
+    target: Target,
+    body: &[u8],
+    feed: Option<FeedTaking>,
+    moment: Moment,
+) -> Took
+    requires post { is_post target ≡ true }
+    requires stands { (bytes : List ℕ) × StandsForBody gate.old moment body.now feed target bytes }
+    ensures takes { (arrivals : List Arrival) → Stands gate.old arrivals
+        → (bytes : List ℕ) → StandsForBody gate.old moment body.now feed target bytes
+        → spec.TookBody gate.old arrivals moment target bytes result gate.new }
+    ensures setting { gate.new.setting ≡ gate.old.setting }
+{
+    match feed {
+        Some(feed) => of_feed(gate.end_feed(alloc, feed)),
+        None => take_delivery(alloc, gate, target, body, moment),
     }
 }

@@ -22,8 +22,6 @@ mod moment;
 mod required;
 mod sink;
 pub mod stop_relation;
-#[cfg(test)]
-mod tests;
 mod text;
 pub mod trip_relation;
 mod uses;
@@ -41,8 +39,8 @@ pub use memory_door::MemoryDoor;
 pub use memory_files::MemoryFiles;
 pub use memory_sink::MemorySink;
 pub use messages::{
-    Alert, Entity, Event, Feed, Period, Selector, StopUpdate, Translation, TripDescriptor,
-    TripUpdate,
+    Alert, Entity, Event, Feed, FeedHead, Period, Selector, StopUpdate, Translation,
+    TripDescriptor, TripUpdate,
 };
 pub use moment::Moment;
 pub use required::Required;

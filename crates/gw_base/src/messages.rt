@@ -17,6 +17,17 @@ pub struct Feed {
     pub entities: List<Entity>,
 }
 
+/// What a feed says of itself, without its entities (GTFS Realtime, FeedHeader).
+#[derive(Debug, Drop)]
+pub struct FeedHead {
+    /// The version of the feed's specification, as `2.0`.
+    pub version: Text,
+    /// 0 for a full dataset, 1 for a differential one.
+    pub incrementality: i32,
+    /// When the feed was made, in seconds since 1970.
+    pub timestamp: Option<u64>,
+}
+
 /// One entity of a feed (GTFS Realtime, FeedEntity).
 #[derive(Debug, Drop)]
 pub struct Entity {

@@ -1,4 +1,5 @@
-//! The numbers of a stop's schedule_relationship (GTFS Realtime, StopTimeUpdate.ScheduleRelationship) that are read or written.
+//! The numbers of a stop's schedule_relationship (GTFS Realtime, StopTimeUpdate.ScheduleRelationship) that are read or
+//! written.
 
 /// The stop is served, at the times of the update.
 pub const SCHEDULED: i32 = 0;

@@ -1,4 +1,5 @@
-//! The numbers of a trip's schedule_relationship (GTFS Realtime, TripDescriptor.ScheduleRelationship) that are read or written.
+//! The numbers of a trip's schedule_relationship (GTFS Realtime, TripDescriptor.ScheduleRelationship) that are read or
+//! written.
 
 /// The trip runs as the schedule has it.
 pub const SCHEDULED: i32 = 0;

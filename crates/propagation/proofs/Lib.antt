@@ -1,6 +1,7 @@
 pub mod DayLemmas
 pub mod EntityLemmas
 pub mod FeedLemmas
+pub mod FoldLemmas
 pub mod KnownLemmas
 pub mod LastLemmas
 pub mod PlaceLemmas

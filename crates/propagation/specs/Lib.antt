@@ -1,5 +1,6 @@
 pub mod Answers
 pub mod Feeds
+pub mod Folding
 pub mod Saying
 pub mod SortedOut
 pub mod Spreading

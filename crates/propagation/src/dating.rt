@@ -1,12 +1,14 @@
 //! The trip and the service day of an update, and when it was recorded. The functions meet `journey_model`'s
 //! `specs/FeedReadings.antt`.
 ghost use Rattle.std.specs.Prelude.{◌≡◌, ◌<◌, ◌<ℤ◌, negsuc, pos, None, length, option_map, IfSome};
+ghost use Rattle.std.specs.Option.{option_or};
 ghost use Rattle.journey_model.specs.FeedReadings as spec;
 ghost use Rattle.journey_model.specs.Schedules.{schedule_of};
 ghost use Rattle.service_day.specs.Utc.{moment_if};
+ghost use Rattle.propagation.specs.Folding.{bare_feed, is_dated};
 
 use crate::placing::filled_text;
-use gw_base::{Feed, Moment, TripUpdate};
+use gw_base::{Moment, TripUpdate};
 use journey_model::Context;
 use service_day::{Day, DayForm, local_day, read_day};
 use stop_schedule::TripNo;
@@ -31,14 +33,21 @@ fn moment_in(timestamp: Option<u64>) -> Option<Moment>
     }
 }
 
-/// When an update was recorded: at its own timestamp, else at the feed's.
-pub(crate) fn recorded_in(feed: &Feed, update: &TripUpdate) -> Option<Moment>
-    ensures { result ≡ spec.recorded_in feed.now update.now }
+/// The moment that is recorded, else the feed's timestamp, where that is a moment.
+pub(crate) fn recorded_or(recorded: Option<Moment>, timestamp: Option<u64>) -> Option<Moment>
+    ensures { result ≡ option_or recorded (spec.moment_in timestamp) }
 {
-    match moment_in(update.timestamp) {
+    match recorded {
         Some(recorded) => Some(recorded),
-        None => moment_in(feed.timestamp),
+        None => moment_in(timestamp),
     }
+}
+
+/// When an update was recorded: at its own timestamp, else at the feed's.
+pub(crate) fn recorded_in(timestamp: Option<u64>, update: &TripUpdate) -> Option<Moment>
+    ensures { result ≡ spec.recorded_in (bare_feed timestamp) update.now }
+{
+    recorded_or(moment_in(update.timestamp), timestamp)
 }
 
 /// The trip that an update names (GTFS Realtime reference, TripDescriptor: trip_id).
@@ -82,19 +91,26 @@ fn day_made(context: &Context<'_>, trip: TripNo, made: Option<Moment>) -> Option
     }
 }
 
+/// Whether an update names its service day (GTFS Realtime reference, TripDescriptor: start_date).
+pub(crate) fn is_dated(update: &TripUpdate) -> bool
+    ensures { result ≡ is_dated update.now }
+{
+    filled_text(&update.trip.start_date).is_some()
+}
+
 /// The service day of an update (GTFS Realtime reference, TripDescriptor: start_date): the one that it names; else the
 /// local date of the feed's timestamp or the day before, on which the trip runs.
 pub(crate) fn day_named(
     context: &Context<'_>,
-    feed: &Feed,
+    timestamp: Option<u64>,
     trip: TripNo,
     update: &TripUpdate,
 ) -> Option<Day>
     requires { trip.0 < length context.now.table.now.trips }
-    ensures { result ≡ spec.day_named (schedule_of context.now) feed.now trip.0 update.now }
+    ensures { result ≡ spec.day_named (schedule_of context.now) (bare_feed timestamp) trip.0 update.now }
 {
     match filled_text(&update.trip.start_date) {
         Some(date) => read_day(date, DayForm::Compact),
-        None => day_made(context, trip, moment_in(feed.timestamp)),
+        None => day_made(context, trip, moment_in(timestamp)),
     }
 }

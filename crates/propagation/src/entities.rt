@@ -4,12 +4,14 @@ ghost use Rattle.journey_model.specs.Dated.{run_of};
 ghost use Rattle.journey_model.specs.FeedReadings as spec;
 ghost use Rattle.journey_model.specs.Schedules.{run_on, schedule_of};
 ghost use Rattle.propagation.specs.Answers.{Propagates};
+ghost use Rattle.propagation.specs.Folding.{bare_feed, entity_early, late_said, update_early};
 
-use crate::dating::{day_named, recorded_in, trip_named};
+use crate::dating::{day_named, is_dated, recorded_in, recorded_or, trip_named};
+use crate::entity_said::EntitySaid;
 use crate::update_fault::UpdateFault;
 use crate::updates::propagate;
 use gw_base::trip_relation::{CANCELED, SCHEDULED};
-use gw_base::{Entity, Feed, TripUpdate};
+use gw_base::{Boxed, Entity, TripUpdate};
 use journey_model::{Context, DatedReading, DatedTrip, Fault};
 use service_day::Day;
 use std::alloc::{AllocError, Global};
@@ -19,12 +21,12 @@ use stop_schedule::TripNo;
 fn read_dated(
     alloc: Global,
     context: &Context<'_>,
-    feed: &Feed,
+    timestamp: Option<u64>,
     update: &TripUpdate,
     dated: &DatedTrip<'_>,
 ) -> Result<DatedReading, UpdateFault>
     ensures { let run = run_of context.now.table.now.stops dated.now in
-        let recorded = spec.recorded_in feed.now update.now in
+        let recorded = spec.recorded_in (bare_feed timestamp) update.now in
         let said = spec.reading_said run update.now in
         Propagates (spec.with_reading dated.now.trip.0 dated.now.day recorded said) result }
 {
@@ -32,7 +34,7 @@ fn read_dated(
     Ok(DatedReading {
         trip: dated.trip,
         day: dated.day,
-        recorded: recorded_in(feed, update),
+        recorded: recorded_in(timestamp, update),
         reading,
     })
 }
@@ -41,20 +43,21 @@ fn read_dated(
 fn read_on(
     alloc: Global,
     context: &Context<'_>,
-    feed: &Feed,
+    timestamp: Option<u64>,
     update: &TripUpdate,
     trip: TripNo,
     day: Day,
 ) -> Result<DatedReading, UpdateFault>
     requires { trip.0 < length context.now.table.now.trips }
     ensures { let schedule = schedule_of context.now in
-        Propagates (spec.said_on schedule feed.now update.now trip.0 day (run_on schedule trip.0 day)) result }
+        let run = run_on schedule trip.0 day in
+        Propagates (spec.said_on schedule (bare_feed timestamp) update.now trip.0 day run) result }
 {
     let Some(dated) = context.dated(trip, day) else {
         return Err(UpdateFault::Fault(Fault::OutOfWindow));
     };
     if context.table.runs(trip, day) {
-        read_dated(alloc, context, feed, update, &dated)
+        read_dated(alloc, context, timestamp, update, &dated)
     } else {
         Err(UpdateFault::Fault(Fault::NotRunning))
     }
@@ -64,18 +67,18 @@ fn read_on(
 fn read_trip(
     alloc: Global,
     context: &Context<'_>,
-    feed: &Feed,
+    timestamp: Option<u64>,
     update: &TripUpdate,
 ) -> Result<DatedReading, UpdateFault>
     ensures { let schedule = schedule_of context.now in
         let trip = spec.trip_named schedule update.now in
-        Propagates (spec.said_of_trip schedule feed.now update.now trip) result }
+        Propagates (spec.said_of_trip schedule (bare_feed timestamp) update.now trip) result }
 {
     let Some(trip) = trip_named(context, update) else {
         return Err(UpdateFault::Fault(Fault::UnknownJourney));
     };
-    match day_named(context, feed, trip, update) {
-        Some(day) => read_on(alloc, context, feed, update, trip, day),
+    match day_named(context, timestamp, trip, update) {
+        Some(day) => read_on(alloc, context, timestamp, update, trip, day),
         None => Err(UpdateFault::Fault(Fault::NoDate)),
     }
 }
@@ -84,25 +87,43 @@ fn read_trip(
 fn read_update(
     alloc: Global,
     context: &Context<'_>,
-    feed: &Feed,
+    timestamp: Option<u64>,
     update: &TripUpdate,
 ) -> Result<DatedReading, UpdateFault>
-    ensures { Propagates (spec.update_said (schedule_of context.now) feed.now update.now) result }
+    ensures { Propagates (spec.update_said (schedule_of context.now) (bare_feed timestamp) update.now) result }
 {
     match update.trip.relation {
-        SCHEDULED | CANCELED => read_trip(alloc, context, feed, update),
+        SCHEDULED | CANCELED => read_trip(alloc, context, timestamp, update),
         relation => Err(UpdateFault::Fault(Fault::OtherRelation(relation))),
     }
 }
 
-/// What an entity says: None where it is to be deleted or has no trip update.
+// What an update says, or the fault for which it is set aside.
+fn said_of(
+    alloc: Global,
+    context: &Context<'_>,
+    timestamp: Option<u64>,
+    update: &TripUpdate,
+) -> Result<Result<DatedReading, Fault>, AllocError>
+    ensures { let schedule = schedule_of context.now in
+        IfOk result (λ said. said ≡ spec.update_said schedule (bare_feed timestamp) update.now) }
+{
+    match read_update(alloc, context, timestamp, update) {
+        Ok(reading) => Ok(Ok(reading)),
+        Err(UpdateFault::Fault(fault)) => Ok(Err(fault)),
+        Err(UpdateFault::Memory) => Err(AllocError),
+    }
+}
+
+/// What an entity says in a feed of that timestamp: None where it is to be deleted or has no trip update.
 pub(crate) fn read_entity(
     alloc: Global,
     context: &Context<'_>,
-    feed: &Feed,
+    timestamp: Option<u64>,
     entity: &Entity,
 ) -> Result<Option<Result<DatedReading, Fault>>, AllocError>
-    ensures { IfOk result (λ said. said ≡ spec.entity_said (schedule_of context.now) feed.now entity.now) }
+    ensures { let schedule = schedule_of context.now in
+        IfOk result (λ said. said ≡ spec.entity_said schedule (bare_feed timestamp) entity.now) }
 {
     if entity.deleted {
         return Ok(None);
@@ -110,9 +131,62 @@ pub(crate) fn read_entity(
     let Some(update) = &entity.trip_update else {
         return Ok(None);
     };
-    match read_update(alloc, context, feed, update) {
-        Ok(reading) => Ok(Some(Ok(reading))),
-        Err(UpdateFault::Fault(fault)) => Ok(Some(Err(fault))),
-        Err(UpdateFault::Memory) => Err(AllocError),
+    Ok(Some(said_of(alloc, context, timestamp, update)?))
+}
+
+// What an update says before the feed's header is known.
+fn update_early(
+    alloc: Global,
+    context: &Context<'_>,
+    update: TripUpdate,
+) -> Result<EntitySaid, AllocError>
+    ensures { IfOk result (λ said. said ≡ update_early (schedule_of context.now) update) }
+{
+    if !is_dated(&update) {
+        return Ok(EntitySaid::Waits(Boxed::new(alloc, update)?));
+    }
+    match said_of(alloc, context, None, &update)? {
+        Ok(reading) => Ok(EntitySaid::Given(reading)),
+        Err(fault) => Ok(EntitySaid::Aside(fault)),
+    }
+}
+
+/// What an entity says before the feed's header is known: None where it is to be deleted or has no trip update.
+pub(crate) fn read_early(
+    alloc: Global,
+    context: &Context<'_>,
+    entity: Entity,
+) -> Result<Option<EntitySaid>, AllocError>
+    ensures { IfOk result (λ said. said ≡ entity_early (schedule_of context.now) entity) }
+{
+    let Entity {
+        id: _,
+        deleted,
+        trip_update,
+        alert: _,
+    } = entity;
+    match trip_update {
+        Some(update) if !deleted => Ok(Some(update_early(alloc, context, update)?)),
+        _ => Ok(None),
+    }
+}
+
+/// What it says once the header's timestamp is known.
+pub(crate) fn read_late(
+    alloc: Global,
+    context: &Context<'_>,
+    timestamp: Option<u64>,
+    said: EntitySaid,
+) -> Result<Result<DatedReading, Fault>, AllocError>
+    ensures { let schedule = schedule_of context.now in
+        IfOk result (λ found. found ≡ late_said schedule (bare_feed timestamp) said) }
+{
+    match said {
+        EntitySaid::Given(reading) => Ok(Ok(DatedReading {
+            recorded: recorded_or(reading.recorded, timestamp),
+            ..reading
+        })),
+        EntitySaid::Aside(fault) => Ok(Err(fault)),
+        EntitySaid::Waits(update) => said_of(alloc, context, timestamp, update.get()),
     }
 }

@@ -1,8 +1,9 @@
 //! What a feed says of journeys. The functions meet `specs/Feeds.antt`.
 ghost use Rattle.std.specs.Prelude.{◌≡◌, reverse, IfOk};
 ghost use Rattle.std.specs.List.Sorted.{IsPermutation, IsSorted};
+ghost use Rattle.gw_base.specs.declared.messages.Feed.{Feed};
 ghost use Rattle.journey_model.specs.FeedReadings as spec;
-ghost use Rattle.journey_model.specs.Schedules.{schedule_of};
+ghost use Rattle.journey_model.specs.Schedules.{Schedule, schedule_of};
 ghost use Rattle.propagation.specs.Feeds.{IsReading, journey_cmp};
 ghost use Rattle.propagation.specs.SortedOut.{IsSortedOut};
 
@@ -26,9 +27,9 @@ pub struct FeedReading {
 /// The entities of a feed: what was read, how many were passed, and which were set aside.
 #[derive(Drop)]
 pub struct SortedOut {
-    given: List<DatedReading>,
-    passed: u64,
-    aside: List<(u64, Fault)>,
+    pub(crate) given: List<DatedReading>,
+    pub(crate) passed: u64,
+    pub(crate) aside: List<(u64, Fault)>,
 }
 
 // What the entities of a feed say, in order.
@@ -39,7 +40,7 @@ fn sorted_out(alloc: Global, feed: &Feed, context: &Context<'_>) -> Result<Sorte
     let mut passed = 0;
     let mut aside = List::new(alloc);
     for (number, entity) in feed.entities.as_slice().iter().enumerate() {
-        match read_entity(alloc, context, feed, entity)? {
+        match read_entity(alloc, context, feed.timestamp, entity)? {
             None => passed += 1,
             Some(Ok(reading)) => given.push(reading)?,
             Some(Err(fault)) => aside.push((number as u64, fault))?,
@@ -84,21 +85,16 @@ fn by_journey(readings: Vec<DatedReading>) -> Result<List<DatedReading>, AllocEr
     Ok(List::from_vec(sorted))
 }
 
-/// What a feed says of journeys over a timetable (GTFS Realtime reference, FeedEntity and TripUpdate): of the updates
-/// of one journey the last counts; entities without a trip update and those that are to be deleted are passed, and an
-/// update with a fault is set aside. Err for want of memory.
-pub fn readings_of(
-    alloc: Global,
-    feed: &Feed,
-    context: &Context<'_>,
-) -> Result<FeedReading, AllocError>
-    ensures { IfOk result (IsReading (schedule_of context.now) feed.now) }
+/// What a feed says of journeys whose entities are sorted out.
+pub(crate) fn reading_of(alloc: Global, sorted: SortedOut) -> Result<FeedReading, AllocError>
+    ensures { (schedule : Schedule) (feed : Feed) → IsSortedOut (spec.readings schedule feed) sorted
+        → IfOk result (IsReading schedule feed) }
 {
     let SortedOut {
         given,
         passed,
         aside,
-    } = sorted_out(alloc, feed, context)?;
+    } = sorted;
     let taken = given.len() as u64;
     let journeys = by_journey(last_of_each(alloc, given)?)?;
     Ok(FeedReading {
@@ -109,4 +105,17 @@ pub fn readings_of(
             aside,
         },
     })
+}
+
+/// What a feed says of journeys over a timetable (GTFS Realtime reference, FeedEntity and TripUpdate): of the updates
+/// of one journey the last counts; entities without a trip update and those that are to be deleted are passed, and an
+/// update with a fault is set aside. Err for want of memory.
+pub fn readings_of(
+    alloc: Global,
+    feed: &Feed,
+    context: &Context<'_>,
+) -> Result<FeedReading, AllocError>
+    ensures { IfOk result (IsReading (schedule_of context.now) feed.now) }
+{
+    reading_of(alloc, sorted_out(alloc, feed, context)?)
 }

@@ -4,16 +4,18 @@
 
 mod dating;
 mod entities;
+mod entity_said;
 mod events;
 mod feeds;
+mod folding;
 mod placing;
 mod propagating;
 mod room;
-#[cfg(test)]
-mod tests;
 mod update_fault;
 mod updates;
 
+pub use entity_said::EntitySaid;
 pub use feeds::{FeedReading, readings_of};
+pub use folding::ReadingFold;
 pub use update_fault::UpdateFault;
 pub use updates::propagate;

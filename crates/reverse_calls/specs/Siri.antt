@@ -11,6 +11,8 @@ use Rattle.propagation.specs.Feeds.{IsReading}
 use Rattle.propagation.specs.declared.feeds.FeedReading.{FeedReading}
 use Rattle.siri_calls.specs.DeliveryTree.{delivery_text}
 use Rattle.siri_calls.specs.SaidAgain.{SaysAgain}
+use Rattle.reverse_calls.specs.declared.readings_fault.ReadingsFault.{ReadingsFault}
+use Rattle.reverse_calls.specs.declared.readings_fault.ReadingsFault.TheVariants as of_readings
 use Rattle.reverse_calls.specs.declared.reverse_fault.ReverseFault.{ReverseFault}
 use Rattle.reverse_calls.specs.declared.reverse_fault.ReverseFault.TheVariants.{Differential, TooManyCalls, Memory}
 
@@ -47,6 +49,22 @@ pub record HasTooMany (schedule : Schedule) (feed : Feed) (calls : ℕ) : Type 0
   pub reading : IsReading schedule feed found
   pub count : calls ≡ call_count schedule found.journeys
   pub over : most_calls < calls
+
+-- what readings are answered: they have so few calls and the text says them, or they have that many; want of memory is
+-- free
+abbrev pub IsReadingsAnswer : Schedule → List DatedReading → ℤ → Result (List ℕ) ReadingsFault → Type 0
+IsReadingsAnswer schedule journeys moment (Ok text) =
+    (call_count schedule journeys ≤ most_calls)
+    × (text ≡ delivery_text schedule moment journeys) × SaysAgain schedule moment journeys text
+IsReadingsAnswer schedule journeys moment (Err (of_readings.TooManyCalls calls)) =
+    (calls ≡ call_count schedule journeys) × (most_calls < calls)
+IsReadingsAnswer schedule journeys moment (Err of_readings.Memory) = Unit {0}
+
+-- what a feed is answered of which these are the readings, with that report
+abbrev pub IsTextOfFeed : Schedule → Feed → ℤ → Report → Result (List ℕ) ReadingsFault → Type 0
+IsTextOfFeed schedule feed moment report (Ok text) = IsSiri schedule feed moment text report
+IsTextOfFeed schedule feed moment report (Err (of_readings.TooManyCalls calls)) = HasTooMany schedule feed calls
+IsTextOfFeed schedule feed moment report (Err of_readings.Memory) = Unit {0}
 
 -- what a feed that isn't differential is answered: want of memory is free
 abbrev pub IsFullAnswer : Schedule → Feed → ℤ → Result (List ℕ × Report) ReverseFault → Type 0

@@ -3,11 +3,11 @@
 #![tactic(auto)]
 
 mod counting;
+mod readings_fault;
 mod reverse_fault;
 mod sayable;
 mod siri;
-#[cfg(test)]
-mod tests;
 
+pub use readings_fault::ReadingsFault;
 pub use reverse_fault::ReverseFault;
-pub use siri::siri_of;
+pub use siri::{siri_of, siri_of_readings};

@@ -1,12 +1,14 @@
 //! The SIRI delivery of a feed. The functions meet `specs/Siri.antt`.
 ghost use Rattle.std.specs.Prelude.{◌≡◌, All, IfOk};
 ghost use Rattle.journey_model.specs.Schedules.{schedule_of};
-ghost use Rattle.propagation.specs.Feeds.{IsServable};
+ghost use Rattle.gw_base.specs.declared.messages.Feed.{Feed};
+ghost use Rattle.propagation.specs.Feeds.{IsReading, IsServable};
 ghost use Rattle.siri_calls.specs.DeliveryTree.{delivery_text};
 ghost use Rattle.siri_calls.specs.SaidAgain.{SaysAgain};
-ghost use Rattle.reverse_calls.specs.Siri.{IsAnswer, IsFullAnswer};
+ghost use Rattle.reverse_calls.specs.Siri.{IsAnswer, IsFullAnswer, IsReadingsAnswer, IsTextOfFeed};
 
 use crate::counting::calls_of;
+use crate::readings_fault::ReadingsFault;
 use crate::reverse_fault::ReverseFault;
 use crate::sayable::are_sayable;
 use gw_base::incrementality::DIFFERENTIAL;
@@ -36,6 +38,31 @@ fn said(
     write_delivery(alloc, context, journeys, moment)
 }
 
+/// The SIRI delivery that says at that moment the readings of a feed, which `readings_of` or `ReadingFold::finish` of
+/// `propagation` made (SIRI 2.0, EstimatedTimetableDelivery). TooManyCalls exactly where the trips of the journeys have
+/// over 400,000 stops, which are counted before a byte is written; Memory for want of memory.
+pub fn siri_of_readings(
+    alloc: Global,
+    context: &Context<'_>,
+    reading: &FeedReading,
+    moment: Moment,
+) -> Result<Bytes, ReadingsFault>
+    requires servable { All (IsServable (schedule_of context.now)) reading.now.journeys }
+    ensures answers { IsReadingsAnswer (schedule_of context.now) reading.now.journeys moment result }
+    ensures of_feed { (feed : Feed) → IsReading (schedule_of context.now) feed reading.now
+        → IsTextOfFeed (schedule_of context.now) feed moment reading.now.report result }
+{
+    let journeys = reading.journeys.as_slice();
+    let calls = calls_of(context, journeys);
+    if calls > MOST_CALLS {
+        return Err(ReadingsFault::TooManyCalls(calls));
+    }
+    match said(alloc, context, journeys, moment) {
+        Ok(text) => Ok(text),
+        Err(_) => Err(ReadingsFault::Memory),
+    }
+}
+
 // The delivery of a feed that isn't differential, and the report on its entities.
 fn siri_of_full(
     alloc: Global,
@@ -45,17 +72,14 @@ fn siri_of_full(
 ) -> Result<(Bytes, Report), ReverseFault>
     ensures { IsFullAnswer (schedule_of context.now) feed.now moment result }
 {
-    let FeedReading { journeys, report } = match readings_of(alloc, feed, context) {
+    let reading = match readings_of(alloc, feed, context) {
         Ok(reading) => reading,
         Err(_) => return Err(ReverseFault::Memory),
     };
-    let calls = calls_of(context, journeys.as_slice());
-    if calls > MOST_CALLS {
-        return Err(ReverseFault::TooManyCalls(calls));
-    }
-    match said(alloc, context, journeys.as_slice(), moment) {
-        Ok(text) => Ok((text, report)),
-        Err(_) => Err(ReverseFault::Memory),
+    match siri_of_readings(alloc, context, &reading, moment) {
+        Ok(text) => Ok((text, reading.report)),
+        Err(ReadingsFault::TooManyCalls(calls)) => Err(ReverseFault::TooManyCalls(calls)),
+        Err(ReadingsFault::Memory) => Err(ReverseFault::Memory),
     }
 }
 

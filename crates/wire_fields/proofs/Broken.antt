@@ -7,12 +7,13 @@ use Rattle.gw_base.specs.declared.wire_kind.WireKind.{WireKind}
 use Rattle.gw_base.specs.declared.wire_kind.WireKind.TheVariants.{Truncated, LongVarint, BadTag, BadGroup, DeepGroup}
 use Rattle.wire_fields.specs.Grammar.{Payload, Varint, Fixed64, Bytes, Group, Fixed32, WireField, Item, Holds, Ends, IsItem, IsSpelling, AreFields, Concatenates}
 use Rattle.wire_fields.specs.Breaks.{open_after_field, open_after_end, open_after_item, open_after, IsRun, BeginsEnd, BeginsDeep, HasKind, IsLongestRun, IsBreak, IsBroken}
+use Rattle.wire_fields.specs.OpenGroups.{IsOpen, IsWalked}
 use Rattle.wire_fields.specs.Reading.{holding, item_at, kind_of_block}
 use Rattle.wire_fields.proofs.Numbers.{ok_is}
 use Rattle.wire_fields.proofs.Items.{FailsAtItem, item_again, item_found, item_fault, item_long, item_unsound}
 use Rattle.wire_fields.proofs.Lists.{Concatenates-push, stops_at_end, one_list, one_list_whole}
 use Rattle.wire_fields.proofs.Spellings.{items_apart, fields_apart, field_from_item}
-use Rattle.wire_fields.proofs.Walks.{IsOpen, open_room, open_start, open_field, open_end, open_close, NoStep, after_whole, after_start, after_deep, after_end, not_closed, no_field, no_field_at_all}
+use Rattle.wire_fields.proofs.Walks.{open_room, open_start, open_field, open_end, open_close, NoStep, after_whole, after_start, after_deep, after_end, not_closed, no_field, no_field_at_all}
 
 -- ---- what was walked
 
@@ -34,12 +35,6 @@ open_after-push groups (first ∷ items) item now next h k =
 
 run_push : (items : List Item) (item : Item) (a b now next : List ℕ) → Concatenates IsItem items a → open_after [] items ≡ Some now → IsItem item b → open_after_item now item ≡ Some next → IsRun (a ++ b) next
 run_push items item a b now next h e k step = (items ++ item ∷ [], Concatenates-push IsItem items item a b h k, open_after-push [] items item now next e step)
-
--- the bytes are a run, and leave these groups open
-pub record IsWalked (groups bytes : List ℕ) : Type 0 where
-  pub room : ℕ
-  pub is_open : IsOpen groups room bytes
-  pub is_run : IsRun bytes groups
 
 pub nothing_walked : IsWalked [] []
 unfolding IsOpen

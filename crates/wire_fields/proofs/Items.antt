@@ -235,7 +235,7 @@ payload_long number type bytes (inl zero_is) h = rw (zero_is, varint_long bytes 
 payload_long number type bytes (inr two_is) h = rw (two_is, varint_long bytes h) refl
 
 -- the tag was read, and is sound but for its type
-tag_read : (bytes rest : List ℕ) (value : ℕ) → varint_at bytes ≡ Ok (value, rest) → value < 2 ^ 32 → 8 ≤ value → item_at bytes ≡ payload_at (value / 8) (value % 8) rest
+pub tag_read : (bytes rest : List ℕ) (value : ℕ) → varint_at bytes ≡ Ok (value, rest) → value < 2 ^ 32 → 8 ≤ value → item_at bytes ≡ payload_at (value / 8) (value % 8) rest
 unfolding item_at
 tag_read bytes rest value e lt le =
     let low : ltb value (2 ^ 32) ≡ true = lt-ltb _ _ lt in

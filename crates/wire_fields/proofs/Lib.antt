@@ -10,3 +10,8 @@ pub mod Skips
 pub mod Fronts
 pub mod Existence
 pub mod Written
+pub mod Stays
+pub mod Chains
+pub mod Parts
+pub mod Cuts
+pub mod Tops

@@ -23,7 +23,7 @@ pub record IsScan (bytes : List ℕ) (i value : ℕ) : Type 0 where
   pub same : chain_at 10 bytes ≡ raised low i (chain_at (10 - i) (drop i bytes))
 
 -- seven more bits, of which those past 64 are dropped
-or_value : (low i c : ℕ) → i < 10 → low < 128 ^ i → bit_or (low % 2 ^ 64) (c * 2 ^ (7 * i) % 2 ^ 64) ≡ (low + 128 ^ i * c) % 2 ^ 64
+pub or_value : (low i c : ℕ) → i < 10 → low < 128 ^ i → bit_or (low % 2 ^ 64) (c * 2 ^ (7 * i) % 2 ^ 64) ≡ (low + 128 ^ i * c) % 2 ^ 64
 or_value low i c lt small =
     let p = 2 ^ (7 * i) in
     let m = 2 ^ (64 - 7 * i) in

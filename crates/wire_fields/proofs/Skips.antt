@@ -5,11 +5,12 @@ use Rattle.std.proofs.lemmas.List.{length-append, append-nil}
 use Rattle.gw_base.specs.declared.wire_kind.WireKind.{WireKind}
 use Rattle.wire_fields.specs.Grammar.{Payload, Varint, Fixed64, Bytes, Group, Fixed32, Item, Holds, Ends, IsItem, IsSpelling}
 use Rattle.wire_fields.specs.Breaks.{open_after_field, open_after_item, IsBreak}
+use Rattle.wire_fields.specs.OpenGroups.{IsWalked}
 use Rattle.wire_fields.specs.Reading.{holding, item_at, kind_of_block}
 use Rattle.wire_fields.proofs.Numbers.{chosen}
 use Rattle.wire_fields.proofs.Items.{item_found}
 use Rattle.wire_fields.proofs.Spellings.{items_apart}
-use Rattle.wire_fields.proofs.Broken.{some_is, IsWalked, nothing_walked, walked_start, walked_field, walked_end, walked_whole, IsStop, stop_at_block, break_after}
+use Rattle.wire_fields.proofs.Broken.{some_is, nothing_walked, walked_start, walked_field, walked_end, walked_whole, IsStop, stop_at_block, break_after}
 use Rattle.wire_fields.proofs.Walks.{open_room}
 
 -- the outermost of the open groups has this number
@@ -46,7 +47,7 @@ closes number innermost [] a b w h = subst (λ (n : ℕ). IsSpelling 64 (record 
 closes number innermost (next ∷ groups) a b w h = (w.0, walked_end groups next innermost a b w.1 h)
 
 -- one item further
-walk_on : (number : ℕ) (groups now : List ℕ) (item : Item) (a b : List ℕ) → HasWalked number groups a → groups ≢ [] → IsItem item b → open_after_item groups item ≡ Some now → HasWalked number now (a ++ b)
+pub walk_on : (number : ℕ) (groups now : List ℕ) (item : Item) (a b : List ℕ) → HasWalked number groups a → groups ≢ [] → IsItem item b → open_after_item groups item ≡ Some now → HasWalked number now (a ++ b)
 walk_on number [] now item a b w some h e = absurd (some refl)
 walk_on number (innermost ∷ groups) now (Holds field) a b w some h e = walk_field number innermost groups now field.number field.payload a b w h e
 walk_on number (innermost ∷ groups) now (Ends inner) a b w some h e =

@@ -5,26 +5,11 @@ use Rattle.std.proofs.lemmas.List.{append-nil}
 use Rattle.wire_fields.specs.Grammar.{Payload, Varint, Fixed64, Bytes, Group, Fixed32, WireField, Item, Holds, Ends, IsItem, IsGroup, IsSpelling, Concatenates}
 use Rattle.wire_fields.specs.Breaks.{open_after_field, open_after_end, open_after_item}
 use Rattle.wire_fields.specs.Reading.{holding}
+use Rattle.wire_fields.specs.OpenGroups.{IsLevel, IsOpen}
 use Rattle.wire_fields.proofs.Lists.{Concatenates-push, Stops, one_list}
 use Rattle.wire_fields.proofs.Spellings.{items_apart, fields_apart, field_cases, group_around, end_stops, regroup, held}
 
 -- ---- groups that are open
-
--- behind what opened the outer groups, the start of a group and fields in it
-pub record IsLevel (Outer : List ℕ → Type 0) (number room : ℕ) (bytes : List ℕ) : Type 0 where
-  pub front : List ℕ
-  pub start : List ℕ
-  pub inside : List ℕ
-  pub fields : List WireField
-  pub joined : bytes ≡ front ++ (start ++ inside)
-  pub outer : Outer front
-  pub starts : IsItem (holding number Group) start
-  pub holds : Concatenates (IsSpelling room) fields inside
-
--- the bytes leave these groups open, and there is room for so many more
-unfoldable pub IsOpen : List ℕ → ℕ → List ℕ → Type 0
-IsOpen [] room bytes = (bytes ≡ []) × (room ≡ 64)
-IsOpen (number ∷ groups) room bytes = IsLevel (IsOpen groups (suc room)) number room bytes
 
 pub open_room : (groups : List ℕ) (room : ℕ) (a : List ℕ) → IsOpen groups room a → room + length groups ≡ 64
 unfolding IsOpen

@@ -4,3 +4,6 @@ pub mod Breaks
 pub mod Reading
 pub mod Seen
 pub mod Listing
+pub mod OpenGroups
+pub mod TopReading
+pub mod TopSteps

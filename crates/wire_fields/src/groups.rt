@@ -28,6 +28,16 @@ impl Model for OpenGroups {
 }
 
 impl OpenGroups {
+    /// No open group.
+    pub fn none() -> OpenGroups
+        ensures none { result ≡ [] }
+    {
+        OpenGroups {
+            numbers: [0; 64],
+            count: 0,
+        }
+    }
+
     /// One open group.
     pub fn with_first(number: u32) -> OpenGroups
         ensures first { result ≡ number ∷ [] }
@@ -61,7 +71,7 @@ impl OpenGroups {
     }
 
     /// Opens a group in the innermost one, if there is room for it.
-    fn open(&mut self, number: u32) -> Result<(), WireKind>
+    pub fn open(&mut self, number: u32) -> Result<(), WireKind>
         ensures ok { OnOk result (open_after_field self.old number Group ≡ Some self.new) }
         ensures err { OnErr result ((open_after_field self.old number Group ≡ None) × (self.new ≡ self.old)) }
         ensures kind { IfErr result (λ kind. kind ≡ WireKind.DeepGroup) }
@@ -75,7 +85,7 @@ impl OpenGroups {
     }
 
     /// Closes the innermost group, if it has this number.
-    fn close(&mut self, number: u32) -> Result<(), WireKind>
+    pub fn close(&mut self, number: u32) -> Result<(), WireKind>
         ensures ok { OnOk result (open_after_end self.old number ≡ Some self.new) }
         ensures err { OnErr result ((open_after_end self.old number ≡ None) × (self.new ≡ self.old)) }
         ensures kind { IfErr result (λ kind. kind ≡ WireKind.BadGroup) }

@@ -1,9 +1,10 @@
 //! The laws of the wire grammar, each the contract of a function that does nothing. They are about the definitions
 //! that the readers' and writers' contracts cite.
-ghost use Rattle.std.specs.Prelude.{◌≡◌, ℕ, List, ◌++◌, ◌<◌, ◌≤◌, ◌^◌, ◌⊎◌, length};
+ghost use Rattle.std.specs.Prelude.{◌≡◌, ◌≢◌, ℕ, List, ◌++◌, ◌<◌, ◌≤◌, ◌^◌, ◌⊎◌, length};
 ghost use Rattle.gw_base.specs.declared.wire_kind.WireKind.{WireKind};
 ghost use Rattle.wire_fields.specs.Grammar.{WireField, Varint, Bytes, IsVarint, IsSpelling, AreFields};
 ghost use Rattle.wire_fields.specs.Breaks.{IsBroken};
+ghost use Rattle.wire_fields.specs.TopReading.{Top, StandsFor};
 ghost use Rattle.wire_fields.specs.Spelling.{varint, varint_field, bytes_field};
 
 /// Bytes are at most one list of fields.
@@ -24,6 +25,19 @@ pub fn fields_or_a_break()
         ⊎ ((at : ℕ) × (kind : WireKind) × IsBroken bytes at kind) }
     ensures not_both { (bytes : List ℕ) (fields : List WireField) (at : ℕ) (kind : WireKind) → AreFields bytes fields
         → ¬ IsBroken bytes at kind }
+{}
+
+/// Bytes that break in another way than being cut short break in the same way at the same place, whatever follows.
+pub fn a_break_stays()
+    ensures { (bytes more : List ℕ) (at : ℕ) (kind : WireKind) → IsBroken bytes at kind →
+        kind ≢ WireKind.Truncated → IsBroken (bytes ++ more) at kind }
+{}
+
+/// Bytes that a reader of the top level stands for break in no other way than being cut short, so that another break is
+/// told as soon as it is there.
+pub fn a_break_is_told()
+    ensures { (top : Top) (bytes : List ℕ) (at : ℕ) (kind : WireKind) → StandsFor top bytes → IsBroken bytes at kind →
+        kind ≡ WireKind.Truncated }
 {}
 
 /// A list of fields behind a list of fields is a list of fields.

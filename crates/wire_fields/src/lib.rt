@@ -9,18 +9,18 @@ mod item;
 mod laws;
 mod listing;
 mod reading;
+mod top;
 mod varint;
 mod writing;
 
 pub use fault::ListFault;
 pub use field::{Field, Value, WireFault};
 pub use laws::{
-    fields_are_one, fields_join, fields_or_a_break, the_break_is_one, written_fields_are_spellings,
+    a_break_is_told, a_break_stays, fields_are_one, fields_join, fields_or_a_break,
+    the_break_is_one, written_fields_are_spellings,
 };
 pub use listing::list_fields;
 pub use reading::{first_number, next_field};
+pub use top::{Chain, Part, Step, TopEvent, TopReader};
 pub use varint::{Varint, spell_varint, varint_len};
 pub use writing::{put_bytes_head, put_field_bytes, put_field_varint, put_varint};
-
-#[cfg(test)]
-mod tests;

@@ -37,7 +37,7 @@ pub fn first_of<'a>(piece: &Piece<'a>) -> Result<Option<(Field<'a>, Piece<'a>)>,
 }
 
 // Where a piece breaks, if it does.
-fn break_of(piece: &Piece<'_>) -> Option<FeedFault>
+pub fn break_of(piece: &Piece<'_>) -> Option<FeedFault>
     ensures { IsLeast (IsTorn (piece_of piece.now)) result }
 {
     match check_fields(piece.bytes) {

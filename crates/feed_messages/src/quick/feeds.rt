@@ -1,12 +1,16 @@
 //! A feed with its header and entities, each by its table of `specs/Tables.antt`.
-ghost use Rattle.std.specs.Prelude.{OnOk};
+ghost use Rattle.std.specs.Prelude.{IfOk, OnOk, List as Values};
+ghost use Rattle.wire_fields.specs.Grammar.{WireField};
 ghost use Rattle.wire_fields.specs.Seen.{field_of};
-ghost use Rattle.feed_messages.specs.Tables.{OfFeedHeader};
+ghost use Rattle.feed_messages.specs.FeedPieces.{OfHeadSoFar};
+ghost use Rattle.feed_messages.specs.Meaning.{Means};
+ghost use Rattle.feed_messages.specs.Tables.{OfFeedEntity, OfFeedHeader};
 ghost use Rattle.feed_messages.specs.Partly.{Goes, OfShortFeed, AreShortEntities};
 ghost use Rattle.feed_messages.specs.Parts.{AfterEntity, AddsEntity, AfterHeader, AfterFeed};
 
+use crate::feed_reader::HeadSoFar;
 use crate::finder::lengths::LIMIT;
-use crate::plain::kinds::body_in;
+use crate::plain::kinds::{body_in, copied};
 use crate::plain::tables::Header;
 use crate::plain_fault::PlainFault;
 use crate::quick::fields::{as_bool, as_enum, number_after, required_text, text_after};
@@ -81,6 +85,20 @@ impl<'a> EntityParts<'a> {
     }
 }
 
+// The entity that a body means, by itself.
+#[inline(always)]
+pub fn quick_entity(alloc: Global, body: &[u8]) -> Result<Entity, PlainFault>
+    ensures { IfOk result (λ entity. Means OfFeedEntity body.now entity) }
+{
+    let parts = read_parts::<EntityParts<'_>>(alloc, body)?;
+    Ok(Entity {
+        id: required_text(alloc, parts.id)?,
+        deleted: as_bool(parts.deleted),
+        trip_update: read_found(alloc, &parts.trip_update)?,
+        alert: read_found(alloc, &parts.alert)?,
+    })
+}
+
 #[derive(Drop)]
 pub struct HeaderParts<'a> {
     version: Option<&'a str>,
@@ -89,12 +107,11 @@ pub struct HeaderParts<'a> {
 }
 
 impl<'a> Parts<'a> for HeaderParts<'a> {
-    type Whole = Header;
+    type Whole = HeadSoFar;
 
     ghost after = { AfterHeader };
 
-    ghost table = { λ fields m. OfFeedHeader fields
-        (record { version = m.version; incrementality = m.incrementality; timestamp = m.timestamp }) };
+    ghost table = { OfHeadSoFar };
 
     #[inline(always)]
     fn start(_alloc: Global, _bytes: &[u8]) -> Result<HeaderParts<'a>, AllocError> {
@@ -114,12 +131,40 @@ impl<'a> Parts<'a> for HeaderParts<'a> {
     }
 
     #[inline(always)]
-    fn finish(self, alloc: Global) -> Result<Header, PlainFault> {
-        Ok(Header {
-            version: required_text(alloc, self.version)?,
-            incrementality: as_enum(self.incrementality, 0),
+    fn finish(self, alloc: Global) -> Result<HeadSoFar, PlainFault> {
+        Ok(HeadSoFar {
+            version: copied(alloc, self.version)?,
+            incrementality: self.incrementality,
             timestamp: self.timestamp,
         })
+    }
+}
+
+// What one body of a header says.
+#[inline(always)]
+pub fn quick_header(alloc: Global, body: &[u8]) -> Result<HeadSoFar, PlainFault>
+    ensures { IfOk result (λ head. Means OfHeadSoFar body.now head) }
+{
+    read_parts::<HeaderParts<'_>>(alloc, body)
+}
+
+// The header whose version is there.
+fn header_of(said: HeadSoFar) -> Result<Header, PlainFault>
+    ensures { IfOk result (λ header. (fields : Values WireField) → OfHeadSoFar fields said → OfFeedHeader fields
+        (record { version = header.version; incrementality = header.incrementality; timestamp = header.timestamp })) }
+{
+    let HeadSoFar {
+        version,
+        incrementality,
+        timestamp,
+    } = said;
+    match version {
+        Some(version) => Ok(Header {
+            version,
+            incrementality: as_enum(incrementality, 0),
+            timestamp,
+        }),
+        None => Err(PlainFault::Meaningless),
     }
 }
 
@@ -128,7 +173,7 @@ impl QuickMessage for Header {
         (record { version = m.version; incrementality = m.incrementality; timestamp = m.timestamp }) };
 
     fn read(alloc: Global, bytes: &[u8]) -> Result<Header, PlainFault> {
-        read_parts::<HeaderParts<'_>>(alloc, bytes)
+        header_of(quick_header(alloc, bytes)?)
     }
 }
 

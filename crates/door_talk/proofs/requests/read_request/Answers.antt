@@ -15,8 +15,8 @@ returns-then-not-is_post-clause-asks g c =
 
 pub returns-else-not-is_post-clause-asks : goal.returns-else-not-is_post-clause-asks
 returns-else-not-is_post-clause-asks g c =
-    asks_behind (g.D.Sink.beside c.args.door.now) (g.D.Sink.beside c.read_head.new.door) c.in-Ok-Ended.ensures.reads.0
-    (drop c.in-Ok-Ended.from (take c.in-Ok-Ended.to c.read_head.new.piece)) c.read_post.new.body read.2 c.in-Ok-Ended.head c.read_post.result c.in-Ok-Ended.ensures.reads.1 read.3 read.4 read.5 c.read_post.ensures.asks
+    asks_behind (g.B.TakesBody.stands c.args.over.now c.read_post.new.taker c.args.moment) (g.D.Sink.beside c.args.door.now) (g.D.Sink.beside c.read_head.new.door) c.in-Ok-Ended.ensures.reads.0
+    (drop c.in-Ok-Ended.from (take c.in-Ok-Ended.to c.read_head.new.piece)) read.2 c.in-Ok-Ended.head c.read_post.result c.in-Ok-Ended.ensures.reads.1 read.3 read.4 read.5 c.read_post.ensures.asks
   where
     read : ReadsHead (g.D.Sink.beside c.read_head.new.door) c.in-Ok-Ended.ensures.reads.0 c.read_head.new.piece (heads.Ended c.in-Ok-Ended.head c.in-Ok-Ended.from c.in-Ok-Ended.to)
     read = subst (ReadsHead (g.D.Sink.beside c.read_head.new.door) c.in-Ok-Ended.ensures.reads.0 c.read_head.new.piece) c.in-Ok-Ended.field-0-is c.in-Ok-Ended.ensures.reads.2
@@ -44,9 +44,15 @@ returns-in-Ok-Cut-clause-asks g c =
     read : ReadsHead (g.D.Sink.beside c.read_head.new.door) c.in-Ok-Cut.ensures.reads.0 c.read_head.new.piece (heads.Cut c.in-Ok-Cut.why)
     read = subst (ReadsHead (g.D.Sink.beside c.read_head.new.door) c.in-Ok-Cut.ensures.reads.0 c.read_head.new.piece) c.in-Ok-Cut.field-0-is c.in-Ok-Cut.ensures.reads.2
 
-pub returns-else-not-is_post-clause-held : goal.returns-else-not-is_post-clause-held
-returns-else-not-is_post-clause-held g c = λ small.
-    omega (arith, c.read_post.ensures.held, small_body (c.in-Ok-Ended.ensures.reads.0 ++ []) read.2 c.in-Ok-Ended.head (read.3 []))
+pub returns-else-not-is_post-clause-taken : goal.returns-else-not-is_post-clause-taken
+returns-else-not-is_post-clause-taken g c = λ small.
+    omega (arith, c.read_post.ensures.taken, small_body (c.in-Ok-Ended.ensures.reads.0 ++ []) read.2 c.in-Ok-Ended.head (read.3 []))
+  where
+    read : ReadsHead (g.D.Sink.beside c.read_head.new.door) c.in-Ok-Ended.ensures.reads.0 c.read_head.new.piece (heads.Ended c.in-Ok-Ended.head c.in-Ok-Ended.from c.in-Ok-Ended.to)
+    read = subst (ReadsHead (g.D.Sink.beside c.read_head.new.door) c.in-Ok-Ended.ensures.reads.0 c.read_head.new.piece) c.in-Ok-Ended.field-0-is c.in-Ok-Ended.ensures.reads.2
+
+pub read_post-requires-clause-small : goal.read_post-requires-clause-small
+read_post-requires-clause-small g c = small_body (c.in-Ok-Ended.ensures.reads.0 ++ []) read.2 c.in-Ok-Ended.head (read.3 [])
   where
     read : ReadsHead (g.D.Sink.beside c.read_head.new.door) c.in-Ok-Ended.ensures.reads.0 c.read_head.new.piece (heads.Ended c.in-Ok-Ended.head c.in-Ok-Ended.from c.in-Ok-Ended.to)
     read = subst (ReadsHead (g.D.Sink.beside c.read_head.new.door) c.in-Ok-Ended.ensures.reads.0 c.read_head.new.piece) c.in-Ok-Ended.field-0-is c.in-Ok-Ended.ensures.reads.2

@@ -1,4 +1,4 @@
-use Rattle.std.proofs.Common.{All, arith, sym, subst}
+use Rattle.std.proofs.Common.{All, subst}
 use Rattle.std.proofs.lemmas.List.{take_all}
 use Rattle.std.proofs.lemmas.List.Elements.{All-more}
 use Rattle.journey_model.specs.Schedules.{schedule_of}

@@ -1,0 +1,76 @@
+//! What takes the body of a POST while it arrives.
+ghost use Rattle.std.specs.Prelude.{◌≡◌, [], length, OnOk};
+
+use gw_base::{Bytes, Moment};
+use http_talk::Target;
+use std::alloc::{AllocError, Global};
+
+/// What takes the body of a POST piece by piece, over something that stays as it is in the meantime. A body that is
+/// needed whole is kept, and another is read on the way.
+pub trait TakesBody<G> {
+    ghost use Rattle.std.specs.Prelude.{◌≡◌, ◌≤◌, ◌<◌, ◌+◌, ◌++◌, ℕ, ℤ, List, [], length, OnOk};
+    ghost use Rattle.http_talk.specs.declared.target.Target as targets;
+
+    /// It stands for these first bytes of a body that is posted at a moment to a target.
+    ghost stands: { G → Self → ℤ → targets.Target → List ℕ → Type 0 };
+
+    /// How many bytes it took.
+    ghost taken: { Self → ℕ };
+
+    /// Begins with a body of so many bytes that is posted at a moment to a target.
+    fn begin(
+        &mut self,
+        alloc: Global,
+        over: &G,
+        moment: Moment,
+        target: Target,
+        size: usize,
+    ) -> Result<(), AllocError>
+        ensures begins { OnOk result (stands over.now self.new moment target []) }
+        ensures none { taken self.new ≡ 0 };
+
+    /// Takes the next bytes of the body, which has at most 16,777,216. After Err it may only begin again.
+    fn take(&mut self, over: &G, piece: &[u8]) -> Result<(), AllocError>
+        requires some { 0 < length piece.now }
+        requires room { taken self.old + length piece.now ≤ 16777216 }
+        ensures takes { (moment : ℤ) (target : targets.Target) (bytes : List ℕ)
+            → stands over.now self.old moment target bytes
+            → OnOk result (stands over.now self.new moment target (bytes ++ piece.now)) }
+        ensures counted { OnOk result (taken self.new ≡ taken self.old + length piece.now) }
+        ensures within { taken self.new ≤ taken self.old + length piece.now };
+}
+
+// Empty bytes with room for so many.
+fn with_room(bytes: Bytes, size: usize) -> (Bytes, Result<(), AllocError>)
+    ensures empty { result.0 ≡ [] }
+{
+    let mut room = bytes.into_vec();
+    room.clear();
+    let made = room.reserve_exact(size);
+    (Bytes::from_vec(room), made)
+}
+
+/// A body that is kept whole: room for it is made when it begins.
+impl<G> TakesBody<G> for Bytes {
+    ghost stands = { λ _ held _ _ bytes. held ≡ bytes };
+
+    ghost taken = { length };
+
+    fn begin(
+        &mut self,
+        alloc: Global,
+        _over: &G,
+        _moment: Moment,
+        _target: Target,
+        size: usize,
+    ) -> Result<(), AllocError> {
+        let held = std::mem::replace(self, Bytes::new(alloc));
+        let (room, made) = with_room(held, size);
+        *self = room;
+        made
+    }
+
+    fn take(&mut self, _over: &G, piece: &[u8]) -> Result<(), AllocError> {
+        self.extend(piece)
+    }
+}

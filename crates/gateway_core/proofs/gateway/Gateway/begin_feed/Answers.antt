@@ -1,0 +1,10 @@
+use Rattle.std.proofs.Common.{[]}
+use Rattle.gateway_core.specs.Arriving.{schedule_over}
+use Rattle.gateway_core.proofs.gateway.Gateway.begin_feed.Goals as goal
+
+pub returns-clause-stands : goal.returns-clause-stands
+returns-clause-stands c = record {
+  given = [];
+  read = c.make.ensures.stands;
+  folded = c.make-2.ensures.stands (schedule_over c.args.self.now.setting c.rolled_by-window.result.window);
+}

@@ -1,6 +1,0 @@
--- the connection is still present
-use Rattle.std.proofs.Common.{◌≡◌, true}
-use Rattle.gw_base.proofs.tests.doors.read_all.Given as goal
-
-abbrev pub invariant-loop : goal.invariant-loop
-invariant-loop g l = (g.D.Sink.beside l.door).present ≡ true

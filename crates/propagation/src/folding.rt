@@ -1,0 +1,125 @@
+//! What a feed says of journeys, entity by entity, where its header may come last. Contracts see `specs/Folding.antt`.
+ghost use Rattle.std.specs.Prelude.{◌≡◌, ◌+◌, ◌++◌, ◌∷◌, [], List as Values, length, IfOk, OnErr, OnOk};
+ghost use Rattle.std.specs.List.{filter_map};
+ghost use Rattle.gw_base.specs.declared.messages.Entity.{Entity};
+ghost use Rattle.journey_model.specs.Schedules.{Schedule, schedule_of};
+ghost use Rattle.propagation.specs.Feeds.{IsReading};
+ghost use Rattle.propagation.specs.Folding.{StandsFor, aside_late, bare_feed, feed_with, given_late};
+
+use crate::entities::{read_early, read_late};
+use crate::entity_said::EntitySaid;
+use crate::feeds::{FeedReading, SortedOut, reading_of};
+use gw_base::{Entity, FeedHead, List};
+use journey_model::Context;
+use std::alloc::{AllocError, Global};
+use std::marker::Model;
+
+/// What the entities of a feed say that came so far (GTFS Realtime reference, FeedEntity). An update that names its
+/// service day is read when it comes, one that names none is kept until the header is known, and of an entity that is
+/// passed nothing is kept. A contract sees what is held.
+#[derive(Debug, Drop)]
+pub struct ReadingFold {
+    alloc: Global,
+    passed: u64,
+    said: List<(u64, EntitySaid)>,
+}
+
+impl Model for ReadingFold {
+    ghost use Rattle.propagation.specs.Folding.{Folded};
+
+    ghost Value = { Folded };
+
+    ghost view = { λ f. record { passed = f.passed; said = f.said } };
+}
+
+// What was said, sorted out once the header's timestamp is known.
+fn sorted_late(
+    alloc: Global,
+    context: &Context<'_>,
+    timestamp: Option<u64>,
+    passed: u64,
+    said: List<(u64, EntitySaid)>,
+) -> Result<SortedOut, AllocError>
+    ensures given { let schedule = schedule_of context.now in
+        IfOk result (λ sorted. sorted.given ≡ filter_map (given_late schedule (bare_feed timestamp)) said) }
+    ensures passed { IfOk result (λ sorted. sorted.passed ≡ passed) }
+    ensures aside { let schedule = schedule_of context.now in
+        IfOk result (λ sorted. sorted.aside ≡ filter_map (aside_late schedule (bare_feed timestamp)) said) }
+{
+    let mut given = List::new(alloc);
+    let mut aside = List::new(alloc);
+    for (number, one) in said.into_vec() {
+        match read_late(alloc, context, timestamp, one)? {
+            Ok(reading) => given.push(reading)?,
+            Err(fault) => aside.push((number, fault))?,
+        }
+    }
+    Ok(SortedOut {
+        given,
+        passed,
+        aside,
+    })
+}
+
+impl ReadingFold {
+    /// A fold of no entity, which takes no memory.
+    pub fn make(alloc: Global) -> ReadingFold
+        ensures stands { (schedule : Schedule) → StandsFor schedule result [] }
+    {
+        ReadingFold {
+            alloc,
+            passed: 0,
+            said: List::new(alloc),
+        }
+    }
+
+    /// Adds the entity of that number in its feed, counted from 0. Err for want of memory, or where the count of
+    /// passed entities would be over 64 bits; all is then as before, and the entity is dropped.
+    pub fn add(
+        &mut self,
+        context: &Context<'_>,
+        index: u64,
+        entity: Entity,
+    ) -> Result<(), AllocError>
+        ensures adds { (entities : Values Entity) → StandsFor (schedule_of context.now) self.old entities
+            → index ≡ length entities
+            → OnOk result (StandsFor (schedule_of context.now) self.new (entities ++ entity ∷ [])) }
+        ensures refused { OnErr result (self.new ≡ self.old) }
+    {
+        match read_early(self.alloc, context, entity)? {
+            Some(said) => self.said.push((index, said)),
+            None => self.pass(),
+        }
+    }
+
+    // Counts an entity that is passed.
+    fn pass(&mut self) -> Result<(), AllocError>
+        ensures counts { OnOk result (self.new ≡ record { passed = self.old.passed + 1; said = self.old.said }) }
+        ensures refused { OnErr result (self.new ≡ self.old) }
+    {
+        match self.passed.checked_add(1) {
+            Some(passed) => {
+                self.passed = passed;
+                Ok(())
+            }
+            None => Err(AllocError),
+        }
+    }
+
+    /// What the feed of this head and of the entities that were added says of journeys, just as `readings_of` reads it
+    /// (GTFS Realtime reference, FeedMessage). Err for want of memory.
+    pub fn finish(self, context: &Context<'_>, head: &FeedHead) -> Result<FeedReading, AllocError>
+        ensures reads { (entities : Values Entity) → StandsFor (schedule_of context.now) self entities
+            → IfOk result (IsReading (schedule_of context.now) (feed_with head.now entities)) }
+    {
+        let ReadingFold {
+            alloc,
+            passed,
+            said,
+        } = self;
+        reading_of(
+            alloc,
+            sorted_late(alloc, context, head.timestamp, passed, said)?,
+        )
+    }
+}

@@ -1,3 +1,0 @@
-mod feeds;
-mod folder;
-mod updates;
