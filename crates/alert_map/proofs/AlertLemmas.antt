@@ -1,6 +1,6 @@
 -- The texts of days, and how long the bodies of entities are.
 use Rattle.std.proofs.Common.{◌≡◌, ◌∙◌, ◌<◌, ◌≤◌, ◌-◌, ◌^◌, ◌++◌, ◌∷◌, ◌&&◌, Bool, true, false, ℕ, List, [], length, length-append, take, drop, Result, Ok, Err, refl, ap, inl, inr, arith}
-use Rattle.std.proofs.lemmas.Bool.{cases_lt, false≢true, lt-ltb, ltb-true}
+use Rattle.std.proofs.lemmas.Bool.{cases_lt, false≢true, ltb-true}
 use Rattle.std.proofs.lemmas.List.{get_or_past, take_all}
 use Rattle.std.proofs.lemmas.List.Elements.{All-from_recursion}
 use Rattle.std.proofs.lemmas.Str.{IsUtf8-from_ascii}
@@ -13,7 +13,6 @@ use Rattle.stop_schedule.specs.Table.{Table}
 use Rattle.journey_model.specs.Situations.{AreKnown, is_known}
 use Rattle.journey_model.specs.declared.situation.Ref.{Ref}
 use Rattle.journey_model.specs.declared.situation.Ref.TheVariants.{Route, Stop, Journey}
-use Rattle.stop_schedule.specs.declared.numbers.RouteNo.{RouteNo}
 use Rattle.alert_map.specs.Alerts.{IsOfEntity}
 use Rattle.alert_map.specs.Known.{IsEachKnown, IsKnown}
 use Rattle.wire_fields.specs.Grammar.{BeginsNumber}
@@ -109,7 +108,3 @@ each_known table refs known = All-from_recursion (IsKnown table) refs (each refs
     each : (refs : List Ref) → list_all (is_known table) refs ≡ true → AllByRecursion (IsKnown table) refs
     each [] h = tt
     each (one ∷ refs) h = (is_there table one (and-left (is_known table one) _ h), each refs (and-right (is_known table one) _ h))
-
--- the timetable has the one route that is referred to
-pub known_one : (table : Table) (refs : List Ref) (route : RouteNo) → refs ≡ Route route ∷ [] → route.0 < length table.routes → AreKnown table refs
-known_one table refs route is within = rw is (rw (lt-ltb route.0 (length table.routes) within) refl)

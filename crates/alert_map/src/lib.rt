@@ -4,8 +4,6 @@
 mod alerts;
 mod entities;
 mod selectors;
-#[cfg(test)]
-mod tests;
 
 pub use alerts::alert_of;
 pub use entities::{alert_entity, entity_body_len};

@@ -9,9 +9,6 @@ use gw_base::Bytes;
 use std::alloc::{AllocError, Global};
 use std::marker::Model;
 
-#[cfg(test)]
-mod tests;
-
 /// How many entries there are with one at a key: one more where no entry that stays has the key, and the batch grew.
 fn counted(len: u64, more: u64, stays: bool, grew: bool) -> u64
     ensures value { result ≡ (if stays then len else (if grew then more else len)) }

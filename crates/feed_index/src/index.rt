@@ -18,9 +18,6 @@ use span_pool::SpanPool;
 use std::alloc::{AllocError, Global};
 use std::marker::Model;
 
-#[cfg(test)]
-mod tests;
-
 /// Entries in the order of their keys, which are distinct, each with a value and with bytes that stand in one region.
 /// Bytes that are replaced or taken out are dead until the region is packed, which `put` and the
 /// others do where these would be over 65,536 more than those that live. Only `prepare` takes memory. A contract sees

@@ -3,31 +3,33 @@
 //! shows on any machine that it works. `main` hands the real words and devices to the top call.
 #![tactic(auto)]
 
+ghost use Rattle.std.specs.Prelude.{◌≡◌, false};
+
 mod command_line;
-mod deliveries;
-mod devices;
-mod done;
-mod ending;
-mod exit;
-mod feeds;
-mod folder_end;
-mod reading;
-mod samples;
-mod server_run;
-mod task_run;
-#[cfg(test)]
-mod tests;
-mod top;
-mod words;
-mod work;
 
 use command_line::{USAGE, words_of};
-use devices::{DirFiles, StdSink};
+use gateway_top::{DirFiles, StdSink, address, gateway, no_memory, print};
+use gw_base::{Clock, Door, Files, Sink, Text};
+use std::alloc::Global;
 use std::process::ExitCode;
 use tcp_door::{Limits, SystemClock, TcpDoor};
-use words::address;
 
 const VERSION: &str = concat!("gateway ", "0.1.0", "\n");
+
+// The status of the top call. `main` needs none of its clauses, which make a proof long.
+fn status_of<F: Files, D: Door, C: Clock, S: Sink, E: Sink>(
+    alloc: Global,
+    words: &[Text],
+    files: &mut F,
+    door: &mut D,
+    clock: &mut C,
+    out: &mut S,
+    err: &mut E,
+) -> u8
+    requires { (D.beside door.old).present ≡ false }
+{
+    gateway(alloc, words, files, door, clock, out, err)
+}
 
 fn main(rt: HostRuntime) -> ExitCode {
     let alloc = rt.alloc();
@@ -35,9 +37,9 @@ fn main(rt: HostRuntime) -> ExitCode {
     let mut err = StdSink::new(rt.stderr());
     let status = match words_of(&rt, alloc) {
         Ok(words) => match words.as_slice() {
-            [word] if word.as_str() == "--help" => top::print(&mut out, USAGE),
-            [word] if word.as_str() == "--version" => top::print(&mut out, VERSION),
-            words => top::gateway(
+            [word] if word.as_str() == "--help" => print(&mut out, USAGE),
+            [word] if word.as_str() == "--version" => print(&mut out, VERSION),
+            words => status_of(
                 alloc,
                 words,
                 &mut DirFiles::new(&rt),
@@ -47,7 +49,7 @@ fn main(rt: HostRuntime) -> ExitCode {
                 &mut err,
             ),
         },
-        Err(_) => top::no_memory(&mut err),
+        Err(_) => no_memory(&mut err),
     };
     ExitCode::from(status)
 }

@@ -12,8 +12,6 @@ mod place;
 mod reader;
 mod refusal;
 mod target;
-#[cfg(test)]
-mod tests;
 mod texts;
 mod whole;
 

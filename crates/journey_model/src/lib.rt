@@ -9,8 +9,6 @@ mod matching;
 mod readings;
 mod report;
 mod situation;
-#[cfg(test)]
-mod tests;
 
 pub use context::{Context, DatedTrip};
 pub use fault::{Fault, FaultText, fault_text};

@@ -5,8 +5,6 @@
 mod looking;
 mod numbers;
 mod reading;
-#[cfg(test)]
-mod tests;
 
 pub use looking::find;
 pub use numbers::whole_number;

@@ -3,8 +3,6 @@
 
 mod entities;
 mod preparing;
-#[cfg(test)]
-mod tests;
 mod winning;
 
 pub use preparing::{Prepared, prepare_record, record_entity};

@@ -7,8 +7,6 @@ mod selectors;
 mod senses;
 mod sx;
 mod sx_fault;
-#[cfg(test)]
-mod tests;
 mod texts;
 mod write_affects;
 mod write_situation;

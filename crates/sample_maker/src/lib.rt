@@ -7,8 +7,6 @@ mod draws;
 mod folder;
 mod journeys;
 mod maker;
-#[cfg(test)]
-mod tests;
 mod writing;
 
 pub use maker::Maker;

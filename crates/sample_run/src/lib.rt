@@ -13,8 +13,6 @@ mod line;
 mod made;
 mod running;
 mod tally;
-#[cfg(test)]
-mod tests;
 
 pub use counts::SampleCounts;
 pub use fault::SampleFault;

@@ -7,8 +7,6 @@ mod days;
 mod digits;
 mod moments;
 mod starts;
-#[cfg(test)]
-mod tests;
 mod utc;
 mod windows;
 mod zones;

@@ -4,7 +4,5 @@
 
 mod lines;
 mod stop_lines;
-#[cfg(test)]
-mod tests;
 
 pub use lines::show_lines;

@@ -14,12 +14,8 @@ mod header;
 mod items;
 mod judgement;
 mod judging;
-#[cfg(test)]
-mod judging_tests;
 mod matching_calls;
 pub mod read_fault;
-#[cfg(test)]
-mod tests;
 mod trip_run;
 mod write;
 mod write_calls;

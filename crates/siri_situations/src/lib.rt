@@ -10,8 +10,6 @@ mod said;
 mod senses;
 mod situations;
 mod steps;
-#[cfg(test)]
-mod tests;
 
 pub use delivery::{Item, SituationDelivery, read_situations};
 pub use journey_model::{Ref, Situation, ValidPeriod};

@@ -31,9 +31,6 @@ pub struct SpanPool {
     spare_spans: usize,
 }
 
-#[cfg(test)]
-mod tests;
-
 impl Model for SpanPool {
     ghost use Rattle.std.specs.Prelude.{◌+◌, ◌-◌, ◌≤◌, take, length, vec_len, vec_capacity};
     ghost use Rattle.span_pool.specs.Spans.{Spans};

@@ -38,6 +38,3 @@ pub use stop_times::StopRow;
 pub use table_fault::TableFault;
 pub use table_file::TableFile;
 pub use timetable::Timetable;
-
-#[cfg(test)]
-mod tests;

@@ -6,8 +6,6 @@ mod clock;
 mod connection;
 mod door;
 mod limits;
-#[cfg(test)]
-mod tests;
 
 pub use clock::SystemClock;
 pub use door::TcpDoor;

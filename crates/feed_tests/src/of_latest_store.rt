@@ -1,0 +1,85 @@
+//! The record of a cancelled journey over a small folder, and which of two records counts.
+use gw_base::Bytes;
+use journey_model::{Context, JourneyReading, JourneyRecord};
+use latest_store::{prepare_record, record_entity, wins};
+use service_day::{DayForm, Instant, read_day};
+use std::alloc::Global;
+use std::process::Abort;
+use std::test::Fail;
+use stop_schedule::Timetable;
+use test_folder::{paris, timetable, window};
+
+#[test]
+fn of_two_equal_records_the_later_arrival_wins(rt: HostRuntime) {
+    let first = Instant { secs: 5, nanos: 7 };
+    let later = Instant { secs: 5, nanos: 8 };
+    assert!(rt; wins(&first, &first));
+    assert!(rt; wins(&first, &later));
+    assert!(rt; !wins(&later, &first));
+}
+
+static FOLDER: [(&str, &[u8]); 6] = [
+    ("g/agency.txt", b"agency_timezone\nEurope/Paris\n"),
+    ("g/stops.txt", b"stop_id\nA\nB\n"),
+    ("g/routes.txt", b"route_id\nR1\n"),
+    ("g/trips.txt", b"route_id,service_id,trip_id\nR1,D,T1\n"),
+    (
+        "g/calendar_dates.txt",
+        b"service_id,date,exception_type\nD,20240501,1\n",
+    ),
+    (
+        "g/stop_times.txt",
+        b"trip_id,arrival_time,departure_time,stop_id,stop_sequence\nT1,08:00:00,08:00:00,A,10\n\
+          T1,08:10:00,08:10:00,B,20\n",
+    ),
+];
+
+// The timetable of the folder.
+fn table(rt: &impl Abort, alloc: Global) -> Timetable {
+    timetable(rt, alloc, &FOLDER)
+}
+
+// The entity of T1, cancelled on 2024-05-01 and recorded at 06:00:00Z (made by hand from GTFS Realtime's message).
+const CANCELLED: &[u8] =
+    b"\x12\x27\x0a\x0b20240501:T1\x1a\x18\x0a\x10\x0a\x02T1\x1a\x0820240501\x20\x03\x20\xe0\xb4\xc7\xb1\x06";
+
+// The entity of a trip that is cancelled on a day; None where it doesn't run on it, or the day isn't in the window.
+fn cancelled(alloc: Global, context: &Context<'_>, day: &str) -> Option<Bytes> {
+    let trip = context.table.find_trip("T1")?;
+    let day = read_day(day, DayForm::Compact)?;
+    if !context.table.runs(trip, day) || context.dated(trip, day).is_none() {
+        return None;
+    }
+    let rec = JourneyRecord {
+        trip,
+        day,
+        at: Instant {
+            secs: 1_714_543_200,
+            nanos: 0,
+        },
+        reading: JourneyReading::Cancelled,
+    };
+    let entity = record_entity(alloc, context, &rec).ok()?;
+    let made = prepare_record(alloc, context, rec).ok()?;
+    if made.entity.as_slice() != entity.as_slice() {
+        return None;
+    }
+    Some(made.entity)
+}
+
+#[test]
+fn a_record_has_its_entity(rt: HostRuntime) -> Result<(), Fail> {
+    let alloc = rt.alloc();
+    let table = table(&rt, alloc);
+    let zone = paris(&rt);
+    let window = window(&rt, &zone, 2);
+    let context = Context {
+        table: &table,
+        zone: &zone,
+        window: &window,
+    };
+    let bytes = cancelled(alloc, &context, "20240501").expect(&rt, "an entity");
+    assert_eq!(rt; bytes.as_slice(), CANCELLED);
+    assert!(rt; cancelled(alloc, &context, "20240502").is_none());
+    Ok(())
+}

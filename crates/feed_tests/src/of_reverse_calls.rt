@@ -1,0 +1,139 @@
+//! A feed of one trip that is a minute late, over a small folder: its delivery and its report.
+use gw_base::{
+    Bytes, Entity, Event, Feed, List, Moment, StopUpdate, Text, TripDescriptor, TripUpdate,
+};
+use journey_model::Context;
+use propagation::readings_of;
+use reverse_calls::{siri_of, siri_of_readings};
+use std::alloc::{AllocError, Global};
+use std::process::Abort;
+use stop_schedule::Timetable;
+use test_folder::{paris, timetable, window};
+
+static FOLDER: [(&str, &[u8]); 6] = [
+    ("g/agency.txt", b"agency_timezone\nEurope/Paris\n"),
+    ("g/stops.txt", b"stop_id\nA\nB\n"),
+    ("g/routes.txt", b"route_id\nR1\n"),
+    ("g/trips.txt", b"route_id,service_id,trip_id\nR1,D,T1\n"),
+    (
+        "g/calendar_dates.txt",
+        b"service_id,date,exception_type\nD,20240501,1\n",
+    ),
+    (
+        "g/stop_times.txt",
+        b"trip_id,arrival_time,departure_time,stop_id,stop_sequence\nT1,08:00:00,08:00:00,A,10\n\
+          T1,08:10:00,08:11:00,B,20\n",
+    ),
+];
+
+// The timetable of the folder.
+fn table(rt: &impl Abort, alloc: Global) -> Timetable {
+    timetable(rt, alloc, &FOLDER)
+}
+
+// The delivery, made by hand from SIRI's members.
+const DELIVERY: &[u8] =
+    b"{\"Siri\":{\"ServiceDelivery\":{\"EstimatedTimetableDelivery\":[{\"EstimatedJourneyVersionFrame\":[{\
+      \"EstimatedVehicleJourney\":[{\"Cancellation\":false,\
+      \"EstimatedCalls\":{\"EstimatedCall\":[{\"AimedArrivalTime\":\"2024-05-01T06:00:00Z\",\
+      \"AimedDepartureTime\":\"2024-05-01T06:00:00Z\",\"ExpectedArrivalTime\":\"2024-05-01T06:01:00Z\",\
+      \"ExpectedDepartureTime\":\"2024-05-01T06:01:00Z\",\"Order\":1,\"StopPointRef\":\"A\"},\
+      {\"AimedArrivalTime\":\"2024-05-01T06:10:00Z\",\"AimedDepartureTime\":\"2024-05-01T06:11:00Z\",\
+      \"ExpectedArrivalTime\":\"2024-05-01T06:11:00Z\",\"ExpectedDepartureTime\":\"2024-05-01T06:12:00Z\",\
+      \"Order\":2,\"StopPointRef\":\"B\"}]},\"FramedVehicleJourneyRef\":{\"DataFrameRef\":\"2024-05-01\",\
+      \"DatedVehicleJourneyRef\":\"T1\"},\"IsCompleteStopSequence\":true,\"LineRef\":\"R1\",\
+      \"RecordedAtTime\":\"2024-05-01T06:00:00Z\"}],\"RecordedAtTime\":\"2024-05-01T06:00:00Z\"}],\
+      \"ResponseTimestamp\":\"2024-05-01T06:00:00Z\",\"version\":\"2.0\"}],\
+      \"ResponseTimestamp\":\"2024-05-01T06:00:00Z\"}}}";
+
+// The second of the feed, 2024-05-01T06:00:00Z.
+const AT: u64 = 1_714_543_200;
+
+const LATE: Event = Event {
+    delay: Some(60),
+    time: None,
+};
+
+// The trip on its day.
+fn trip(alloc: Global) -> Result<TripDescriptor, AllocError> {
+    Ok(TripDescriptor {
+        trip_id: Some(Text::copied(alloc, "T1")?),
+        start_date: Some(Text::copied(alloc, "20240501")?),
+        relation: 0,
+        route_id: None,
+    })
+}
+
+// The update of its first stop.
+fn updates(alloc: Global) -> Result<List<StopUpdate>, AllocError> {
+    let mut updates = List::new(alloc);
+    updates.push(StopUpdate {
+        sequence: Some(10),
+        arrival: Some(LATE),
+        departure: Some(LATE),
+        stop_id: None,
+        relation: 0,
+    })?;
+    Ok(updates)
+}
+
+// The entity of the trip.
+fn entities(alloc: Global) -> Result<List<Entity>, AllocError> {
+    let mut entities = List::new(alloc);
+    entities.push(Entity {
+        id: Text::copied(alloc, "1")?,
+        deleted: false,
+        trip_update: Some(TripUpdate {
+            trip: trip(alloc)?,
+            updates: updates(alloc)?,
+            timestamp: Some(AT),
+        }),
+        alert: None,
+    })?;
+    Ok(entities)
+}
+
+// The feed of that entity.
+fn feed(alloc: Global) -> Result<Feed, AllocError> {
+    Ok(Feed {
+        version: Text::copied(alloc, "2.0")?,
+        incrementality: 0,
+        timestamp: None,
+        entities: entities(alloc)?,
+    })
+}
+
+// The delivery of the feed, and how many journeys are taken.
+fn delivered(alloc: Global, context: &Context<'_>) -> Option<(Bytes, u64)> {
+    let feed = feed(alloc).ok()?;
+    let at = Moment::new(AT as i64)?;
+    match siri_of(alloc, &feed, context, at) {
+        Ok((text, report)) => Some((text, report.taken)),
+        Err(_) => None,
+    }
+}
+
+// The delivery of the feed's readings.
+fn delivered_of_readings(alloc: Global, context: &Context<'_>) -> Option<Bytes> {
+    let feed = feed(alloc).ok()?;
+    let at = Moment::new(AT as i64)?;
+    match readings_of(alloc, &feed, context) {
+        Ok(reading) => siri_of_readings(alloc, context, &reading, at).ok(),
+        Err(_) => None,
+    }
+}
+
+#[test]
+fn a_late_trip_is_delivered(rt: HostRuntime) {
+    let alloc = rt.alloc();
+    let zone = paris(&rt);
+    let context = Context {
+        table: &table(&rt, alloc),
+        zone: &zone,
+        window: &window(&rt, &zone, 2),
+    };
+    let (text, taken) = delivered(alloc, &context).expect(&rt, "a delivery");
+    assert_eq!(rt; (text.as_slice(), taken), (DELIVERY, 1));
+    let again = delivered_of_readings(alloc, &context).expect(&rt, "a delivery");
+    assert_eq!(rt; again.as_slice(), DELIVERY);
+}

@@ -1,0 +1,71 @@
+//! Each real device once, and the top call over files and sinks in memory. The top call over the real
+//! devices is run by the repository's own checks.
+mod alerts;
+mod deliveries;
+mod door_faults;
+mod doors;
+mod entities;
+mod failures;
+mod feed;
+mod feeds;
+mod folder;
+mod frame;
+mod full;
+mod hostile;
+mod items;
+mod producer;
+mod rounds;
+mod runs;
+mod samples;
+mod serving;
+mod situations;
+mod told;
+mod updates;
+mod words;
+
+use gateway_top::{DirFiles, StdSink};
+use gw_base::{Bytes, Failed, FileFault, Files, Got, Sink};
+use std::fs::{self, File};
+use std::test::Fail;
+use std::{io, process};
+
+#[test]
+fn a_file_is_read_as_it_was_written(rt: HostRuntime) -> Result<(), Fail> {
+    let path = format!(in rt.alloc(); "/tmp/gateway-test-{}", process::id(rt.process()))?;
+    fs::write(&rt, path.as_str(), b"abcde")?;
+    let mut files = DirFiles::new(&rt);
+    let mut into = Bytes::copied(rt.alloc(), b"-")?;
+    let longer = files.read_file(path.as_str(), 4, &mut into);
+    let whole = files.read_file(path.as_str(), 5, &mut into);
+    fs::remove_file(&rt, path.as_str())?;
+    assert_eq!(rt; longer, Ok(Got::TooLong));
+    assert_eq!(rt; whole, Ok(Got::Whole));
+    assert_eq!(rt; into.as_slice(), b"-abcde".as_slice());
+    Ok(())
+}
+
+#[test]
+fn a_file_that_is_not_read_leaves_nothing(rt: HostRuntime) {
+    let mut files = DirFiles::new(&rt);
+    let mut into = Bytes::new(rt.alloc());
+    assert_eq!(rt;
+        files.read_file("/dev/null/none", 4, &mut into),
+        Ok(Got::Missing)
+    );
+    assert_eq!(rt; files.read_file("/", 4, &mut into), Err(FileFault::Failed));
+    assert!(rt; into.is_empty());
+}
+
+#[test]
+fn a_pipe_gets_the_bytes(rt: HostRuntime) -> Result<(), Fail> {
+    let (mut reader, writer) = io::pipe(&rt)?;
+    let mut sink = StdSink::new(writer);
+    assert_eq!(rt; sink.write(b"abc"), Ok(3));
+    drop(sink);
+    let mut got = Bytes::new(rt.alloc());
+    got.read_to_end(&mut reader)?;
+    assert_eq!(rt; got.as_slice(), b"abc".as_slice());
+    let mut full = StdSink::new(File::create(&rt, "/dev/full")?);
+    assert_eq!(rt; full.write(b"abc"), Err(Failed));
+    Ok(())
+}

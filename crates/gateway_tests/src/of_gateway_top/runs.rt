@@ -1,0 +1,308 @@
+//! What the tests of the top call share: words, files and sinks in memory, and runs over them.
+use gateway_top::gateway;
+use gw_base::{Bytes, List, MemoryClock, MemoryDoor, MemoryFiles, MemorySink, Moment, Text};
+use std::alloc::{AllocError, Global};
+use std::process::Abort;
+
+/// Words that are accepted, each behind one space: the folder `g`, the delivery `f`, and a window of the
+/// first two days of May 2024.
+pub const WORDS: &str =
+    "to-gtfsrt --gtfs g --zone-rule CET-1CEST,M3.5.0,M10.5.0/3 --from 2024-05-01 --days 2 --at 2024-05-01T06:00:00Z \
+      --et f";
+
+/// The files of a run, unless it has others: the sample folder `g`, with a journey of T1 in the delivery `f`.
+pub static SAMPLE: [(&str, &[u8]); 8] = [
+    ("g/agency.txt", b"agency_timezone\nEurope/Paris\n"),
+    ("g/stops.txt", b"stop_id\nA\nB\nC\n"),
+    ("g/routes.txt", b"route_id,route_type\nR1,3\nR2,3\n"),
+    (
+        "g/trips.txt",
+        b"route_id,service_id,trip_id\nR1,D,T1\nR1,D,L1\nR1,D,T2\nR1,N,N1\n",
+    ),
+    (
+        "g/calendar.txt",
+        b"service_id,monday,tuesday,wednesday,thursday,friday,saturday,sunday,start_date,end_date\n\
+          D,1,1,1,1,1,1,1,20240301,20240630\n",
+    ),
+    (
+        "g/calendar_dates.txt",
+        b"service_id,date,exception_type\nN,20240502,1\n",
+    ),
+    (
+        "g/stop_times.txt",
+        b"trip_id,arrival_time,departure_time,stop_id,stop_sequence\nT1,08:00:00,08:00:00,A,10\n\
+          T1,08:10:00,08:11:00,B,20\nT1,08:20:00,08:20:00,C,30\nL1,09:00:00,09:00:00,A,1\nL1,09:10:00,09:10:00,B,2\n\
+          L1,09:20:00,09:20:00,A,3\n",
+    ),
+    (
+        "f",
+        b"{\"ServiceDelivery\":{\"EstimatedTimetableDelivery\":[{\"EstimatedJourneyVersionFrame\":[{\
+          \"EstimatedVehicleJourney\":[{\"RecordedAtTime\":\"2024-05-01T06:00:00Z\",\
+          \"FramedVehicleJourneyRef\":{\"DataFrameRef\":\"2024-05-01\",\"DatedVehicleJourneyRef\":\"T1\"},\
+          \"Cancellation\":true}]}]}]}}",
+    ),
+];
+
+/// A journey of the trip T1 on the first day of the window. The letters are those of `json`.
+pub const JOURNEY: &str = "$<{$R,$1,$C}$>";
+
+/// The feed that is made at the moment of the words, with no entity.
+pub const NO_ENTITY: &[u8] = b"\x0a\x0d\x0a\x032.0\x10\x00\x18\xe0\xb4\xc7\xb1\x06";
+
+/// The feed with the entity of that journey.
+pub const ONE_ENTITY: &[u8] =
+    b"\x0a\x0d\x0a\x032.0\x10\x00\x18\xe0\xb4\xc7\xb1\x06\x12\x27\x0a\x0b20240501:\
+      T1\x1a\x18\x0a\x10\x0a\x02T1\x1a\x0820240501\x20\x03\x20\xe0\xb4\xc7\xb1\x06";
+
+/// The report on a delivery of one journey that is taken.
+pub const ONE_TAKEN: &str = "f taken 1 passed 0 aside 0\n";
+
+/// The words of a text, which stand behind single spaces, with another word in one place.
+pub fn words_with(
+    alloc: Global,
+    text: &str,
+    place: usize,
+    word: &str,
+) -> Result<Vec<Text>, AllocError> {
+    let mut words = Vec::new(alloc);
+    for (at, standing) in text.split(' ').enumerate() {
+        let taken = if at == place { word } else { standing };
+        words.push(Text::copied(alloc, taken)?)?;
+    }
+    Ok(words)
+}
+
+/// The words of a text, which stand behind single spaces.
+pub fn words_of(alloc: Global, text: &str) -> Result<Vec<Text>, AllocError> {
+    words_with(alloc, text, usize::MAX, "")
+}
+
+// What a letter behind a dollar sign stands for.
+fn meaning(letter: char) -> &'static str {
+    match letter {
+        'S' => "\"ServiceDelivery\"",
+        'T' => "\"EstimatedTimetableDelivery\"",
+        'V' => "\"EstimatedJourneyVersionFrame\"",
+        'J' => "\"EstimatedVehicleJourney\"",
+        '<' => {
+            "{\"ServiceDelivery\":{\"EstimatedTimetableDelivery\":[{\"EstimatedJourneyVersionFrame\":[{\
+              \"EstimatedVehicleJourney\":["
+        }
+        '>' => "]}]}]}}",
+        'R' => "\"RecordedAtTime\":\"2024-05-01T06:00:00Z\"",
+        'F' => "\"FramedVehicleJourneyRef\"",
+        'D' => "\"DataFrameRef\"",
+        'I' => "\"DatedVehicleJourneyRef\"",
+        '1' => {
+            "\"FramedVehicleJourneyRef\":{\"DataFrameRef\":\"2024-05-01\",\"DatedVehicleJourneyRef\":\"T1\"}"
+        }
+        '2' => {
+            "\"FramedVehicleJourneyRef\":{\"DataFrameRef\":\"2024-05-01\",\"DatedVehicleJourneyRef\":\"L1\"}"
+        }
+        'C' => "\"Cancellation\":true",
+        '(' => "\"EstimatedCalls\":{\"EstimatedCall\":[",
+        ')' => "]}",
+        'P' => "\"StopPointRef\"",
+        'O' => "\"Order\"",
+        'a' => "\"ExpectedArrivalTime\"",
+        'd' => "\"ExpectedDepartureTime\"",
+        '@' => "2024-05-01T",
+        '[' => {
+            "{\"ServiceDelivery\":{\"SituationExchangeDelivery\":[{\"Situations\":{\"PtSituationElement\":["
+        }
+        ']' => "]}}]}}",
+        'N' => "\"SituationNumber\"",
+        'W' => "\"Version\"",
+        'E' => "\"Consequences\"",
+        'L' => {
+            "\"Affects\":{\"Networks\":{\"AffectedNetwork\":{\"AffectedLine\":{\"LineRef\":\"R1\"}}}}"
+        }
+        _ => "?",
+    }
+}
+
+/// The JSON that a short text stands for: an apostrophe for a quote, and `$` with a letter for a name or
+/// for a piece that comes often, as `meaning` says.
+pub fn json(alloc: Global, short: &str) -> Result<String, AllocError> {
+    let mut json = String::new(alloc);
+    let mut is_behind = false;
+    for letter in short.chars() {
+        if is_behind {
+            json.push_str(meaning(letter))?;
+            is_behind = false;
+        } else if letter == '$' {
+            is_behind = true;
+        } else if letter == '\'' {
+            json.push('"')?;
+        } else {
+            json.push(letter)?;
+        }
+    }
+    Ok(json)
+}
+
+/// These numbers as a list.
+pub fn numbers(alloc: Global, values: &[u64]) -> Result<List<u64>, AllocError> {
+    let mut list = List::new(alloc);
+    for value in values {
+        list.push(*value)?;
+    }
+    Ok(list)
+}
+
+/// A file that a run has in place of the sample's of that name, or beside them; None takes it away.
+pub type Other<'a> = (&'a str, Option<&'a [u8]>);
+
+// The other file of that name, if there is one.
+fn other_of<'a>(others: &[Other<'a>], name: &str) -> Option<Option<&'a [u8]>> {
+    for (named, bytes) in others {
+        if *named == name {
+            return Some(*bytes);
+        }
+    }
+    None
+}
+
+// Adds a file, if there is one.
+fn add_file(
+    alloc: Global,
+    files: &mut List<(Text, Bytes)>,
+    name: &str,
+    bytes: Option<&[u8]>,
+) -> Result<(), AllocError> {
+    if let Some(bytes) = bytes {
+        files.push((Text::copied(alloc, name)?, Bytes::copied(alloc, bytes)?))?;
+    }
+    Ok(())
+}
+
+// Adds the files of a sample, with these in their place. A loop over the table itself would have its text in each goal.
+fn add_sample(
+    alloc: Global,
+    files: &mut List<(Text, Bytes)>,
+    sample: &[(&str, &[u8])],
+    others: &[Other],
+) -> Result<(), AllocError> {
+    for (name, bytes) in sample {
+        let bytes = other_of(others, name).unwrap_or(Some(bytes));
+        add_file(alloc, files, name, bytes)?;
+    }
+    Ok(())
+}
+
+/// The sample's files with these in their place, of which these reads fail.
+pub fn files_with(
+    alloc: Global,
+    others: &[Other],
+    fails: &[u64],
+) -> Result<MemoryFiles, AllocError> {
+    let mut files = List::new(alloc);
+    add_sample(alloc, &mut files, &SAMPLE, others)?;
+    for (name, bytes) in others {
+        add_file(alloc, &mut files, name, *bytes)?;
+    }
+    Ok(MemoryFiles::make(files, numbers(alloc, fails)?))
+}
+
+/// A sink of that room, of which these writes fail.
+pub fn sink(alloc: Global, room: u64, fails: &[u64]) -> Result<MemorySink, AllocError> {
+    MemorySink::make(alloc, room, numbers(alloc, fails)?)
+}
+
+/// A clock that gives these moments, of which these calls fail.
+pub fn clock_of(alloc: Global, seconds: &[i64], fails: &[u64]) -> Result<MemoryClock, AllocError> {
+    let mut moments = List::new(alloc);
+    for second in seconds {
+        if let Some(moment) = Moment::new(*second) {
+            moments.push(moment)?;
+        }
+    }
+    Ok(MemoryClock::make(moments, numbers(alloc, fails)?))
+}
+
+/// The top call, with a door to which no connection comes and a clock that gives no moment.
+pub fn run(
+    alloc: Global,
+    words: &[Text],
+    files: &mut MemoryFiles,
+    out: &mut MemorySink,
+    err: &mut MemorySink,
+) -> Result<u8, AllocError> {
+    let mut door = MemoryDoor::make(alloc, List::new(alloc), 0, 1, List::new(alloc))?;
+    let mut clock = clock_of(alloc, &[], &[])?;
+    Ok(gateway(alloc, words, files, &mut door, &mut clock, out, err))
+}
+
+/// What a run is given: the words as a text, the files in place of the sample's, and the reads that fail.
+#[derive(Clone, Copy)]
+pub struct Given<'a> {
+    pub words: &'a str,
+    pub others: &'a [Other<'a>],
+    pub fails: &'a [u64],
+}
+
+/// A run over these sinks, with its status.
+pub fn run_given(
+    alloc: Global,
+    given: &Given,
+    out: &mut MemorySink,
+    err: &mut MemorySink,
+) -> Result<u8, AllocError> {
+    let words = words_of(alloc, given.words)?;
+    let mut files = files_with(alloc, given.others, given.fails)?;
+    run(alloc, words.as_slice(), &mut files, out, err)
+}
+
+/// What a run left: its status, standard output and standard error.
+#[derive(Drop)]
+pub struct Left {
+    pub status: u8,
+    pub out: MemorySink,
+    pub err: MemorySink,
+}
+
+/// What a run with sinks that are large enough left.
+pub fn left_by(alloc: Global, given: &Given) -> Result<Left, AllocError> {
+    let mut out = sink(alloc, 10_000, &[])?;
+    let mut err = sink(alloc, 10_000, &[])?;
+    let status = run_given(alloc, given, &mut out, &mut err)?;
+    Ok(Left { status, out, err })
+}
+
+/// The run of that name leaves exactly this.
+pub fn assert_run(
+    rt: &impl Abort,
+    alloc: Global,
+    name: &str,
+    given: &Given,
+    (status, out, err): (u8, &[u8], &str),
+) {
+    let left = left_by(alloc, given).expect(rt, "memory");
+    let text = str::from_utf8(left.err.written()).expect(rt, "UTF-8");
+    assert_eq!(rt; text, err, "standard error of {name}");
+    assert_eq!(rt; left.status, status, "status of {name}");
+    assert_eq!(rt; left.out.written(), out, "standard output of {name}");
+}
+
+/// The run of the accepted words with another file in place of the sample's leaves exactly this.
+pub fn assert_other(
+    rt: &impl Abort,
+    alloc: Global,
+    name: &str,
+    other: Other,
+    expected: (u8, &[u8], &str),
+) {
+    let given = Given {
+        words: WORDS,
+        others: &[other],
+        fails: &[],
+    };
+    assert_run(rt, alloc, name, &given, expected);
+}
+
+/// The run on a delivery, which is given by its short text, leaves exactly this.
+pub fn assert_delivery(rt: &impl Abort, alloc: Global, short: &str, expected: (u8, &[u8], &str)) {
+    let delivery = json(alloc, short).expect(rt, "memory");
+    let other = ("f", Some(delivery.as_str().as_bytes()));
+    assert_other(rt, alloc, short, other, expected);
+}

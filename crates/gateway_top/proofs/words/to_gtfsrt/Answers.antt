@@ -1,0 +1,16 @@
+use Rattle.std.proofs.Common.{sym, ◌∙◌}
+use Rattle.std.proofs.lemmas.List.{take_rest}
+use Rattle.gateway_top.proofs.WordLemmas.{read_at}
+use Rattle.gateway_top.proofs.words.to_gtfsrt.Goals as goal
+use Rattle.service_day.specs.Utc.{utc_of}
+
+pub returns : goal.returns
+returns c =
+    let is = c.requires.1 in
+    let words = c.args.words.now in
+    record {
+      name = is.name;
+      over = c.over.ensures;
+      at = read_at utc_of words 10 _ _ _ is.at c.index-words-10.is (sym c.moment.ensures ∙ c.unwrap.ensures);
+      more = sym (take_rest words 11);
+    }

@@ -1,0 +1,70 @@
+-- The headline: what a server shows, in the words of the two standards (SIRI 2.0, EstimatedVehicleJourney; GTFS
+-- Realtime 2.0, FeedMessage), over the log of its connections (RFC 9112).
+use Rattle.std.specs.Prelude.{◌≡◌, ◌⊎◌, ℕ, ℤ, List, [], ◌∷◌, ◌++◌, Some}
+use Rattle.gw_base.specs.Connections.{Beside, Connections}
+use Rattle.gw_base.specs.declared.door.Entry.{Entry}
+use Rattle.gw_base.specs.declared.door.Mark.TheVariants as mark
+use Rattle.http_talk.specs.Request.{IsRequest, Get}
+use Rattle.http_talk.specs.declared.answer.Answer.TheVariants as answer
+use Rattle.http_talk.specs.declared.target.Target.TheVariants.{EtGet, RtGet}
+use Rattle.gateway_core.specs.Arrivals.{Arrival, moments_of, present, schedule_at}
+use Rattle.gateway_core.specs.Gives.{GivesEach}
+use Rattle.gateway_core.specs.Recording.{IsRebuiltOf}
+use Rattle.gateway_core.specs.Standing.{IsLastSiri}
+use Rattle.gateway_core.specs.declared.setting.Setting.{Setting}
+use Rattle.gateway_server.specs.Answers.{answer_of}
+use Rattle.gateway_server.specs.Log.{IsFront, Leaves}
+use Rattle.gateway_top.specs.Published.{IsSetting}
+use Rattle.gateway_top.specs.Serving.{HasLogged}
+use Rattle.gateway_top.specs.Work.{Directory}
+use Rattle.gateway_top.specs.Words.{IsJob, Serve, serve_job}
+
+-- what arrived of connections, one after the other, behind what had arrived before them
+abbrev pub HasArrived : Setting → List Arrival → List Entry → List Arrival → Type 0
+HasArrived setting before [] now = now ≡ before
+HasArrived setting before (entry ∷ later) now =
+    (after : List Arrival) × Leaves setting before entry after × HasArrived setting after later now
+
+-- a feed served: its bytes are those rebuilt from all that arrived; read as protobuf and propagated by GTFS Realtime's
+-- rules, they give every stop of every dated journey the time, skip or absence of the last-recorded SIRI journey taken
+-- before it. The output is that answer, or by a fault of the door a front of it
+pub record ServesFeed (Cause : Type 0) (setting : Setting) (arrivals : List Arrival) (entry : Entry) : Type 0 where
+  pub moment : ℤ
+  pub at : entry.moment ≡ Some moment
+  pub asked : IsRequest entry.input (Get RtGet)
+  pub feed : List ℕ
+  pub output : IsFront Cause entry.output (answer_of answer.Feed feed)
+  pub rebuilt : IsRebuiltOf setting moment arrivals feed
+  pub gives : GivesEach moment (schedule_at setting (moments_of arrivals)) (present setting arrivals) feed
+
+-- a SIRI text served: it gives every call the propagated time of the last accepted feed, or has no journey where there
+-- was none
+pub record ServesText (Cause : Type 0) (setting : Setting) (arrivals : List Arrival) (entry : Entry) : Type 0 where
+  pub asked : IsRequest entry.input (Get EtGet)
+  pub text : List ℕ
+  pub output : IsFront Cause entry.output (answer_of answer.Json text)
+  pub says : IsLastSiri setting arrivals text
+
+-- an entry shows the one or the other, over what arrived of the entries before it
+pub record Shows (Cause : Type 0) (setting : Setting) (earlier : List Entry) (entry : Entry) : Type 0 where
+  pub arrivals : List Arrival
+  pub arrived : HasArrived setting [] earlier arrivals
+  pub served : ServesFeed Cause setting arrivals entry ⊎ ServesText Cause setting arrivals entry
+
+-- what a server of these words shows, over the setting of its files
+pub record ShowsAsTold (Cause : Type 0) (words : List (List ℕ)) (files : Directory) (earlier : List Entry)
+    (entry : Entry) : Type 0 where
+  pub command : Serve
+  pub accepted : IsJob words (serve_job command)
+  pub setting : Setting
+  pub over : IsSetting command.over (Some command.keep) files setting
+  pub shows : Shows Cause setting earlier entry
+
+-- over any connections: the log got entries, and each that is marked Shown shows what it is to
+pub record Headline (Cause : Type 0) (words : List (List ℕ)) (files : Directory) (told : Connections)
+    (now : Beside) : Type 0 where
+  pub entries : List Entry
+  pub left : Connections
+  pub logged : HasLogged told now entries left
+  pub shown : (earlier : List Entry) (entry : Entry) (later : List Entry) → entries ≡ earlier ++ entry ∷ later
+      → entry.mark ≡ mark.Shown → ShowsAsTold Cause words files earlier entry

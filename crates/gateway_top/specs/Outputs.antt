@@ -1,0 +1,9 @@
+-- The bytes of what a command writes. No definition of what is published cites it.
+use Rattle.std.specs.Prelude.{ℕ, List}
+use Rattle.gateway_core.specs.Standing.{served}
+use Rattle.gateway_top.specs.declared.done.Output.{Output}
+use Rattle.gateway_top.specs.declared.done.Output.TheVariants.{Feed, Text}
+
+abbrev pub bytes_of : Output → List ℕ
+bytes_of (Text bytes) = bytes
+bytes_of (Feed gate at) = served at gate

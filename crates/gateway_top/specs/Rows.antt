@@ -1,0 +1,34 @@
+-- What the tables of the code say.
+use Rattle.std.specs.Prelude.{◌&&◌, Bool, List, length, map, nat_lt}
+use Rattle.std.specs.List.{list_all}
+use Rattle.gateway_top.specs.Forms.{is_connection_count, is_day, is_day_count, is_filled, is_kept_count, is_moment, is_seed, is_stop_count, is_trip_count}
+use Rattle.gateway_top.specs.Tables as table
+use Rattle.gateway_top.specs.Tables.{Form}
+use Rattle.gateway_top.specs.declared.words.forms.Form as declared
+use Rattle.gateway_top.specs.declared.words.forms.Form.TheVariants as form
+use Rattle.gateway_top.specs.declared.words.table.Pair.{Pair}
+use Rattle.gateway_top.specs.declared.words.table.Command.{Command}
+
+abbrev pub form_of : declared.Form → Form
+form_of form.Filled = is_filled
+form_of form.Day = is_day
+form_of form.DayCount = is_day_count
+form_of form.KeptCount = is_kept_count
+form_of form.ConnectionCount = is_connection_count
+form_of form.Moment = is_moment
+form_of form.Seed = is_seed
+form_of form.TripCount = is_trip_count
+form_of form.StopCount = is_stop_count
+
+abbrev pub pair_of : Pair → table.Pair
+pair_of pair = record { flags = map (λ flag. flag.now) pair.flags.now; form = form_of pair.form }
+
+abbrev pub row_of : Command → table.Command
+row_of command =
+    record { name = command.name.now; pairs = map pair_of command.pairs.now; repeated = pair_of command.repeated }
+
+-- there is a command, and each pair has a flag: what a table owes, since each form can be met
+abbrev pub have_flags : List Command → Bool
+have_flags commands =
+    nat_lt 0 (length commands) && list_all (λ command. list_all
+    (λ pair. nat_lt 0 (length pair.flags.now)) command.pairs.now) commands

@@ -1,0 +1,42 @@
+-- What a command that was read says.
+use Rattle.gateway_top.specs.Words.{Job, NamedZone, Scope as Said, Serve, Task as SaidTask, by_rule, by_file, gtfsrt_task, make_task, serve_job, show_task, siri_task, sx_task, task_job}
+use Rattle.gateway_top.specs.declared.words.Scope.{Scope}
+use Rattle.gateway_top.specs.declared.words.Server.{Server}
+use Rattle.gateway_top.specs.declared.words.Task.{Task}
+use Rattle.gateway_top.specs.declared.words.Task.TheVariants.{ToGtfsrt, ToSiri, ToSiriSx, Show, Make}
+use Rattle.gateway_top.specs.declared.words.Work.{Work}
+use Rattle.gateway_top.specs.declared.words.Work.TheVariants as work
+use Rattle.gateway_top.specs.declared.words.ZoneWord.{ZoneWord}
+use Rattle.gateway_top.specs.declared.words.ZoneWord.TheVariants.{Rule, File}
+
+-- the zone that is named
+abbrev pub zone_of : ZoneWord → NamedZone
+zone_of (Rule text) = by_rule text.now
+zone_of (File path) = by_file path.now
+
+-- what a command works over
+abbrev pub scope_of : Scope → Said
+scope_of over = record { gtfs = over.gtfs.now; zone = zone_of over.zone; from = over.from; days = over.days }
+
+-- what `serve` says
+abbrev pub server_of : Server → Serve
+server_of server =
+    record {
+      over = scope_of server.over;
+      keep = server.keep;
+      listen = server.listen.now;
+      connections = server.connections;
+    }
+
+-- what a command says that writes its result and ends
+abbrev pub task_of : Task → SaidTask
+task_of (ToGtfsrt over at more) = gtfsrt_task (record { over = scope_of over; at = at; more = more.now })
+task_of (ToSiri over at feed) = siri_task (record { over = scope_of over; at = at; feed = feed.now })
+task_of (ToSiriSx over at feed) = sx_task (record { over = scope_of over; at = at; feed = feed.now })
+task_of (Show over feed) = show_task (record { over = scope_of over; feed = feed.now })
+task_of (Make seed trips stops) = make_task (record { seed = seed; trips = trips; stops = stops })
+
+-- what the command says
+abbrev pub job_of : Work → Job
+job_of (work.Serve server) = serve_job (server_of server)
+job_of (work.Task task) = task_job (task_of task)

@@ -1,0 +1,179 @@
+//! What the commands make of a feed's file. The functions meet `specs/Work.antt`.
+ghost use Rattle.std.specs.Prelude.{◌≡◌, ◌≢◌, ◌++◌, Ok, IfOk, IfSome, IsErrOf, codes, decimal, pos};
+ghost use Rattle.gw_base.specs.Answers.{UnlessFree};
+ghost use Rattle.gw_base.specs.Count.{Counts};
+ghost use Rattle.gateway_top.specs.Bodies as ends;
+ghost use Rattle.gateway_top.specs.Exits.{is_free};
+ghost use Rattle.gateway_top.specs.Work as steps;
+
+use crate::done::Done;
+use crate::exit::Exit;
+use crate::reading::{BODY_LIMIT, further_file, joined};
+use feed_messages::{FeedFault, read_feed};
+use gateway_core::{Setting, feed_report};
+use gw_base::incrementality::DIFFERENTIAL;
+use gw_base::{Bytes, Feed, Files, Moment, Text, WireKind};
+use itoa::Buffer;
+use propagation::readings_of;
+use reverse_alerts::SxFault;
+use reverse_calls::ReverseFault;
+use show_command::show_lines;
+use std::alloc::{AllocError, Global};
+
+// The name of a kind of break in protobuf's encoding.
+fn kind_name(kind: WireKind) -> &'static str
+    ensures { result.now ≡ ends.kind_name kind }
+{
+    match kind {
+        WireKind::Truncated => "Truncated",
+        WireKind::LongVarint => "LongVarint",
+        WireKind::BadTag => "BadTag",
+        WireKind::BadGroup => "BadGroup",
+        WireKind::DeepGroup => "DeepGroup",
+    }
+}
+
+// A file's name, a fault's name and a number.
+fn numbered(alloc: Global, name: &str, fault: &str, number: u64) -> Result<Text, AllocError>
+    ensures { IfOk result (λ text. text ≡ name.now ++ fault.now ++ decimal number) }
+{
+    let mut digits = Buffer::new();
+    let mut text = joined(alloc, name, fault)?;
+    text.push(digits.format(number))?;
+    Ok(text)
+}
+
+// The same with a further word.
+fn with_word(
+    alloc: Global,
+    name: &str,
+    fault: &str,
+    number: u64,
+    word: &str,
+) -> Result<Text, AllocError>
+    ensures { IfOk result (λ text.
+        text ≡ name.now ++ fault.now ++ decimal number ++ codes " " ++ word.now) }
+{
+    let mut text = numbered(alloc, name, fault, number)?;
+    text.push(" ")?;
+    text.push(word)?;
+    Ok(text)
+}
+
+/// The end that a fault of a feed's body is.
+pub fn feed_end(alloc: Global, name: &str, fault: FeedFault) -> Result<Exit, AllocError>
+    ensures { IfOk result (λ end. end ≡ ends.feed_end name.now fault) }
+{
+    let text = match fault {
+        FeedFault::EntityTooLong(at) => numbered(alloc, name, " EntityTooLong ", at),
+        FeedFault::Wire(fault) => {
+            with_word(alloc, name, " Wire ", fault.at, kind_name(fault.kind))
+        }
+        FeedFault::NotText(at) => numbered(alloc, name, " NotText ", at),
+        FeedFault::MissingField(at, field) => {
+            with_word(alloc, name, " MissingField ", at, field.name())
+        }
+        FeedFault::Memory => return Ok(Exit::Memory),
+    };
+    Ok(Exit::Refused(text?))
+}
+
+// The feed that a body means.
+fn feed_of(alloc: Global, name: &str, body: &[u8]) -> Result<Feed, Exit>
+    ensures told { UnlessFree is_free result (steps.FeedOf name.now body.now) }
+    ensures calm { ¬ IsErrOf result Exit.Failed }
+{
+    match read_feed(alloc, body) {
+        Ok(feed) => Ok(feed),
+        Err(fault) => Err(feed_end(alloc, name, fault)?),
+    }
+}
+
+// The feed, which is a full dataset.
+fn full(alloc: Global, name: &str, feed: Feed) -> Result<Feed, Exit>
+    ensures told { UnlessFree is_free result (steps.FullDataset name.now feed) }
+    ensures full { IfOk result (λ feed. feed.incrementality ≢ pos 1) }
+    ensures calm { ¬ IsErrOf result Exit.Failed }
+{
+    if feed.incrementality == DIFFERENTIAL {
+        return Err(Exit::Refused(joined(alloc, name, " Differential")?));
+    }
+    Ok(feed)
+}
+
+// The feed of a body, which is a full dataset.
+fn body_feed(alloc: Global, name: &str, body: &[u8]) -> Result<Feed, Exit>
+    ensures told { UnlessFree is_free result (steps.BodyFeed name.now body.now) }
+    ensures full { IfOk result (λ feed. feed.incrementality ≢ pos 1) }
+    ensures calm { ¬ IsErrOf result Exit.Failed }
+{
+    let feed = feed_of(alloc, name, body)?;
+    full(alloc, name, feed)
+}
+
+/// The feed of a file, which is a full dataset.
+pub fn feed_file<F: Files>(alloc: Global, files: &mut F, name: &str) -> Result<Feed, Exit>
+    ensures told { IfSome (F.told files.old) (λ told. UnlessFree is_free result (steps.FileFeed name.now told)) }
+    ensures full { IfOk result (λ feed. feed.incrementality ≢ pos 1) }
+    ensures counts { Counts (IsErrOf result Exit.Failed) (F.faults files.old) (F.faults files.new) }
+    ensures same { F.told files.new ≡ F.told files.old }
+{
+    let body = further_file(alloc, files, name, BODY_LIMIT)?;
+    body_feed(alloc, name, body.as_slice())
+}
+
+/// The delivery that says what a feed says, and the report on its entities.
+pub fn siri_of(
+    alloc: Global,
+    at: Moment,
+    setting: &Setting,
+    name: &str,
+    feed: &Feed,
+) -> Result<Done, Exit>
+    requires { feed.now.incrementality ≢ pos 1 }
+    ensures told { UnlessFree is_free result (steps.SiriOf at setting.now name.now feed.now) }
+    ensures calm { ¬ IsErrOf result Exit.Failed }
+{
+    match reverse_calls::siri_of(alloc, feed, &setting.context(), at) {
+        Ok((out, report)) => {
+            let err = feed_report(alloc, name, &report)?;
+            Ok(Done::texts(out, err))
+        }
+        Err(ReverseFault::TooManyCalls(count)) => {
+            Err(Exit::Refused(numbered(alloc, name, " TooManyCalls ", count)?))
+        }
+        Err(ReverseFault::Differential) => unreachable!(),
+        Err(ReverseFault::Memory) => Err(Exit::Memory),
+    }
+}
+
+/// The delivery of the situations that a feed's alerts are, and the report on its entities.
+pub fn sx_of(
+    alloc: Global,
+    at: Moment,
+    setting: &Setting,
+    name: &str,
+    feed: &Feed,
+) -> Result<Done, Exit>
+    requires { feed.now.incrementality ≢ pos 1 }
+    ensures told { UnlessFree is_free result (steps.SxOf at setting.now name.now feed.now) }
+    ensures calm { ¬ IsErrOf result Exit.Failed }
+{
+    match reverse_alerts::sx_of(alloc, feed, &setting.context(), at) {
+        Ok((out, report)) => {
+            let err = feed_report(alloc, name, &report)?;
+            Ok(Done::texts(out, err))
+        }
+        Err(SxFault::Differential) => unreachable!(),
+        Err(SxFault::Memory) => Err(Exit::Memory),
+    }
+}
+
+/// The lines of what a feed says.
+pub fn lines_of(alloc: Global, setting: &Setting, feed: &Feed) -> Result<Done, AllocError>
+    ensures { IfOk result (λ done. steps.LinesOf setting.now feed.now (Ok done)) }
+{
+    let reading = readings_of(alloc, feed, &setting.context())?;
+    let out = show_lines(alloc, &setting.context(), &reading)?;
+    Ok(Done::texts(out, Bytes::new(alloc)))
+}

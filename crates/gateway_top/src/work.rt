@@ -1,0 +1,296 @@
+//! The work of the commands, step by step in the order of `specs/Work.antt`. Nothing is written here.
+ghost use Rattle.std.specs.Prelude.{◌≡◌, ◌++◌, ◌<◌, false, IfOk, IfSome, IsErrOf, length, None, Ok, Err};
+ghost use Rattle.gw_base.specs.Answers.{UnlessFree};
+ghost use Rattle.gw_base.specs.Count.{Counts};
+ghost use Rattle.gateway_top.specs.Exits.{is_free};
+ghost use Rattle.gateway_top.specs.Work as steps;
+ghost use Rattle.gateway_top.specs.Windowed.{CanRun, HasWindow};
+ghost use Rattle.gateway_top.specs.Words as said;
+ghost use Rattle.gateway_top.specs.Words.{by_file};
+ghost use Rattle.gateway_top.specs.Works.{scope_of, task_of, zone_of};
+
+use crate::deliveries::deliveries;
+use crate::done::Done;
+use crate::exit::Exit;
+use crate::feeds::{feed_file, lines_of, siri_of, sx_of};
+use crate::folder_end::folder_end;
+use crate::reading::{ZONE_LIMIT, further_file};
+use crate::samples::made_line;
+use crate::words::{Scope, Task, ZoneWord};
+use gateway_core::{Gateway, Setting};
+use gw_base::{Files, Moment, Text};
+use service_day::{Window, Zone, ZoneFault};
+use std::alloc::Global;
+use stop_schedule::{Timetable, read_timetable};
+
+// The timetable of a folder.
+fn folder<F: Files>(alloc: Global, files: &mut F, dir: &str) -> Result<Timetable, Exit>
+    ensures told { IfSome (F.told files.old) (λ told. UnlessFree is_free result (steps.Folder dir.now told)) }
+    ensures counts { Counts (IsErrOf result Exit.Failed) (F.faults files.old) (F.faults files.new) }
+    ensures same { F.told files.new ≡ F.told files.old }
+{
+    match read_timetable(alloc, files, dir) {
+        Ok(table) => Ok(table),
+        Err(fault) => Err(folder_end(alloc, dir, fault)?),
+    }
+}
+
+// The zone of a POSIX rule.
+fn rule_zone(alloc: Global, rule: &str) -> Result<Zone, Exit>
+    ensures told { UnlessFree is_free result (steps.RuleZone rule.now) }
+    ensures calm { ¬ IsErrOf result Exit.Failed }
+{
+    match Zone::from_rule(rule) {
+        Ok(zone) => Ok(zone),
+        Err(ZoneFault::Refused) => Err(Exit::Refused(Text::copied(alloc, "zone refused")?)),
+        Err(ZoneFault::Memory) => Err(Exit::Memory),
+    }
+}
+
+// The zone of the bytes of a TZif file.
+fn table_zone(alloc: Global, bytes: &[u8]) -> Result<Zone, Exit>
+    ensures told { UnlessFree is_free result (steps.TableZone bytes.now) }
+    ensures calm { ¬ IsErrOf result Exit.Failed }
+{
+    match Zone::from_file(alloc, bytes) {
+        Ok(zone) => Ok(zone),
+        Err(ZoneFault::Refused) => Err(Exit::Refused(Text::copied(alloc, "zone refused")?)),
+        Err(ZoneFault::Memory) => Err(Exit::Memory),
+    }
+}
+
+// The zone of a TZif file.
+fn file_zone<F: Files>(alloc: Global, files: &mut F, path: &str) -> Result<Zone, Exit>
+    ensures told { IfSome (F.told files.old) (λ told. UnlessFree is_free result (steps.Zone (by_file path.now) told)) }
+    ensures counts { Counts (IsErrOf result Exit.Failed) (F.faults files.old) (F.faults files.new) }
+    ensures same { F.told files.new ≡ F.told files.old }
+{
+    let bytes = further_file(alloc, files, path, ZONE_LIMIT)?;
+    table_zone(alloc, bytes.as_slice())
+}
+
+// The zone that the words name.
+fn zone<F: Files>(alloc: Global, files: &mut F, word: &ZoneWord<'_>) -> Result<Zone, Exit>
+    ensures told { IfSome (F.told files.old) (λ told. UnlessFree is_free result (steps.Zone (zone_of word.now) told)) }
+    ensures counts { Counts (IsErrOf result Exit.Failed) (F.faults files.old) (F.faults files.new) }
+    ensures same { F.told files.new ≡ F.told files.old }
+{
+    match word {
+        ZoneWord::Rule(rule) => rule_zone(alloc, rule.as_str()),
+        ZoneWord::File(path) => file_zone(alloc, files, path.as_str()),
+    }
+}
+
+// The zone and the window behind a timetable.
+fn over<F: Files>(
+    alloc: Global,
+    files: &mut F,
+    scope: &Scope<'_>,
+    keep: Option<u8>,
+    table: Timetable,
+) -> Result<Setting, Exit>
+    requires { HasWindow scope.now.from scope.now.days }
+    ensures told { IfSome (F.told files.old) (λ told. UnlessFree is_free result
+        (steps.Over table (zone_of scope.now.zone) scope.now.from scope.now.days keep told)) }
+    ensures counts { Counts (IsErrOf result Exit.Failed) (F.faults files.old) (F.faults files.new) }
+    ensures same { F.told files.new ≡ F.told files.old }
+{
+    let zone = zone(alloc, files, &scope.zone)?;
+    let window = Window::make(&zone, scope.from, scope.days)?;
+    Ok(Setting {
+        table,
+        zone,
+        window,
+        keep,
+    })
+}
+
+/// What a command works over, and how many days it keeps.
+pub fn setting<F: Files>(
+    alloc: Global,
+    files: &mut F,
+    scope: &Scope<'_>,
+    keep: Option<u8>,
+) -> Result<Setting, Exit>
+    requires { HasWindow scope.now.from scope.now.days }
+    ensures told { IfSome (F.told files.old) (λ told. UnlessFree is_free result
+        (steps.SettingOf (scope_of scope.now) keep told)) }
+    ensures counts { Counts (IsErrOf result Exit.Failed) (F.faults files.old) (F.faults files.new) }
+    ensures same { F.told files.new ≡ F.told files.old }
+{
+    match folder(alloc, files, scope.gtfs.as_str()) {
+        Ok(table) => over(alloc, files, scope, keep, table),
+        Err(end) => Err(end),
+    }
+}
+
+// The conversion of the deliveries of the files that words name.
+fn conversion<F: Files>(
+    alloc: Global,
+    files: &mut F,
+    at: Moment,
+    setting: Setting,
+    words: &[Text],
+) -> Result<Done, Exit>
+    ensures told { IfSome (F.told files.old) (λ told. UnlessFree is_free result
+        (steps.Conversion at setting words.now told)) }
+    ensures counts { Counts (IsErrOf result Exit.Failed) (F.faults files.old) (F.faults files.new) }
+    ensures same { F.told files.new ≡ F.told files.old }
+{
+    let mut gate = Gateway::start(alloc, setting)?;
+    match deliveries(alloc, files, &mut gate, at, words) {
+        Ok(reports) => Ok(Done::feed(gate, at, reports)),
+        Err(end) => Err(end),
+    }
+}
+
+// The work of `to-gtfsrt`.
+fn to_gtfsrt<F: Files>(
+    alloc: Global,
+    files: &mut F,
+    scope: &Scope<'_>,
+    at: Moment,
+    more: &[Text],
+) -> Result<Done, Exit>
+    requires { HasWindow scope.now.from scope.now.days }
+    ensures told { IfSome (F.told files.old) (λ told. UnlessFree is_free result
+        (steps.ToGtfsrtWork
+        (record { over = scope_of scope.now; at = at; more = more.now }) told)) }
+    ensures counts { Counts (IsErrOf result Exit.Failed) (F.faults files.old) (F.faults files.new) }
+    ensures same { F.told files.new ≡ F.told files.old }
+{
+    match setting(alloc, files, scope, None) {
+        Ok(setting) => conversion(alloc, files, at, setting, more),
+        Err(end) => Err(end),
+    }
+}
+
+// What `to-siri` makes of a feed's file over a setting.
+fn siri_of_file<F: Files>(
+    alloc: Global,
+    files: &mut F,
+    at: Moment,
+    setting: &Setting,
+    name: &str,
+) -> Result<Done, Exit>
+    ensures told { IfSome (F.told files.old) (λ told. UnlessFree is_free result
+        (steps.SiriOfFile at setting.now name.now told)) }
+    ensures counts { Counts (IsErrOf result Exit.Failed) (F.faults files.old) (F.faults files.new) }
+    ensures same { F.told files.new ≡ F.told files.old }
+{
+    match feed_file(alloc, files, name) {
+        Ok(feed) => siri_of(alloc, at, setting, name, &feed),
+        Err(end) => Err(end),
+    }
+}
+
+// The work of `to-siri`.
+fn to_siri<F: Files>(
+    alloc: Global,
+    files: &mut F,
+    scope: &Scope<'_>,
+    at: Moment,
+    feed: &str,
+) -> Result<Done, Exit>
+    requires { HasWindow scope.now.from scope.now.days }
+    ensures told { IfSome (F.told files.old) (λ told. UnlessFree is_free result
+        (steps.ToSiriWork
+        (record { over = scope_of scope.now; at = at; feed = feed.now }) told)) }
+    ensures counts { Counts (IsErrOf result Exit.Failed) (F.faults files.old) (F.faults files.new) }
+    ensures same { F.told files.new ≡ F.told files.old }
+{
+    match setting(alloc, files, scope, None) {
+        Ok(setting) => siri_of_file(alloc, files, at, &setting, feed),
+        Err(end) => Err(end),
+    }
+}
+
+// What `to-siri-sx` makes of a feed's file over a setting.
+fn sx_of_file<F: Files>(
+    alloc: Global,
+    files: &mut F,
+    at: Moment,
+    setting: &Setting,
+    name: &str,
+) -> Result<Done, Exit>
+    ensures told { IfSome (F.told files.old) (λ told. UnlessFree is_free result
+        (steps.SxOfFile at setting.now name.now told)) }
+    ensures counts { Counts (IsErrOf result Exit.Failed) (F.faults files.old) (F.faults files.new) }
+    ensures same { F.told files.new ≡ F.told files.old }
+{
+    match feed_file(alloc, files, name) {
+        Ok(feed) => sx_of(alloc, at, setting, name, &feed),
+        Err(end) => Err(end),
+    }
+}
+
+// The work of `to-siri-sx`.
+fn to_siri_sx<F: Files>(
+    alloc: Global,
+    files: &mut F,
+    scope: &Scope<'_>,
+    at: Moment,
+    feed: &str,
+) -> Result<Done, Exit>
+    requires { HasWindow scope.now.from scope.now.days }
+    ensures told { IfSome (F.told files.old) (λ told. UnlessFree is_free result
+        (steps.ToSiriSxWork
+        (record { over = scope_of scope.now; at = at; feed = feed.now }) told)) }
+    ensures counts { Counts (IsErrOf result Exit.Failed) (F.faults files.old) (F.faults files.new) }
+    ensures same { F.told files.new ≡ F.told files.old }
+{
+    match setting(alloc, files, scope, None) {
+        Ok(setting) => sx_of_file(alloc, files, at, &setting, feed),
+        Err(end) => Err(end),
+    }
+}
+
+// What `show` makes of a feed's file over a setting.
+fn lines_of_file<F: Files>(
+    alloc: Global,
+    files: &mut F,
+    setting: &Setting,
+    name: &str,
+) -> Result<Done, Exit>
+    ensures told { IfSome (F.told files.old) (λ told. UnlessFree is_free result
+        (steps.LinesOfFile setting.now name.now told)) }
+    ensures counts { Counts (IsErrOf result Exit.Failed) (F.faults files.old) (F.faults files.new) }
+    ensures same { F.told files.new ≡ F.told files.old }
+{
+    match feed_file(alloc, files, name) {
+        Ok(feed) => Ok(lines_of(alloc, setting, &feed)?),
+        Err(end) => Err(end),
+    }
+}
+
+// The work of `show`.
+fn show<F: Files>(alloc: Global, files: &mut F, scope: &Scope<'_>, feed: &str) -> Result<Done, Exit>
+    requires { HasWindow scope.now.from scope.now.days }
+    ensures told { IfSome (F.told files.old) (λ told. UnlessFree is_free result
+        (steps.ShowWork (record { over = scope_of scope.now; feed = feed.now }) told)) }
+    ensures counts { Counts (IsErrOf result Exit.Failed) (F.faults files.old) (F.faults files.new) }
+    ensures same { F.told files.new ≡ F.told files.old }
+{
+    match setting(alloc, files, scope, None) {
+        Ok(setting) => lines_of_file(alloc, files, &setting, feed),
+        Err(end) => Err(end),
+    }
+}
+
+/// The work of a command over the files: what it writes, or how it ends.
+pub fn carried_out<F: Files>(alloc: Global, task: &Task<'_>, files: &mut F) -> Result<Done, Exit>
+    requires { CanRun (task_of task.now) }
+    ensures told { steps.OverFiles (task_of task.now) (F.told files.old) (λ told. UnlessFree is_free result
+        (steps.TaskWork (task_of task.now) told)) }
+    ensures counts { Counts (IsErrOf result Exit.Failed) (F.faults files.old) (F.faults files.new) }
+    ensures same { F.told files.new ≡ F.told files.old }
+    ensures unread { steps.reads_files (task_of task.now) ≡ false → files.new ≡ files.old }
+{
+    match task {
+        Task::ToGtfsrt { over, at, more } => to_gtfsrt(alloc, files, over, *at, more),
+        Task::ToSiri { over, at, feed } => to_siri(alloc, files, over, *at, feed.as_str()),
+        Task::ToSiriSx { over, at, feed } => to_siri_sx(alloc, files, over, *at, feed.as_str()),
+        Task::Show { over, feed } => show(alloc, files, over, feed.as_str()),
+        Task::Make { seed, trips, stops } => made_line(alloc, *seed, *trips, *stops),
+    }
+}

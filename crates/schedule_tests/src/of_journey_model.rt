@@ -1,0 +1,119 @@
+use gw_base::Member;
+use journey_model::{
+    DatedTrip, Fault, MatchFault, NamedStop, fault_text, match_call, match_update,
+};
+use service_day::{DayForm, read_day};
+use std::process::Abort;
+use std::test::Fail;
+use stop_schedule::{StopNo, StopRow, TripNo};
+
+// Faults with their texts.
+static TEXTS: [(Fault, &str); 6] = [
+    (Fault::BadField(Member::Order), "BadField Order"),
+    (Fault::UnknownStop(4), "UnknownStop 4"),
+    (Fault::DelayRange(0, 604_801), "DelayRange 0 604801"),
+    (Fault::OtherRelation(-1), "OtherRelation -1"),
+    (Fault::Full, "Full"),
+    (
+        Fault::DelayRange(u64::MAX, i128::MIN),
+        "DelayRange 18446744073709551615 -170141183460469231731687303715884105728",
+    ),
+];
+
+#[test]
+fn faults_have_their_texts(rt: HostRuntime) -> Result<(), Fail> {
+    for (fault, text) in TEXTS.iter() {
+        assert_eq!(rt; fault_text(fault).as_str(), *text);
+    }
+    Ok(())
+}
+
+// A trip that stops twice at its first stop.
+static LOOP: [StopRow; 3] = [
+    StopRow {
+        sequence: 1,
+        stop: StopNo(0),
+        arrival: 32_400,
+        departure: 32_400,
+    },
+    StopRow {
+        sequence: 2,
+        stop: StopNo(1),
+        arrival: 33_000,
+        departure: 33_000,
+    },
+    StopRow {
+        sequence: 3,
+        stop: StopNo(0),
+        arrival: 33_600,
+        departure: 33_600,
+    },
+];
+
+// That trip on 2024-05-01.
+fn loop_trip(rt: &impl Abort) -> DatedTrip<'static> {
+    DatedTrip {
+        trip: TripNo(1),
+        day: read_day("2024-05-01", DayForm::Dashed).expect(rt, "a day"),
+        start: 1_714_514_400,
+        stops: &LOOP,
+    }
+}
+
+// Calls: the place of the one before, the stop, its order, and the place.
+static CALLS: [(Option<u32>, u32, Option<u64>, Option<u32>); 6] = [
+    (None, 0, None, Some(0)),
+    (None, 0, Some(3), Some(2)),
+    (None, 0, Some(2), Some(0)),
+    (Some(0), 0, Some(1), Some(2)),
+    (Some(2), 0, None, None),
+    (None, 7, Some(u64::MAX), None),
+];
+
+#[test]
+fn calls_have_their_places(rt: HostRuntime) {
+    let dated = loop_trip(&rt);
+    for (after, stop, order, place) in CALLS.iter() {
+        assert_eq!(rt; match_call(&dated, *after, StopNo(*stop), *order), *place);
+    }
+}
+
+// Updates: the place of the one before, the sequence, the stop that is named, and the place or why it has none.
+static UPDATES: [(Option<u32>, Option<u32>, NamedStop, Result<u32, MatchFault>); 8] = [
+    (None, Some(2), NamedStop::Missing, Ok(1)),
+    (None, Some(2), NamedStop::Known(StopNo(1)), Ok(1)),
+    (
+        None,
+        Some(2),
+        NamedStop::Unknown,
+        Err(MatchFault::StopMismatch),
+    ),
+    (
+        None,
+        Some(9),
+        NamedStop::Missing,
+        Err(MatchFault::UnknownStop),
+    ),
+    (
+        Some(1),
+        Some(2),
+        NamedStop::Missing,
+        Err(MatchFault::OutOfOrder),
+    ),
+    (Some(0), None, NamedStop::Known(StopNo(0)), Ok(2)),
+    (
+        Some(2),
+        None,
+        NamedStop::Known(StopNo(0)),
+        Err(MatchFault::OutOfOrder),
+    ),
+    (None, None, NamedStop::Missing, Err(MatchFault::UnknownStop)),
+];
+
+#[test]
+fn updates_have_their_places(rt: HostRuntime) {
+    let dated = loop_trip(&rt);
+    for (after, sequence, named, place) in UPDATES.iter() {
+        assert_eq!(rt; match_update(&dated, *after, *sequence, *named), *place);
+    }
+}
