@@ -9,7 +9,7 @@ use std::alloc::{AllocError, Global};
 use std::process::Abort;
 use std::test::Fail;
 use stop_schedule::{RouteNo, Timetable};
-use test_folder::timetable;
+use test_folder::read_folder;
 
 static FOLDER: [(&str, &[u8]); 6] = [
     ("g/agency.txt", b"agency_timezone\nEurope/Paris\n"),
@@ -29,7 +29,7 @@ static FOLDER: [(&str, &[u8]); 6] = [
 
 // The timetable of the folder.
 fn table(rt: &impl Abort, alloc: Global) -> Timetable {
-    timetable(rt, alloc, &FOLDER)
+    read_folder(alloc, &FOLDER).ok().expect(rt, "a timetable")
 }
 
 // The alert of the route R1 from 2024-05-01T00:00:00Z on: a technical problem with significant delays, `Late`.

@@ -7,7 +7,7 @@ use std::alloc::Global;
 use std::process::Abort;
 use std::test::Fail;
 use stop_schedule::Timetable;
-use test_folder::{paris, timetable, window};
+use test_folder::{paris, read_folder, window};
 
 #[test]
 fn of_two_equal_records_the_later_arrival_wins(rt: HostRuntime) {
@@ -36,7 +36,7 @@ static FOLDER: [(&str, &[u8]); 6] = [
 
 // The timetable of the folder.
 fn table(rt: &impl Abort, alloc: Global) -> Timetable {
-    timetable(rt, alloc, &FOLDER)
+    read_folder(alloc, &FOLDER).ok().expect(rt, "a timetable")
 }
 
 // The entity of T1, cancelled on 2024-05-01 and recorded at 06:00:00Z (made by hand from GTFS Realtime's message).
@@ -71,8 +71,8 @@ fn cancelled(alloc: Global, context: &Context<'_>, day: &str) -> Option<Bytes> {
 fn a_record_has_its_entity(rt: HostRuntime) -> Result<(), Fail> {
     let alloc = rt.alloc();
     let table = table(&rt, alloc);
-    let zone = paris(&rt);
-    let window = window(&rt, &zone, 2);
+    let zone = paris().expect(&rt, "a zone");
+    let window = window(&zone, 2).expect(&rt, "a window");
     let context = Context {
         table: &table,
         zone: &zone,

@@ -8,7 +8,7 @@ use reverse_calls::{siri_of, siri_of_readings};
 use std::alloc::{AllocError, Global};
 use std::process::Abort;
 use stop_schedule::Timetable;
-use test_folder::{paris, timetable, window};
+use test_folder::{paris, read_folder, window};
 
 static FOLDER: [(&str, &[u8]); 6] = [
     ("g/agency.txt", b"agency_timezone\nEurope/Paris\n"),
@@ -28,7 +28,7 @@ static FOLDER: [(&str, &[u8]); 6] = [
 
 // The timetable of the folder.
 fn table(rt: &impl Abort, alloc: Global) -> Timetable {
-    timetable(rt, alloc, &FOLDER)
+    read_folder(alloc, &FOLDER).ok().expect(rt, "a timetable")
 }
 
 // The delivery, made by hand from SIRI's members.
@@ -126,11 +126,11 @@ fn delivered_of_readings(alloc: Global, context: &Context<'_>) -> Option<Bytes> 
 #[test]
 fn a_late_trip_is_delivered(rt: HostRuntime) {
     let alloc = rt.alloc();
-    let zone = paris(&rt);
+    let zone = paris().expect(&rt, "a zone");
     let context = Context {
         table: &table(&rt, alloc),
         zone: &zone,
-        window: &window(&rt, &zone, 2),
+        window: &window(&zone, 2).expect(&rt, "a window"),
     };
     let (text, taken) = delivered(alloc, &context).expect(&rt, "a delivery");
     assert_eq!(rt; (text.as_slice(), taken), (DELIVERY, 1));

@@ -36,11 +36,11 @@ fn assert_each(rt: &impl Abort, alloc: Global, context: &Context<'_>, cases: &[(
 #[test]
 fn vectors_are_shown(rt: HostRuntime) {
     let alloc = rt.alloc();
-    let zone = paris(&rt);
+    let zone = paris().expect(&rt, "a zone");
     let context = Context {
         table: &table(&rt, alloc),
         zone: &zone,
-        window: &window(&rt, &zone, 2),
+        window: &window(&zone, 2).expect(&rt, "a window"),
     };
     assert_each(&rt, alloc, &context, &VECTORS);
 }

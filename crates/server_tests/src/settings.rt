@@ -6,7 +6,7 @@ use service_day::{DayForm, Window, Zone, read_day};
 use std::alloc::Global;
 use std::process::Abort;
 use stop_schedule::Timetable;
-use test_folder::{paris, timetable};
+use test_folder::{paris, read_folder};
 
 // The timetable over that many days from 2024-05-01 on.
 fn over(table: Timetable, zone: Zone, days: u8, keep: Option<u8>) -> Option<Setting>
@@ -39,6 +39,6 @@ pub(crate) fn setting(
     requires some_days { 1 ≤ days }
     requires few_days { days ≤ 31 }
 {
-    let table = timetable(rt, alloc, folder);
-    over(table, paris(rt), days, keep).expect(rt, "a setting")
+    let table = read_folder(alloc, folder).ok().expect(rt, "a timetable");
+    over(table, paris().expect(rt, "a zone"), days, keep).expect(rt, "a setting")
 }

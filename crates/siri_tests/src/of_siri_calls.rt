@@ -72,8 +72,8 @@ fn said(alloc: Global, body: &str, context: &Context<'_>) -> Result<String, Allo
 // The cases, each between two texts, say this.
 fn assert_said(rt: &impl Abort, alloc: Global, ends: (&str, &str), cases: &[(&str, &str)]) {
     let table = table(rt, alloc);
-    let zone = paris(rt);
-    let window = window(rt, &zone, 2);
+    let zone = paris().expect(rt, "a zone");
+    let window = window(&zone, 2).expect(rt, "a window");
     let context = Context {
         table: &table,
         zone: &zone,

@@ -11,7 +11,7 @@ use siri_situations::{Item, SituationDelivery, read_situations};
 use std::alloc::{AllocError, Global};
 use std::process::Abort;
 use stop_schedule::Timetable;
-use test_folder::{paris, timetable, window};
+use test_folder::{paris, read_folder, window};
 
 // The routes R1 and R2, the stops A, B and C, and the trips T1 and L1.
 static FOLDER: [(&str, &[u8]); 6] = [
@@ -36,7 +36,7 @@ static FOLDER: [(&str, &[u8]); 6] = [
 
 // The timetable of the folder.
 fn table(rt: &impl Abort, alloc: Global) -> Timetable {
-    timetable(rt, alloc, &FOLDER)
+    read_folder(alloc, &FOLDER).ok().expect(rt, "a timetable")
 }
 
 // Adds an end of a period.
@@ -136,8 +136,8 @@ fn said(alloc: Global, body: &str, context: &Context<'_>) -> Result<String, Allo
 // The cases, each between two texts, say this.
 fn assert_said(rt: &impl Abort, alloc: Global, ends: (&str, &str), cases: &[(&str, &str)]) {
     let table = table(rt, alloc);
-    let zone = paris(rt);
-    let window = window(rt, &zone, 2);
+    let zone = paris().expect(rt, "a zone");
+    let window = window(&zone, 2).expect(rt, "a window");
     let context = Context {
         table: &table,
         zone: &zone,

@@ -234,11 +234,11 @@ fn assert_each(
 #[test]
 fn feeds_are_read(rt: HostRuntime) -> Result<(), Fail> {
     let alloc = rt.alloc();
-    let zone = paris(&rt);
+    let zone = paris().expect(&rt, "a zone");
     let context = Context {
         table: &table(&rt, alloc),
         zone: &zone,
-        window: &window(&rt, &zone, 3),
+        window: &window(&zone, 3).expect(&rt, "a window"),
     };
     assert_each(&rt, alloc, &context, &CASES)
 }

@@ -239,11 +239,11 @@ fn assert_each(
 #[test]
 fn delays_are_propagated(rt: HostRuntime) -> Result<(), Fail> {
     let alloc = rt.alloc();
-    let zone = paris(&rt);
+    let zone = paris().expect(&rt, "a zone");
     let context = Context {
         table: &table(&rt, alloc),
         zone: &zone,
-        window: &window(&rt, &zone, 3),
+        window: &window(&zone, 3).expect(&rt, "a window"),
     };
     assert_each(&rt, alloc, &context, &CASES)
 }

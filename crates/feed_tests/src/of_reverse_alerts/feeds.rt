@@ -434,11 +434,11 @@ fn assert_all(
 #[test]
 fn alerts_become_situations(rt: HostRuntime) {
     let alloc = rt.alloc();
-    let zone = paris(&rt);
+    let zone = paris().expect(&rt, "a zone");
     let context = Context {
         table: &table(&rt, alloc),
         zone: &zone,
-        window: &window(&rt, &zone, 1),
+        window: &window(&zone, 1).expect(&rt, "a window"),
     };
     assert_all(&rt, alloc, &context, &CASES);
 }
@@ -455,11 +455,11 @@ fn is_refused(alloc: Global, context: &Context<'_>, incrementality: i32) -> Opti
 #[test]
 fn a_differential_feed_is_refused(rt: HostRuntime) {
     let alloc = rt.alloc();
-    let zone = paris(&rt);
+    let zone = paris().expect(&rt, "a zone");
     let context = Context {
         table: &table(&rt, alloc),
         zone: &zone,
-        window: &window(&rt, &zone, 1),
+        window: &window(&zone, 1).expect(&rt, "a window"),
     };
     assert_eq!(rt; is_refused(alloc, &context, 1), Some(true));
     assert_eq!(rt; is_refused(alloc, &context, 2), Some(false));
@@ -518,11 +518,11 @@ fn length(alloc: Global, context: &Context<'_>) -> Option<usize> {
 #[test]
 fn a_long_text_is_told_whole(rt: HostRuntime) {
     let alloc = rt.alloc();
-    let zone = paris(&rt);
+    let zone = paris().expect(&rt, "a zone");
     let context = Context {
         table: &table(&rt, alloc),
         zone: &zone,
-        window: &window(&rt, &zone, 1),
+        window: &window(&zone, 1).expect(&rt, "a window"),
     };
     assert_eq!(rt; length(alloc, &context), Some(65_358));
 }

@@ -2,7 +2,7 @@
 use std::alloc::Global;
 use std::process::Abort;
 use stop_schedule::Timetable;
-use test_folder::timetable;
+use test_folder::read_folder;
 
 static FOLDER: [(&str, &[u8]); 7] = [
     ("g/agency.txt", b"agency_timezone\nEurope/Paris\n"),
@@ -42,5 +42,5 @@ static FOLDER: [(&str, &[u8]); 7] = [
 
 /// The timetable of the folder.
 pub(crate) fn table(rt: &impl Abort, alloc: Global) -> Timetable {
-    timetable(rt, alloc, &FOLDER)
+    read_folder(alloc, &FOLDER).ok().expect(rt, "a timetable")
 }

@@ -3,7 +3,7 @@ use journey_model::StopReading;
 use std::alloc::{AllocError, Global};
 use std::process::Abort;
 use stop_schedule::Timetable;
-use test_folder::timetable;
+use test_folder::read_folder;
 
 // The trips T1 over A, B and C, L1 over A, B and A, and N1, which runs on the second of May alone.
 static FOLDER: [(&str, &[u8]); 7] = [
@@ -32,7 +32,7 @@ static FOLDER: [(&str, &[u8]); 7] = [
 
 /// The timetable of the folder.
 pub(crate) fn table(rt: &impl Abort, alloc: Global) -> Timetable {
-    timetable(rt, alloc, &FOLDER)
+    read_folder(alloc, &FOLDER).ok().expect(rt, "a timetable")
 }
 
 // The start of the first of May 2024 in the zone, to which the times of the cases are added.

@@ -13,7 +13,7 @@ use siri_calls::{Delivery, Item, read_delivery, write_delivery};
 use std::alloc::{AllocError, Global};
 use std::process::Abort;
 use stop_schedule::Timetable;
-use test_folder::{paris, timetable, window};
+use test_folder::{paris, read_folder, window};
 
 // T1 over A, B and C; and a trip whose ids, of its route and of a stop too, want escapes.
 static FOLDER: [(&str, &[u8]); 6] = [
@@ -41,7 +41,7 @@ static FOLDER: [(&str, &[u8]); 6] = [
 
 // The timetable of the folder.
 fn table(rt: &impl Abort, alloc: Global) -> Timetable {
-    timetable(rt, alloc, &FOLDER)
+    read_folder(alloc, &FOLDER).ok().expect(rt, "a timetable")
 }
 
 // What stands round the journeys of a delivery that is read.
@@ -241,8 +241,8 @@ fn assert_all_written(
 fn journeys_are_written_as_their_delivery(rt: HostRuntime) {
     let alloc = rt.alloc();
     let table = table(&rt, alloc);
-    let zone = paris(&rt);
-    let window = window(&rt, &zone, 2);
+    let zone = paris().expect(&rt, "a zone");
+    let window = window(&zone, 2).expect(&rt, "a window");
     let context = Context {
         table: &table,
         zone: &zone,
