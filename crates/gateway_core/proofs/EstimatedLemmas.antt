@@ -3,16 +3,18 @@ use Rattle.std.proofs.Common.{◌≡◌, ◌∙◌, ◌∷◌, [], ℕ, ℤ, Lis
 use Rattle.std.specs.Prelude.{filter}
 use Rattle.std.specs.List.{AllByRecursion}
 use Rattle.gw_base.specs.declared.member.Member.{Member}
-use Rattle.journey_model.specs.Records.{Recorded}
+use Rattle.journey_model.specs.Records.{Recorded, recorded}
 use Rattle.journey_model.specs.Schedules.{IsServable, Schedule}
 use Rattle.journey_model.specs.declared.fault.Fault.{Fault}
 use Rattle.journey_model.specs.declared.report.Report.{Report}
 use Rattle.serde_json.specs.Data.{Data}
-use Rattle.siri_calls.specs.Deliveries.{AreServable, Reads, ReadsBody, ReadsTree, without_count}
-use Rattle.siri_calls.specs.Verdicts.{tree_of, verdicts}
-use Rattle.siri_calls.specs.declared.delivery.Delivery.{Delivery}
-use Rattle.siri_calls.specs.declared.delivery.DeliveryFault.{DeliveryFault}
-use Rattle.siri_calls.specs.declared.delivery.DeliveryFault.TheVariants.{NotJson, NotDelivery, Memory}
+use Rattle.journey_model.specs.declared.readings.JourneyRecord.{JourneyRecord}
+use Rattle.siri_calls.specs.Deliveries.{AreServable, ReadsBody}
+use Rattle.siri_json.specs.Deliveries.{Reads, ReadsTree, tree_of, without_count}
+use Rattle.siri_calls.specs.Verdicts.{verdicts}
+use Rattle.siri_json.specs.declared.delivery.Delivery.{Delivery}
+use Rattle.siri_json.specs.declared.delivery.DeliveryFault.{DeliveryFault}
+use Rattle.siri_json.specs.declared.delivery.DeliveryFault.TheVariants.{NotJson, NotDelivery, Memory}
 use Rattle.service_day.specs.Windows.{DayStarts}
 use Rattle.service_day.specs.declared.moments.Instant.{Instant}
 use Rattle.stop_schedule.specs.Seen.{seen}
@@ -36,15 +38,15 @@ use Rattle.gateway_core.proofs.TakenLemmas.{taken_servable}
 
 module _ (schedule : Schedule) (body : List ℕ) where
   -- of a delivery that was read
-  pub journeys_made : (before : List Recorded) (delivery : Delivery) (report : Report) (entries : List JourneyEntry) → ReadsBody schedule body (Ok delivery)
+  pub journeys_made : (before : List Recorded) (delivery : Delivery JourneyRecord) (report : Report) (entries : List JourneyEntry) → ReadsBody schedule body (Ok delivery)
       → AreServable schedule delivery.items → GathersJourneys schedule before delivery entries report → MakesJourneys schedule before body report entries
   journeys_made before delivery report entries reads servable gathers = by (tree_of body) refl reads
     where
-      by : (tree : Option Data) → tree_of body ≡ tree → Reads schedule tree (Ok delivery) → MakesJourneys schedule before body report entries
+      by : (tree : Option Data) → tree_of body ≡ tree → Reads recorded (verdicts schedule) tree (Ok delivery) → MakesJourneys schedule before body report entries
       by None e h = absurd h
       by (Some root) e h = at (verdicts schedule root) refl h
         where
-          at : (answer : Result (List (Result (Recorded × ℕ) Fault)) Member) → verdicts schedule root ≡ answer → ReadsTree answer (Ok delivery)
+          at : (answer : Result (List (Result (Recorded × ℕ) Fault)) Member) → verdicts schedule root ≡ answer → ReadsTree recorded answer (Ok delivery)
               → MakesJourneys schedule before body report entries
           at (Ok all) f has = record {
             root = root;
@@ -69,13 +71,13 @@ module _ (schedule : Schedule) (body : List ℕ) where
   pub journeys_refused : (fault : DeliveryFault) → ReadsBody schedule body (Err fault) → RefusesJourneys schedule body fault
   journeys_refused fault reads = by (tree_of body) refl fault reads
     where
-      by : (tree : Option Data) → tree_of body ≡ tree → (fault : DeliveryFault) → Reads schedule tree (Err fault) → RefusesJourneys schedule body fault
+      by : (tree : Option Data) → tree_of body ≡ tree → (fault : DeliveryFault) → Reads recorded (verdicts schedule) tree (Err fault) → RefusesJourneys schedule body fault
       by None e NotJson h = e
       by None e (NotDelivery member) h = absurd h
       by None e Memory h = tt
       by (Some root) e fault h = at (verdicts schedule root) refl fault h
         where
-          at : (answer : Result (List (Result (Recorded × ℕ) Fault)) Member) → verdicts schedule root ≡ answer → (fault : DeliveryFault) → ReadsTree answer (Err fault)
+          at : (answer : Result (List (Result (Recorded × ℕ) Fault)) Member) → verdicts schedule root ≡ answer → (fault : DeliveryFault) → ReadsTree recorded answer (Err fault)
               → RefusesJourneys schedule body fault
           at (Ok all) f NotJson has = absurd cc
           at (Ok all) f (NotDelivery member) has = absurd cc

@@ -14,10 +14,11 @@ use Rattle.journey_model.specs.declared.readings.JourneyRecord.{JourneyRecord}
 use Rattle.journey_model.specs.declared.report.Report.{Report}
 use Rattle.service_day.specs.Windows.{DayStarts}
 use Rattle.service_day.specs.declared.moments.Instant.{Instant}
-use Rattle.siri_calls.specs.Deliveries.{AreServable, CanServe, shown}
-use Rattle.siri_calls.specs.declared.delivery.Delivery.{Delivery}
-use Rattle.siri_calls.specs.declared.delivery.Item.{Item}
-use Rattle.siri_calls.specs.declared.delivery.Item.TheVariants.{Taken, Aside}
+use Rattle.siri_calls.specs.Deliveries.{AreServable, CanServe}
+use Rattle.siri_json.specs.Deliveries.{shown}
+use Rattle.siri_json.specs.declared.delivery.Delivery.{Delivery}
+use Rattle.siri_json.specs.declared.delivery.Item.{Item}
+use Rattle.siri_json.specs.declared.delivery.Item.TheVariants.{Taken, Aside}
 use Rattle.feed_index.specs.Entries.{put, value_at}
 use Rattle.feed_index.specs.declared.entry.Entry.{Entry}
 use Rattle.feed_messages.specs.Tables.{MeansFeed}
@@ -115,43 +116,43 @@ room-length window before (Ok one ∷ others) =
 -- ---- one item more
 
 module _ (schedule : Schedule) (before : List Recorded) where
-  abbrev with_room_of : List Item → List (Result Recorded Fault)
-  with_room_of items = journeys_with_room schedule.window before (map shown items)
+  abbrev with_room_of : List (Item JourneyRecord) → List (Result Recorded Fault)
+  with_room_of items = journeys_with_room schedule.window before (map (shown recorded) items)
 
-  faults-length : (items : List Item) → length (map result_err (with_room_of items)) ≡ length items
+  faults-length : (items : List (Item JourneyRecord)) → length (map result_err (with_room_of items)) ≡ length items
   faults-length items =
-      length-map (with_room_of items) result_err ∙ room-length schedule.window before (map shown items) ∙ length-map items shown
+      length-map (with_room_of items) result_err ∙ room-length schedule.window before (map (shown recorded) items) ∙ length-map items (shown recorded)
 
   -- the fault of an item more
-  record Steps (items : List Item) (one : Item) (entries : List JourneyEntry) : Type 0 where
+  record Steps (items : List (Item JourneyRecord)) (one : Item JourneyRecord) (entries : List JourneyEntry) : Type 0 where
     last : Result Recorded Fault
     fault_is : result_err last ≡ item_fault entries one
     with_one : with_room_of (items ++ one ∷ []) ≡ with_room_of items ++ last ∷ []
-    after : JourneysAfter schedule before (map shown (items ++ one ∷ [])) (item_step schedule entries one)
+    after : JourneysAfter schedule before (map (shown recorded) (items ++ one ∷ [])) (item_step schedule entries one)
 
-  all_in : (items : List Item) → AreServable schedule items → AllByRecursion (λ a. is_within schedule.window a ≡ true) (taken (map shown items))
-  all_in items h = all_within schedule (taken (map shown items)) (taken_servable schedule items h)
+  all_in : (items : List (Item JourneyRecord)) → AreServable schedule items → AllByRecursion (λ a. is_within schedule.window a ≡ true) (taken (map (shown recorded) items))
+  all_in items h = all_within schedule (taken (map (shown recorded) items)) (taken_servable schedule items h)
 
   one_in : (rec : _) → CanServe schedule (Taken rec) → is_within schedule.window (recorded rec) ≡ true
   one_in rec h = (all_in (Taken rec ∷ []) (h, tt)).0
 
-  steps : (items : List Item) (one : Item) (entries : List JourneyEntry) → AreServable schedule items → CanServe schedule one → IsItemPut schedule entries one
-      → JourneysAfter schedule before (map shown items) entries → Steps items one entries
+  steps : (items : List (Item JourneyRecord)) (one : Item JourneyRecord) (entries : List JourneyEntry) → AreServable schedule items → CanServe schedule one → IsItemPut schedule entries one
+      → JourneysAfter schedule before (map (shown recorded) items) entries → Steps items one entries
   steps items (Aside fault) entries h its put keeps = record {
     last = Err fault;
     fault_is = refl;
     with_one =
-        ap (journeys_with_room schedule.window before) (map-append shown items (Aside fault ∷ []))
-        ∙ roomy-append is_same_journey (is_within schedule.window) 50000 before (map shown items) (Err fault ∷ []);
+        ap (journeys_with_room schedule.window before) (map-append (shown recorded) items (Aside fault ∷ []))
+        ∙ roomy-append is_same_journey (is_within schedule.window) 50000 before (map (shown recorded) items) (Err fault ∷ []);
     after =
-        subst (λ (so_far : List (Result Recorded Fault)). JourneysAfter schedule before so_far entries) (sym (map-append shown items (Aside fault ∷ [])))
-        (journey_aside schedule before (map shown items) entries keeps fault);
+        subst (λ (so_far : List (Result Recorded Fault)). JourneysAfter schedule before so_far entries) (sym (map-append (shown recorded) items (Aside fault ∷ [])))
+        (journey_aside schedule before (map (shown recorded) items) entries keeps fault);
   }
   steps items (Taken rec) entries h its put keeps =
       by (journey_fits entries (recorded rec)) (journey_counts (journey_kept entries (recorded rec)) (recorded rec)) refl refl put
     where
-      more : map shown (items ++ Taken rec ∷ []) ≡ map shown items ++ Ok (recorded rec) ∷ []
-      more = map-append shown items (Taken rec ∷ [])
+      more : map (shown recorded) (items ++ Taken rec ∷ []) ≡ map (shown recorded) items ++ Ok (recorded rec) ∷ []
+      more = map-append (shown recorded) items (Taken rec ∷ [])
 
       by : (fits counts : Bool) → journey_fits entries (recorded rec) ≡ fits → journey_counts (journey_kept entries (recorded rec)) (recorded rec) ≡ counts
           → IsPut schedule (recorded rec) (cond fits (Some counts) None) → Steps items (Taken rec) entries
@@ -160,30 +161,30 @@ module _ (schedule : Schedule) (before : List Recorded) where
         fault_is = rw e refl;
         with_one =
             ap (journeys_with_room schedule.window before) more
-            ∙ journey_verdict_taken schedule before (map shown items) entries keeps (recorded rec) (one_in rec its) (all_in items h) e;
+            ∙ journey_verdict_taken schedule before (map (shown recorded) items) entries keeps (recorded rec) (one_in rec its) (all_in items h) e;
         after = rw (e, f)
             (subst (λ (so_far : List (Result Recorded Fault)). JourneysAfter schedule before so_far (with_journey entries (journey_entry schedule (recorded rec)))) (sym more)
-            (journey_won schedule before (map shown items) entries keeps (recorded rec) (one_in rec its) (all_in items h) served e f));
+            (journey_won schedule before (map (shown recorded) items) entries keeps (recorded rec) (one_in rec its) (all_in items h) served e f));
       }
       by true false e f lost = record {
         last = Ok (recorded rec);
         fault_is = rw e refl;
         with_one =
             ap (journeys_with_room schedule.window before) more
-            ∙ journey_verdict_taken schedule before (map shown items) entries keeps (recorded rec) (one_in rec its) (all_in items h) e;
+            ∙ journey_verdict_taken schedule before (map (shown recorded) items) entries keeps (recorded rec) (one_in rec its) (all_in items h) e;
         after = rw (e, f)
             (subst (λ (so_far : List (Result Recorded Fault)). JourneysAfter schedule before so_far entries) (sym more)
-            (journey_lost schedule before (map shown items) entries keeps (recorded rec) (one_in rec its) (all_in items h) e f));
+            (journey_lost schedule before (map (shown recorded) items) entries keeps (recorded rec) (one_in rec its) (all_in items h) e f));
       }
       by false counts e f full = record {
         last = Err Full;
         fault_is = rw e refl;
         with_one =
             ap (journeys_with_room schedule.window before) more
-            ∙ journey_verdict_full schedule before (map shown items) entries keeps (recorded rec) (one_in rec its) (all_in items h) e;
+            ∙ journey_verdict_full schedule before (map (shown recorded) items) entries keeps (recorded rec) (one_in rec its) (all_in items h) e;
         after = rw e
             (subst (λ (so_far : List (Result Recorded Fault)). JourneysAfter schedule before so_far entries) (sym more)
-            (journey_full schedule before (map shown items) entries keeps (recorded rec) (one_in rec its) (all_in items h) e));
+            (journey_full schedule before (map (shown recorded) items) entries keeps (recorded rec) (one_in rec its) (all_in items h) e));
       }
 
   -- nothing yet
@@ -194,12 +195,12 @@ module _ (schedule : Schedule) (before : List Recorded) where
   }
 
   -- one item more
-  pub gathers_more : (items : List Item) (one : Item) (entries now : List JourneyEntry) (aside later : List (ℕ × Fault))
+  pub gathers_more : (items : List (Item JourneyRecord)) (one : Item JourneyRecord) (entries now : List JourneyEntry) (aside later : List (ℕ × Fault))
       → AreServable schedule items → CanServe schedule one → IsItemPut schedule entries one → now ≡ item_step schedule entries one → later ≡ aside ++ numbered (length items) (item_fault entries one)
       → GathersItems schedule before items entries aside → GathersItems schedule before (items ++ one ∷ []) now later
   gathers_more items one entries now aside later h its put now_is later_is so_far =
       let step = steps items one entries h its put so_far.entries_are in record {
-        entries_are = subst (λ (es : List JourneyEntry). JourneysAfter schedule before (map shown (items ++ one ∷ [])) es) (sym now_is) step.after;
+        entries_are = subst (λ (es : List JourneyEntry). JourneysAfter schedule before (map (shown recorded) (items ++ one ∷ [])) es) (sym now_is) step.after;
         aside_are =
             later_is
             ∙ ap (λ (front : List (ℕ × Fault)). front ++ numbered (length items) (item_fault entries one)) so_far.aside_are
@@ -211,7 +212,7 @@ module _ (schedule : Schedule) (before : List Recorded) where
       }
 
   -- all of them
-  pub gathers_all : (delivery : Delivery) (entries : List JourneyEntry) (report : Report) → GathersItems schedule before delivery.items entries report.aside
+  pub gathers_all : (delivery : Delivery JourneyRecord) (entries : List JourneyEntry) (report : Report) → GathersItems schedule before delivery.items entries report.aside
       → report.taken + length report.aside ≡ length delivery.items → report.passed ≡ delivery.passed → GathersJourneys schedule before delivery entries report
   gathers_all delivery entries report so_far counted passed = record {
     entries_are = so_far.entries_are;

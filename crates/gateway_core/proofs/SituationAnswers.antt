@@ -11,14 +11,14 @@ use Rattle.journey_model.specs.declared.report.Report.{Report}
 use Rattle.journey_model.specs.declared.situation.Situation.{Situation}
 use Rattle.serde_json.specs.Data.{Data}
 use Rattle.service_day.specs.Windows.{DayStarts}
-use Rattle.siri_calls.specs.Verdicts.{tree_of}
-use Rattle.siri_calls.specs.declared.delivery.DeliveryFault.{DeliveryFault}
-use Rattle.siri_calls.specs.declared.delivery.DeliveryFault.TheVariants.{NotJson, NotDelivery, Memory}
-use Rattle.siri_situations.specs.Deliveries.{Reads, ReadsSituations, ReadsTree, ReferToKnown, shown}
+use Rattle.siri_json.specs.Deliveries.{Reads, ReadsTree, shown, tree_of}
+use Rattle.siri_json.specs.declared.delivery.DeliveryFault.{DeliveryFault}
+use Rattle.siri_json.specs.declared.delivery.DeliveryFault.TheVariants.{NotJson, NotDelivery, Memory}
+use Rattle.siri_situations.specs.Deliveries.{ReadsSituations, ReferToKnown, same}
 use Rattle.siri_situations.specs.Situations as judged
-use Rattle.siri_situations.specs.declared.delivery.Item.{Item}
-use Rattle.siri_situations.specs.declared.delivery.Item.TheVariants.{Taken, Aside}
-use Rattle.siri_situations.specs.declared.delivery.SituationDelivery.{SituationDelivery}
+use Rattle.siri_json.specs.declared.delivery.Item.{Item}
+use Rattle.siri_json.specs.declared.delivery.Item.TheVariants.{Taken, Aside}
+use Rattle.siri_json.specs.declared.delivery.Delivery.{Delivery}
 use Rattle.stop_schedule.specs.Seen.{seen}
 use Rattle.stop_schedule.specs.Table.{Table}
 use Rattle.gateway_core.specs.Alerts.{alert_len}
@@ -33,7 +33,7 @@ use Rattle.gateway_core.proofs.StandingLemmas.{stands_situations}
 -- ---- what is read of a body
 
 -- what is taken refers to what is there
-known_taken : (table : Table) (items : List Item) → ReferToKnown table items → AllByRecursion (λ (one : Situation). AreKnown table one.refs) (taken (map (item_verdict table) items))
+known_taken : (table : Table) (items : List (Item Situation)) → ReferToKnown table items → AllByRecursion (λ (one : Situation). AreKnown table one.refs) (taken (map (item_verdict table) items))
 known_taken table [] h = tt
 known_taken table (Taken one ∷ items) h = by (nat_le (alert_len table one) 65536) (known_taken table items h.1)
   where
@@ -43,21 +43,21 @@ known_taken table (Taken one ∷ items) h = by (nat_le (alert_len table one) 655
     by false rest = rest
 known_taken table (Aside fault ∷ items) h = known_taken table items h.1
 
-by_shown : (table : Table) (items : List Item) → map (item_verdict table) items ≡ map (limited_verdict table) (map shown items)
+by_shown : (table : Table) (items : List (Item Situation)) → map (item_verdict table) items ≡ map (limited_verdict table) (map (shown same) items)
 by_shown table [] = refl
 by_shown table (item ∷ items) = ap (λ (rest : List (Result Situation Fault)). item_verdict table item ∷ rest) (by_shown table items)
 
-pub takes_body : (schedule : Schedule) (before : List Situation) (body : List ℕ) (delivery : SituationDelivery) (entries : List SituationEntry) (report : Report)
+pub takes_body : (schedule : Schedule) (before : List Situation) (body : List ℕ) (delivery : Delivery Situation) (entries : List SituationEntry) (report : Report)
     → ReadsSituations schedule body (Ok delivery) → ReferToKnown schedule.table delivery.items
     → GathersSituations schedule.table before (map (item_verdict schedule.table) delivery.items) delivery.passed entries report
     → TakesBody schedule before body entries report
 takes_body schedule before body delivery entries report reads known gathers = by (tree_of body) refl reads
   where
-    by : (tree : Option Data) → tree_of body ≡ tree → Reads schedule tree (Ok delivery) → TakesBody schedule before body entries report
+    by : (tree : Option Data) → tree_of body ≡ tree → Reads same (judged.verdicts schedule) tree (Ok delivery) → TakesBody schedule before body entries report
     by None e h = absurd h
     by (Some root) e h = of (judged.verdicts schedule root) refl h
       where
-        of : (answer : Result (List (Result (Situation × ℕ) Fault)) Member) → judged.verdicts schedule root ≡ answer → ReadsTree answer (Ok delivery) → TakesBody schedule before body entries report
+        of : (answer : Result (List (Result (Situation × ℕ) Fault)) Member) → judged.verdicts schedule root ≡ answer → ReadsTree same answer (Ok delivery) → TakesBody schedule before body entries report
         of (Err member) f has = absurd has
         of (Ok all) f has =
             let same : map (item_verdict schedule.table) delivery.items ≡ limited_verdicts schedule.table all =

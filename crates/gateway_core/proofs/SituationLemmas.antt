@@ -17,7 +17,7 @@ use Rattle.journey_model.specs.declared.fault.Fault.{Fault}
 use Rattle.journey_model.specs.declared.fault.Fault.TheVariants.{EntityTooLong, Full}
 use Rattle.journey_model.specs.declared.report.Report.{Report}
 use Rattle.journey_model.specs.declared.situation.Situation.{Situation}
-use Rattle.siri_situations.specs.declared.delivery.Item.{Item}
+use Rattle.siri_json.specs.declared.delivery.Item.{Item}
 use Rattle.stop_schedule.specs.Table.{Table}
 use Rattle.gateway_core.specs.Alerts.{alert_len}
 use Rattle.gateway_core.specs.Arrivals.{always, has_room, is_same_number}
@@ -121,7 +121,7 @@ gathers_none table before entries h = record {
     each (one ∷ others) = (refl, each others)
 
 -- the item at a place
-pub gathers_next : (table : Table) (before : List Situation) (items : List Item) (i : ℕ) (item : Item) (entries : List SituationEntry) (aside : List (ℕ × Fault))
+pub gathers_next : (table : Table) (before : List Situation) (items : List (Item Situation)) (i : ℕ) (item : Item Situation) (entries : List SituationEntry) (aside : List (ℕ × Fault))
     → i < length items → item ≡ get_or items i item → IsVerdictServed table (item_verdict table item) → GathersVerdicts table before (map (item_verdict table) (take i items)) entries aside
     → GathersVerdicts table before (map (item_verdict table) (take (i + 1) items)) (verdict_step table entries (item_verdict table item))
     (aside ++ aside_from i (verdict_fault entries (item_verdict table item) ∷ []))
@@ -136,14 +136,14 @@ gathers_next table before items i item entries aside within is served h =
   where
     more : map (item_verdict table) (take (i + 1) items) ≡ map (item_verdict table) (take i items) ++ item_verdict table item ∷ []
     more =
-        ap (map (item_verdict table)) (take_more items i item within ∙ ap (λ (last : Item). take i items ++ last ∷ []) (sym is))
+        ap (map (item_verdict table)) (take_more items i item within ∙ ap (λ (last : Item Situation). take i items ++ last ∷ []) (sym is))
         ∙ map-append (item_verdict table) (take i items) (item ∷ [])
 
     counted : length (map (item_verdict table) (take i items)) ≡ i
     counted = length-map (take i items) (item_verdict table) ∙ length-take-le i items (omega arith)
 
 -- it is set aside, or it isn't
-pub gathers_aside : (table : Table) (before : List Situation) (items : List Item) (i : ℕ) (item : Item) (fault : Fault) (entries left : List SituationEntry) (aside : List (ℕ × Fault))
+pub gathers_aside : (table : Table) (before : List Situation) (items : List (Item Situation)) (i : ℕ) (item : Item Situation) (fault : Fault) (entries left : List SituationEntry) (aside : List (ℕ × Fault))
     → i < length items → item ≡ get_or items i item → IsVerdictServed table (item_verdict table item) → Some fault ≡ verdict_fault entries (item_verdict table item) → left ≡ verdict_step table entries (item_verdict table item)
     → GathersVerdicts table before (map (item_verdict table) (take i items)) entries aside
     → GathersVerdicts table before (map (item_verdict table) (take (i + 1) items)) left (aside ++ (i, fault) ∷ [])
@@ -152,7 +152,7 @@ gathers_aside table before items i item fault entries left aside within is serve
     (subst (λ (last : Option Fault). GathersVerdicts table before (map (item_verdict table) (take (i + 1) items)) (verdict_step table entries (item_verdict table item)) (aside ++ aside_from i (last ∷ [])))
     (sym told) (gathers_next table before items i item entries aside within is served h))
 
-pub gathers_taken : (table : Table) (before : List Situation) (items : List Item) (i : ℕ) (item : Item) (entries left : List SituationEntry) (aside : List (ℕ × Fault))
+pub gathers_taken : (table : Table) (before : List Situation) (items : List (Item Situation)) (i : ℕ) (item : Item Situation) (entries left : List SituationEntry) (aside : List (ℕ × Fault))
     → i < length items → item ≡ get_or items i item → IsVerdictServed table (item_verdict table item) → None ≡ verdict_fault entries (item_verdict table item) → left ≡ verdict_step table entries (item_verdict table item)
     → GathersVerdicts table before (map (item_verdict table) (take i items)) entries aside
     → GathersVerdicts table before (map (item_verdict table) (take (i + 1) items)) left aside
@@ -236,7 +236,7 @@ one_longer xs ys x n e few = let same = ap length e ∙ length-append xs (x ∷ 
 -- ---- the report on a delivery
 
 -- those that aren't set aside are taken
-pub report_of : (table : Table) (before : List Situation) (items seen_items : List Item) (passed : ℕ) (entries : List SituationEntry) (aside : List (ℕ × Fault)) (report : Report)
+pub report_of : (table : Table) (before : List Situation) (items seen_items : List (Item Situation)) (passed : ℕ) (entries : List SituationEntry) (aside : List (ℕ × Fault)) (report : Report)
     → seen_items ≡ items → GathersVerdicts table before (map (item_verdict table) seen_items) entries aside
     → report.taken ≡ length items - length aside → report.passed ≡ passed → report.aside ≡ aside
     → GathersSituations table before (map (item_verdict table) items) passed entries report
@@ -246,7 +246,7 @@ report_of table before items seen_items passed entries aside report same h taken
 }
   where
     k : GathersVerdicts table before (map (item_verdict table) items) entries aside
-    k = subst (λ (these : List Item). GathersVerdicts table before (map (item_verdict table) these) entries aside) same h
+    k = subst (λ (these : List (Item Situation)). GathersVerdicts table before (map (item_verdict table) these) entries aside) same h
 
     counted : length (map result_err (situations_with_room before (map (item_verdict table) items))) ≡ length items
     counted =

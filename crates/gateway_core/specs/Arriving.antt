@@ -1,5 +1,5 @@
 -- What a feed stands for that is posted, while it arrives (GTFS Realtime, FeedMessage).
-use Rattle.std.specs.Prelude.{◌≡◌, ℕ, ℤ, List}
+use Rattle.std.specs.Prelude.{ℕ, ℤ, List}
 use Rattle.gw_base.specs.declared.messages.Entity.{Entity}
 use Rattle.feed_messages.specs.FeedPieces as pieces
 use Rattle.journey_model.specs.Schedules.{Schedule}

@@ -10,13 +10,13 @@ use Rattle.journey_model.specs.declared.readings.JourneyRecord.{JourneyRecord}
 use Rattle.journey_model.specs.declared.report.Report.{Report}
 use Rattle.service_day.specs.declared.moments.Instant.{Instant}
 use Rattle.serde_json.specs.Data.{Data}
-use Rattle.siri_calls.specs.Deliveries.{shown, without_count}
-use Rattle.siri_calls.specs.Verdicts.{passed_count, tree_of, verdicts}
-use Rattle.siri_calls.specs.declared.delivery.DeliveryFault.{DeliveryFault}
-use Rattle.siri_calls.specs.declared.delivery.DeliveryFault.TheVariants.{NotJson, NotDelivery, Memory}
-use Rattle.siri_calls.specs.declared.delivery.Delivery.{Delivery}
-use Rattle.siri_calls.specs.declared.delivery.Item.{Item}
-use Rattle.siri_calls.specs.declared.delivery.Item.TheVariants.{Taken, Aside}
+use Rattle.siri_json.specs.Deliveries.{passed_count, shown, tree_of, without_count}
+use Rattle.siri_calls.specs.Verdicts.{verdicts}
+use Rattle.siri_json.specs.declared.delivery.DeliveryFault.{DeliveryFault}
+use Rattle.siri_json.specs.declared.delivery.DeliveryFault.TheVariants.{NotJson, NotDelivery, Memory}
+use Rattle.siri_json.specs.declared.delivery.Delivery.{Delivery}
+use Rattle.siri_json.specs.declared.delivery.Item.{Item}
+use Rattle.siri_json.specs.declared.delivery.Item.TheVariants.{Taken, Aside}
 use Rattle.gateway_core.specs.Arrivals.{CanBeServed, journeys}
 use Rattle.gateway_core.specs.Deliveries.{taken}
 use Rattle.feed_index.specs.Drafts.{Drafted, after}
@@ -62,16 +62,16 @@ verdict_fault None = Some Full
 verdict_fault (Some counts) = None
 
 -- what is kept after an item, and why it is set aside, if it is
-abbrev pub item_step : Schedule → List JourneyEntry → Item → List JourneyEntry
+abbrev pub item_step : Schedule → List JourneyEntry → Item JourneyRecord → List JourneyEntry
 item_step schedule entries (Taken one) =
     after_verdict schedule entries (recorded one) (journey_verdict entries (recorded one))
 item_step schedule entries (Aside fault) = entries
 
-abbrev pub item_fault : List JourneyEntry → Item → Option Fault
+abbrev pub item_fault : List JourneyEntry → Item JourneyRecord → Option Fault
 item_fault entries (Taken one) = verdict_fault (journey_verdict entries (recorded one))
 item_fault entries (Aside fault) = Some fault
 
-abbrev pub IsItemPut : Schedule → List JourneyEntry → Item → Type 0
+abbrev pub IsItemPut : Schedule → List JourneyEntry → Item JourneyRecord → Type 0
 IsItemPut schedule entries (Taken one) = IsPut schedule (recorded one) (journey_verdict entries (recorded one))
 IsItemPut schedule entries (Aside fault) = ⊤
 
@@ -81,17 +81,17 @@ numbered number None = []
 numbered number (Some fault) = (number, fault) ∷ []
 
 -- after some items of a delivery: what is kept, and those that are set aside
-pub record GathersItems (schedule : Schedule) (before : List Recorded) (items : List Item)
+pub record GathersItems (schedule : Schedule) (before : List Recorded) (items : List (Item JourneyRecord))
     (entries : List JourneyEntry) (aside : List (ℕ × Fault)) : Type 0 where
-  pub entries_are : JourneysAfter schedule before (map shown items) entries
-  pub aside_are : aside ≡ aside_from 0 (map result_err (journeys_with_room schedule.window before (map shown items)))
+  pub entries_are : JourneysAfter schedule before (map (shown recorded) items) entries
+  pub aside_are : aside ≡ aside_from 0 (map result_err (journeys_with_room schedule.window before (map (shown recorded) items)))
 
 -- after all of them: what is kept, and the report
-pub record GathersJourneys (schedule : Schedule) (before : List Recorded) (delivery : Delivery)
+pub record GathersJourneys (schedule : Schedule) (before : List Recorded) (delivery : Delivery JourneyRecord)
     (entries : List JourneyEntry) (report : Report) : Type 0 where
-  pub entries_are : JourneysAfter schedule before (map shown delivery.items) entries
+  pub entries_are : JourneysAfter schedule before (map (shown recorded) delivery.items) entries
   pub report_is : report
-      ≡ report_on (journeys_with_room schedule.window before (map shown delivery.items)) delivery.passed
+      ≡ report_on (journeys_with_room schedule.window before (map (shown recorded) delivery.items)) delivery.passed
 
 -- what a body makes before anything changes: the report, and what will be kept
 pub record MakesJourneys (schedule : Schedule) (before : List Recorded) (body : List ℕ)

@@ -11,12 +11,12 @@ use Rattle.journey_model.specs.declared.fault.Fault.TheVariants.{Full}
 use Rattle.journey_model.specs.declared.report.Report.{Report}
 use Rattle.journey_model.specs.declared.situation.Situation.{Situation}
 use Rattle.serde_json.specs.Data.{Data}
-use Rattle.siri_calls.specs.Verdicts.{tree_of}
-use Rattle.siri_calls.specs.declared.delivery.DeliveryFault.{DeliveryFault}
-use Rattle.siri_calls.specs.declared.delivery.DeliveryFault.TheVariants.{NotJson, NotDelivery, Memory}
-use Rattle.siri_situations.specs.Deliveries.{passed_count, shown}
+use Rattle.siri_json.specs.Deliveries.{passed_count, shown, tree_of}
+use Rattle.siri_json.specs.declared.delivery.DeliveryFault.{DeliveryFault}
+use Rattle.siri_json.specs.declared.delivery.DeliveryFault.TheVariants.{NotJson, NotDelivery, Memory}
+use Rattle.siri_situations.specs.Deliveries.{same}
 use Rattle.siri_situations.specs.Situations as judged
-use Rattle.siri_situations.specs.declared.delivery.Item.{Item}
+use Rattle.siri_json.specs.declared.delivery.Item.{Item}
 use Rattle.stop_schedule.specs.Table.{Table}
 use Rattle.gateway_core.specs.Deliveries.{taken}
 use Rattle.feed_index.specs.Drafts.{Drafted, after}
@@ -58,8 +58,8 @@ verdict_fault entries (Ok one) = situation_fault (situation_verdict entries one)
 verdict_fault entries (Err fault) = Some fault
 
 -- the verdicts on items, of which one is set aside that has too long an alert
-abbrev pub item_verdict : Table → Item → Result Situation Fault
-item_verdict table item = limited_verdict table (shown item)
+abbrev pub item_verdict : Table → Item Situation → Result Situation Fault
+item_verdict table item = limited_verdict table (shown same item)
 
 -- a situation that is taken has an alert that means it, and isn't too long
 abbrev pub IsVerdictServed : Table → Result Situation Fault → Type 0

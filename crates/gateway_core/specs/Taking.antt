@@ -14,8 +14,7 @@ use Rattle.journey_model.specs.declared.report.Report.{Report}
 use Rattle.journey_model.specs.declared.situation.Situation.{Situation}
 use Rattle.serde_json.specs.Data.{Data}
 use Rattle.siri_calls.specs.Verdicts as journey_items
-use Rattle.siri_calls.specs.Verdicts.{tree_of}
-use Rattle.siri_situations.specs.Deliveries as situation_items
+use Rattle.siri_json.specs.Deliveries.{passed_count, tree_of, without_count}
 use Rattle.siri_situations.specs.Situations as situation_verdicts
 use Rattle.stop_schedule.specs.Seen.{seen}
 use Rattle.reverse_calls.specs.Siri.{HasTooMany, IsSiri}
@@ -23,8 +22,6 @@ use Rattle.gateway_core.specs.Alerts.{alert_len, alert_limit}
 use Rattle.stop_schedule.specs.Table.{Table}
 use Rattle.service_day.specs.Windows.{DayStarts}
 use Rattle.feed_messages.specs.declared.fault.FeedFault.{FeedFault}
-use Rattle.siri_calls.specs.Deliveries.{without_count}
-use Rattle.siri_calls.specs.Verdicts.{passed_count}
 use Rattle.reverse_calls.specs.Siri.{is_differential}
 use Rattle.gateway_core.specs.Arrivals.{Arrival, Given, admitted, admitted_situations, always, feed, has_room, is_same_journey, is_same_number, is_within, journeys, moments_of, most_journeys, most_numbers, schedule_at, situations, window_at}
 use Rattle.gateway_core.specs.Deliveries.{taken}
@@ -32,8 +29,8 @@ use Rattle.gateway_core.specs.declared.accepted.Accepted.{Accepted}
 use Rattle.gateway_core.specs.declared.accepted.FeedRefusal.{FeedRefusal}
 use Rattle.gateway_core.specs.declared.accepted.FeedRefusal.TheVariants.{Differential, TooManyCalls}
 use Rattle.gateway_core.specs.declared.setting.Setting.{Setting}
-use Rattle.siri_calls.specs.declared.delivery.DeliveryFault.{DeliveryFault}
-use Rattle.siri_calls.specs.declared.delivery.DeliveryFault.TheVariants.{NotJson, NotDelivery, Memory}
+use Rattle.siri_json.specs.declared.delivery.DeliveryFault.{DeliveryFault}
+use Rattle.siri_json.specs.declared.delivery.DeliveryFault.TheVariants.{NotJson, NotDelivery, Memory}
 use Rattle.gateway_core.specs.Reports.{aside_from}
 use Rattle.gateway_core.specs.Standing.{Kept, Stands}
 
@@ -90,7 +87,7 @@ limited_verdict table (Ok one) =
 limited_verdict table (Err fault) = Err fault
 
 abbrev pub limited_verdicts : Table → List (Result (Situation × ℕ) Fault) → List (Result Situation Fault)
-limited_verdicts table all = map (limited_verdict table) (map situation_items.without_count all)
+limited_verdicts table all = map (limited_verdict table) (map without_count all)
 
 -- ---- what is taken
 
@@ -115,7 +112,7 @@ pub record TakesSituations (setting : Setting) (arrivals : List Arrival) (moment
   pub judged : situation_verdicts.verdicts (schedule_at setting (moment ∷ moments_of arrivals)) root ≡ Ok all
   pub given_are : given ≡ taken (limited_verdicts (seen setting.table) all)
   pub report_is : report ≡ report_on (situations_with_room (admitted_situations arrivals)
-      (limited_verdicts (seen setting.table) all)) (situation_items.passed_count all)
+      (limited_verdicts (seen setting.table) all)) (passed_count all)
 
 -- the same of a feed, which is a full dataset without a fault
 pub record TakesFeed (setting : Setting) (arrivals : List Arrival) (moment : ℤ) (body : List ℕ) (report : Report)

@@ -5,10 +5,11 @@ use Rattle.std.specs.List.{AllByRecursion}
 use Rattle.std.specs.Ordering.{int_cmp, is_eq, nat_cmp, ordering_then}
 use Rattle.std.specs.declared.cmp.Ordering.{Ordering}
 use Rattle.std.specs.declared.cmp.Ordering.TheVariants.{Equal}
-use Rattle.journey_model.specs.Records.{Recorded}
+use Rattle.journey_model.specs.Records.{Recorded, recorded}
 use Rattle.journey_model.specs.Schedules.{IsServable, Schedule}
-use Rattle.siri_calls.specs.Deliveries.{shown}
-use Rattle.siri_calls.specs.declared.delivery.Item as journeys
+use Rattle.journey_model.specs.declared.readings.JourneyRecord.{JourneyRecord}
+use Rattle.siri_json.specs.Deliveries.{shown}
+use Rattle.siri_json.specs.declared.delivery.Item as journeys
 use Rattle.latest_store.specs.Latest.{is_of}
 use Rattle.gateway_core.specs.Deliveries.{taken}
 
@@ -31,8 +32,8 @@ pub record IsKeyed {A Q : Type 0} (cmp : Q → Q → Ordering) (key_of : A → Q
 -- ---- journeys
 
 -- the records of items that are taken
-abbrev pub taken_in : List journeys.Item → List Recorded
-taken_in items = taken (map shown items)
+abbrev pub taken_in : List (journeys.Item JourneyRecord) → List Recorded
+taken_in items = taken (map (shown recorded) items)
 
 -- by service day, then trip number
 abbrev pub Key : Type 0

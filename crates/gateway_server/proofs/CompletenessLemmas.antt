@@ -29,10 +29,8 @@ use Rattle.journey_model.specs.declared.report.Report.{Report}
 use Rattle.journey_model.specs.declared.situation.Situation.{Situation}
 use Rattle.reverse_calls.specs.Siri.{HasTooMany, is_differential}
 use Rattle.serde_json.specs.Data.{Data}
-use Rattle.siri_calls.specs.Deliveries.{without_count}
+use Rattle.siri_json.specs.Deliveries.{passed_count, tree_of, without_count}
 use Rattle.siri_calls.specs.Verdicts as journey_items
-use Rattle.siri_calls.specs.Verdicts.{tree_of}
-use Rattle.siri_situations.specs.Deliveries as situation_counts
 use Rattle.siri_situations.specs.Situations as situation_items
 use Rattle.stop_schedule.specs.Seen.{seen}
 use Rattle.gateway_core.specs.Arrivals.{Arrival, Given, admitted, admitted_situations, always, feed, firsts, is_same_journey, is_same_number, is_within, journeys, moments_of, most_journeys, most_numbers, schedule_at, situations, window_at}
@@ -143,7 +141,7 @@ module _ (setting : Setting) (arrivals : List Arrival) (moment : ℤ) where
       → TakesJourneys setting arrivals moment body report others → report ≡ none_aside (length records) passed
   journeys_report body records others passed report sound takes =
       takes.report_is
-      ∙ ap (λ (all : List (Result (Recorded × ℕ) Fault)). report_on (journeys_with_room (window_at setting (moment ∷ moments_of arrivals)) (admitted setting arrivals) (map without_count all)) (journey_items.passed_count all)) same
+      ∙ ap (λ (all : List (Result (Recorded × ℕ) Fault)). report_on (journeys_with_room (window_at setting (moment ∷ moments_of arrivals)) (admitted setting arrivals) (map without_count all)) (passed_count all)) same
       ∙ (λ i. report_on (journeys_with_room (window_at setting (moment ∷ moments_of arrivals)) (admitted setting arrivals) (sound.faultless i)) (sym sound.passed_is i))
       ∙ ap (λ (verdicts : List (Result Recorded Fault)). report_on verdicts passed)
       (all_fit is_same_journey own_journey alike_journeys (is_within (window_at setting (moment ∷ moments_of arrivals))) most_journeys (admitted setting arrivals) records sound.room)
@@ -158,7 +156,7 @@ module _ (setting : Setting) (arrivals : List Arrival) (moment : ℤ) where
       → TakesSituations setting arrivals moment body report others → report ≡ none_aside (length given) passed
   situations_report body given others passed report sound takes =
       takes.report_is
-      ∙ ap (λ (all : List (Result (Situation × ℕ) Fault)). report_on (situations_with_room (admitted_situations arrivals) (limited_verdicts (seen setting.table) all)) (situation_counts.passed_count all)) same
+      ∙ ap (λ (all : List (Result (Situation × ℕ) Fault)). report_on (situations_with_room (admitted_situations arrivals) (limited_verdicts (seen setting.table) all)) (passed_count all)) same
       ∙ (λ i. report_on (situations_with_room (admitted_situations arrivals) (sound.faultless i)) (sym sound.passed_is i))
       ∙ ap (λ (verdicts : List (Result Situation Fault)). report_on verdicts passed)
       (all_fit is_same_number own_number alike_numbers always most_numbers (admitted_situations arrivals) given room)

@@ -3,8 +3,8 @@ use Rattle.std.proofs.Common.{◌≡◌, ◌∷◌, ℕ, ℤ, List, Some, Result
 use Rattle.feed_messages.specs.declared.fault.FeedFault.TheVariants as feed_fault
 use Rattle.http_talk.specs.declared.target.Target.{Target}
 use Rattle.http_talk.specs.declared.target.Target.TheVariants.{EtPost, RtPost, SxPost}
-use Rattle.siri_calls.specs.declared.delivery.DeliveryFault.{DeliveryFault}
-use Rattle.siri_calls.specs.declared.delivery.DeliveryFault.TheVariants as delivery_fault
+use Rattle.siri_json.specs.declared.delivery.DeliveryFault.{DeliveryFault}
+use Rattle.siri_json.specs.declared.delivery.DeliveryFault.TheVariants as delivery_fault
 use Rattle.gateway_core.specs.Arrivals.{Arrival, feed, journeys, moments_of, situations, window_at}
 use Rattle.gateway_core.specs.Arriving as arriving
 use Rattle.gateway_core.specs.Arriving.{Arriving}

@@ -10,7 +10,7 @@ use Rattle.journey_model.specs.Schedules.{Schedule}
 use Rattle.journey_model.specs.declared.report.Report.{Report}
 use Rattle.serde_json.specs.Data.{Data}
 use Rattle.siri_calls.specs.Verdicts as journey_items
-use Rattle.siri_calls.specs.Verdicts.{tree_of}
+use Rattle.siri_json.specs.Deliveries.{tree_of}
 use Rattle.siri_situations.specs.Situations as situation_items
 use Rattle.reverse_calls.specs.Siri.{HasTooMany, is_differential}
 use Rattle.gateway_core.specs.Arrivals.{Arrival, Given, feed, journeys, situations}

@@ -13,10 +13,8 @@ use Rattle.journey_model.specs.declared.report.Report.{Report}
 use Rattle.journey_model.specs.declared.situation.Situation.{Situation}
 use Rattle.serde_json.specs.Data.{Data}
 use Rattle.service_day.specs.Windows.{DayStarts}
-use Rattle.siri_calls.specs.Deliveries.{without_count}
+use Rattle.siri_json.specs.Deliveries.{passed_count, tree_of, without_count}
 use Rattle.siri_calls.specs.Verdicts as journey_items
-use Rattle.siri_calls.specs.Verdicts.{tree_of}
-use Rattle.siri_situations.specs.Deliveries as situation_counts
 use Rattle.siri_situations.specs.Situations as situation_items
 use Rattle.stop_schedule.specs.Seen.{seen}
 use Rattle.reverse_calls.specs.Siri.{HasTooMany, is_differential}
@@ -50,7 +48,7 @@ pub record IsSoundDelivery (setting : Setting) (arrivals : List Arrival) (moment
   pub all : List (Result (Recorded × ℕ) Fault)
   pub judged : journey_items.verdicts (schedule_at setting (moment ∷ moments_of arrivals)) root ≡ Ok all
   pub faultless : map without_count all ≡ map Ok records
-  pub passed_is : passed ≡ journey_items.passed_count all
+  pub passed_is : passed ≡ passed_count all
   pub room : JourneysHaveRoom (window_at setting (moment ∷ moments_of arrivals)) (admitted setting arrivals) records
 
 -- the same of a delivery of situations, none of which has too long an alert. So many references aren't known
@@ -61,7 +59,7 @@ pub record IsSoundSituations (setting : Setting) (arrivals : List Arrival) (mome
   pub all : List (Result (Situation × ℕ) Fault)
   pub judged : situation_items.verdicts (schedule_at setting (moment ∷ moments_of arrivals)) root ≡ Ok all
   pub faultless : limited_verdicts (seen setting.table) all ≡ map Ok given
-  pub passed_is : passed ≡ situation_counts.passed_count all
+  pub passed_is : passed ≡ passed_count all
   pub room : NumbersHaveRoom (admitted_situations arrivals) given
 
 -- a body is a feed without a fault, a full dataset, and its journeys have no more calls than a delivery may have

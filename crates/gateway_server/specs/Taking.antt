@@ -6,8 +6,8 @@ use Rattle.feed_messages.specs.declared.fault.FeedFault.TheVariants as feed_faul
 use Rattle.http_talk.specs.declared.refusal.BodyFault.TheVariants as body_fault
 use Rattle.http_talk.specs.declared.target.Target.{Target}
 use Rattle.journey_model.specs.declared.report.Report.{Report}
-use Rattle.siri_calls.specs.declared.delivery.DeliveryFault.{DeliveryFault}
-use Rattle.siri_calls.specs.declared.delivery.DeliveryFault.TheVariants as delivery_fault
+use Rattle.siri_json.specs.declared.delivery.DeliveryFault.{DeliveryFault}
+use Rattle.siri_json.specs.declared.delivery.DeliveryFault.TheVariants as delivery_fault
 use Rattle.gateway_core.specs.Arrivals.{Arrival, Given, moments_of, schedule_at}
 use Rattle.gateway_core.specs.Standing.{Kept, Stands}
 use Rattle.gateway_core.specs.Taking.{report_json}

@@ -6,8 +6,8 @@ use Rattle.gw_base.specs.declared.wire_kind.WireKind.{WireKind}
 use Rattle.gw_base.specs.declared.wire_kind.WireKind.TheVariants.{Truncated, LongVarint, BadTag, BadGroup, DeepGroup}
 use Rattle.feed_messages.specs.declared.fault.FeedFault.{FeedFault}
 use Rattle.feed_messages.specs.declared.fault.FeedFault.TheVariants as feeds
-use Rattle.siri_calls.specs.declared.delivery.DeliveryFault.{DeliveryFault}
-use Rattle.siri_calls.specs.declared.delivery.DeliveryFault.TheVariants.{NotJson, NotDelivery, Memory}
+use Rattle.siri_json.specs.declared.delivery.DeliveryFault.{DeliveryFault}
+use Rattle.siri_json.specs.declared.delivery.DeliveryFault.TheVariants.{NotJson, NotDelivery, Memory}
 use Rattle.gateway_top.specs.declared.exit.Exit.{Exit}
 use Rattle.gateway_top.specs.declared.exit.Exit.TheVariants as exit
 

@@ -40,7 +40,7 @@ use Rattle.sample_run.specs.declared.fault.SampleFault.{SampleFault}
 use Rattle.journey_model.specs.Records.{Recorded}
 use Rattle.journey_model.specs.declared.situation.Situation.{Situation}
 use Rattle.siri_calls.specs.Deliveries.{ReadsBody}
-use Rattle.siri_calls.specs.declared.delivery.DeliveryFault.{DeliveryFault}
+use Rattle.siri_json.specs.declared.delivery.DeliveryFault.{DeliveryFault}
 use Rattle.siri_situations.specs.Deliveries.{ReadsSituations}
 use Rattle.gateway_top.specs.Bodies.{body_end, differential_end, feed_end, many_calls_end}
 use Rattle.gateway_top.specs.Done.{Done}

@@ -16,10 +16,10 @@ use Rattle.journey_model.specs.declared.fault.Fault.TheVariants.{BadField}
 use Rattle.journey_model.specs.declared.situation.ValidPeriod.{ValidPeriod}
 use Rattle.serde_json.specs.Data.{Data, null, boolean, number, string, array, object, no_items, item}
 use Rattle.serde_json.specs.Find.{get, get_member}
-use Rattle.siri_calls.specs.Fields.{form_at, optional, optional_member, required, required_member}
-use Rattle.siri_calls.specs.Forms.{day, filled, found_or_wrong, moment, plain_text, text, text_under_value, then_form}
-use Rattle.siri_calls.specs.declared.forms.Form.{Form}
-use Rattle.siri_calls.specs.declared.forms.Form.TheVariants.{Missing, Wrong, Found}
+use Rattle.siri_json.specs.Fields.{form_at, optional, optional_member, required, required_member}
+use Rattle.siri_json.specs.Forms.{day, filled, found_or_wrong, moment, plain_text, text, text_under_value, then_form}
+use Rattle.siri_json.specs.declared.forms.Form.{Form}
+use Rattle.siri_json.specs.declared.forms.Form.TheVariants.{Missing, Wrong, Found}
 use Rattle.siri_situations.specs.Periods.{kept, period, periods, periods_in, seconds, start_in_form}
 use Rattle.siri_situations.specs.Steps.{gather}
 use Rattle.reverse_alerts.proofs.DayRange.{IsDay-day_of, is_moment-moment_of}

@@ -11,8 +11,8 @@ use Rattle.journey_model.specs.declared.fault.Fault.{Fault}
 use Rattle.journey_model.specs.declared.fault.Fault.TheVariants.{BadField}
 use Rattle.journey_model.specs.declared.situation.Ref.{Ref}
 use Rattle.serde_json.specs.Data.{Data}
-use Rattle.siri_calls.specs.Fields.{optional_member, required_member}
-use Rattle.siri_calls.specs.Forms.{day, text}
+use Rattle.siri_json.specs.Fields.{optional_member, required_member}
+use Rattle.siri_json.specs.Forms.{day, text}
 use Rattle.siri_situations.specs.Affected.{day_in_form}
 use Rattle.siri_situations.specs.Steps.{gather}
 use Rattle.reverse_alerts.specs.Kept.{is_journey, is_route, is_stop}

@@ -11,8 +11,8 @@ use Rattle.journey_model.specs.declared.situation.Ref.{Ref}
 use Rattle.journey_model.specs.declared.situation.Ref.TheVariants.{Route, Stop, Journey}
 use Rattle.journey_model.specs.declared.situation.Situation.{Situation}
 use Rattle.serde_json.specs.Data.{Data}
-use Rattle.siri_calls.specs.Fields.{optional_member}
-use Rattle.siri_calls.specs.Forms.{is_object, text}
+use Rattle.siri_json.specs.Fields.{optional_member}
+use Rattle.siri_json.specs.Forms.{is_object, text}
 use Rattle.siri_situations.specs.Affected.{affected, journey_named, known, line_named, references, stop_named, unless_none}
 use Rattle.siri_situations.specs.Periods.{periods}
 use Rattle.siri_situations.specs.Senses as senses

@@ -1,6 +1,6 @@
 -- What selectors name, kind by kind: how many they are, and that the timetable has them.
-use Rattle.std.proofs.Common.{◌≡◌, ◌∙◌, ℕ, ◌+◌, ◌≤◌, ◌<◌, List, [], ◌∷◌, ◌++◌, length, map, Option, Some, None, refl, ap, sym, subst, append_assoc, arith}
-use Rattle.std.specs.List.{All, AllByRecursion, cons_option, filter, filter_map, position}
+use Rattle.std.proofs.Common.{◌≡◌, ◌∙◌, ℕ, ◌+◌, ◌≤◌, ◌<◌, List, [], ◌∷◌, ◌++◌, length, Option, Some, None, refl, ap, subst, append_assoc, arith}
+use Rattle.std.specs.List.{AllByRecursion, cons_option, filter, position}
 use Rattle.std.specs.Prelude.{◌==◌, Bool, true, false, cond, option_map, option_and_then, ℤ}
 use Rattle.std.specs.Str.{bytes_eq}
 use Rattle.std.proofs.lemmas.Bool.Decides.{nat_tests}
@@ -12,12 +12,12 @@ use Rattle.gw_base.specs.declared.messages.TripDescriptor.{TripDescriptor}
 use Rattle.service_day.specs.DayTexts.{day_of}
 use Rattle.service_day.specs.declared.days.DayForm.TheVariants.{Compact}
 use Rattle.stop_schedule.specs.Table.{Table}
-use Rattle.alert_map.specs.Known.{IsEachKnown, IsKnown}
+use Rattle.alert_map.specs.Known.{IsKnown}
 use Rattle.journey_model.specs.Updates.{filled_text}
 use Rattle.journey_model.specs.declared.situation.Ref.{Ref}
 use Rattle.journey_model.specs.declared.situation.Ref.TheVariants.{Route, Stop, Journey}
 use Rattle.reverse_alerts.specs.Kept.{all_named, is_journey, is_route, is_stop, journey_dated, journey_named, journey_on, named, one_named, route_named, stop_named}
-use Rattle.reverse_alerts.specs.Naming.{AreKnown, count_of, refs_of, with_named, with_ref}
+use Rattle.reverse_alerts.specs.Naming.{AreKnown, count_of, refs_of, with_named}
 use Rattle.reverse_alerts.specs.Progress.{none_named}
 use Rattle.reverse_alerts.specs.Taken.{affects_fault}
 use Rattle.reverse_alerts.specs.declared.selectors.NamedRefs.{NamedRefs}

@@ -1,5 +1,5 @@
 -- A delivery is written one entity after the other.
-use Rattle.std.proofs.Common.{◌≡◌, ◌∙◌, ◌&&◌, ℕ, ℤ, ◌+◌, ◌≤◌, ◌<◌, min, Bool, true, false, nat_lt, int_le, List, [], ◌∷◌, ◌++◌, length, map, drop, get_or, Option, Some, None, Result, Ok, Err, refl, ap, sym, subst, append_assoc, arith, if◌then◌else◌}
+use Rattle.std.proofs.Common.{◌≡◌, ◌∙◌, ◌&&◌, ℕ, ℤ, ◌+◌, ◌≤◌, ◌<◌, min, Bool, true, false, nat_lt, int_le, List, [], ◌∷◌, ◌++◌, length, drop, get_or, Option, Some, None, Ok, Err, refl, ap, sym, subst, append_assoc, arith, if◌then◌else◌}
 use Rattle.std.specs.List.{AllByRecursion, filter_map, sum_by}
 use Rattle.std.specs.Option.{option_or}
 use Rattle.std.specs.Prelude.{All, pos}
@@ -19,7 +19,6 @@ use Rattle.stop_schedule.specs.Table.{Table}
 use Rattle.journey_model.specs.declared.fault.Fault.{Fault}
 use Rattle.journey_model.specs.declared.fault.Fault.TheVariants.{BadField}
 use Rattle.journey_model.specs.declared.report.Report.{Report}
-use Rattle.journey_model.specs.declared.situation.Situation.{Situation}
 use Rattle.reverse_alerts.specs.Kept.{all_named}
 use Rattle.reverse_alerts.specs.Progress.{Verdict, added_text, fault_by, no_report, none_named, with_passed, with_verdict}
 use Rattle.reverse_alerts.specs.Senses.{sense}

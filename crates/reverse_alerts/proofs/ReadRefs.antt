@@ -17,8 +17,8 @@ use Rattle.serde_json.specs.Data.{Data, null, string}
 use Rattle.serde_json.specs.Find.{get}
 use Rattle.alert_map.specs.Alerts.{id_of}
 use Rattle.siri_calls.specs.DeliveryTree.{members, object_of}
-use Rattle.siri_calls.specs.Fields.{optional_member, required_member}
-use Rattle.siri_calls.specs.Forms.{day, text}
+use Rattle.siri_json.specs.Fields.{optional_member, required_member}
+use Rattle.siri_json.specs.Forms.{day, text}
 use Rattle.siri_calls.proofs.SaidAgainCalls.{filled-some}
 use Rattle.siri_situations.specs.Affected.{day_in_form}
 use Rattle.siri_situations.specs.Steps.{gather}

@@ -15,9 +15,9 @@ use Rattle.serde_json.specs.Data.{Data, string}
 use Rattle.serde_json.specs.Find.{get}
 use Rattle.service_day.specs.declared.zones.Rules.{Rules}
 use Rattle.siri_calls.specs.DeliveryTree.{array_of, members, object_of}
-use Rattle.siri_calls.specs.Fields.{form_at, optional, optional_member, required_member}
-use Rattle.siri_calls.specs.Forms.{is_object, text, whole}
-use Rattle.siri_calls.specs.Frame.{repeated_at}
+use Rattle.siri_json.specs.Fields.{form_at, optional, optional_member, required_member}
+use Rattle.siri_json.specs.Forms.{is_object, text, whole}
+use Rattle.siri_json.specs.Frame.{repeated_at}
 use Rattle.siri_situations.specs.Affected.{affected, journey_named, line_named, references, stop_named}
 use Rattle.siri_situations.specs.Periods.{periods}
 use Rattle.siri_situations.specs.Senses as senses

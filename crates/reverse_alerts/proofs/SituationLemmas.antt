@@ -1,5 +1,5 @@
 -- A situation is written in three parts.
-use Rattle.std.proofs.Common.{◌≡◌, ◌∙◌, ◌++◌, ℕ, ℤ, Bool, List, Option, Some, Result, Ok, Err, codes, ap, refl, sym}
+use Rattle.std.proofs.Common.{◌≡◌, ◌∙◌, ◌++◌, ℕ, ℤ, Bool, List, Some, Result, Ok, Err, codes, ap, refl, sym}
 use Rattle.std.proofs.lemmas.List.{append-nil}
 use Rattle.gw_base.specs.declared.messages.Alert.{Alert}
 use Rattle.stop_schedule.specs.Table.{Table}

@@ -1,10 +1,10 @@
 -- What situations that were written say when they are read again, and what a situation is that went there and back.
-use Rattle.std.specs.Prelude.{◌≡◌, ℕ, ℤ, List, map, Option, Some, Result, Ok}
+use Rattle.std.specs.Prelude.{◌≡◌, ℕ, List, map, Some, Result, Ok}
 use Rattle.journey_model.specs.Schedules.{Schedule}
 use Rattle.journey_model.specs.declared.fault.Fault.{Fault}
 use Rattle.journey_model.specs.declared.situation.Situation.{Situation}
 use Rattle.serde_json.specs.Data.{Data}
-use Rattle.siri_calls.specs.Verdicts.{tree_of}
+use Rattle.siri_json.specs.Deliveries.{tree_of}
 use Rattle.siri_situations.specs.Situations.{verdicts}
 use Rattle.stop_schedule.specs.Table.{Table}
 use Rattle.alert_map.specs.Alerts.{alert, alert_message}

@@ -1,6 +1,6 @@
 -- What only private functions cite: the text of situations piece by piece. The delivery as a tree is `delivery_tree` of
 -- `SituationTree.antt`, and its text is theirs: `proofs/WrittenLemmas.antt`.
-use Rattle.std.specs.Prelude.{◌||◌, ◌≤◌, ℕ, ℤ, pos, Bool, true, false, not, List, [], ◌∷◌, ◌++◌, length, codes, is_some, Option, Some, None, IfSome, if◌then◌else◌, ◌==◌}
+use Rattle.std.specs.Prelude.{◌||◌, ◌≤◌, ℕ, ℤ, pos, Bool, true, false, List, [], ◌∷◌, ◌++◌, codes, Option, Some, None, IfSome}
 use Rattle.std.specs.List.{filter}
 use Rattle.serde_json.specs.Written.{comma_if}
 use Rattle.gw_base.specs.declared.messages.Period.{Period}

@@ -1,6 +1,6 @@
 -- What becomes of the entities of a feed: the situation that an alert is, or the fault for which it is set aside (GTFS
 -- Realtime reference, FeedEntity; SIRI 2.0, PtSituationElement).
-use Rattle.std.specs.Prelude.{ℕ, ℤ, ◌+◌, pos, min, true, List, [], ◌∷◌, ◌++◌, length, map, sum_by, Option, Some, None, is_some, option_map, Result, Ok, Err, if◌then◌else◌}
+use Rattle.std.specs.Prelude.{ℕ, ◌+◌, pos, min, true, List, [], ◌∷◌, ◌++◌, length, map, sum_by, Option, Some, None, is_some, option_map, Result, Ok, Err, if◌then◌else◌}
 use Rattle.std.specs.List.{filter_map}
 use Rattle.std.specs.Option.{option_or}
 use Rattle.gw_base.specs.Count.{last_count}
@@ -8,7 +8,6 @@ use Rattle.gw_base.specs.Moments.{is_moment}
 use Rattle.gw_base.specs.declared.member.Member.{Member}
 use Rattle.gw_base.specs.declared.messages.Alert.{Alert}
 use Rattle.gw_base.specs.declared.messages.Entity.{Entity}
-use Rattle.gw_base.specs.declared.messages.Feed.{Feed}
 use Rattle.gw_base.specs.declared.messages.Period.{Period}
 use Rattle.stop_schedule.specs.Table.{Table}
 use Rattle.journey_model.specs.declared.fault.Fault.{Fault}

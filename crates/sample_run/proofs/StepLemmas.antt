@@ -1,5 +1,5 @@
 -- Steps of the work on a sample, by their answers.
-use Rattle.std.proofs.Common.{◌≡◌, ◌∙◌, ◌<◌, ◌≤◌, [], ℕ, true, false, List, length, Result, Ok, Err, refl, sym, ap, subst, inl, inr, arith}
+use Rattle.std.proofs.Common.{◌≡◌, ◌∙◌, ◌<◌, ◌≤◌, [], ℕ, ℤ, true, false, List, length, Result, Ok, Err, refl, sym, ap, subst, inl, inr, arith}
 use Rattle.std.specs.Prelude.{⊤, nat_le, sum_by}
 use Rattle.std.specs.Bool.{MatchBool}
 use Rattle.std.proofs.lemmas.Bool.Decides.{nat_tests}
@@ -10,6 +10,9 @@ use Rattle.gw_base.specs.declared.messages.Entity.{Entity}
 use Rattle.gw_base.specs.declared.messages.Feed.{Feed}
 use Rattle.feed_messages.specs.Tables.{MeansFeed, full_dataset}
 use Rattle.journey_model.specs.Schedules.{Schedule}
+use Rattle.siri_json.specs.declared.delivery.DeliveryFault.{DeliveryFault}
+use Rattle.siri_json.specs.declared.delivery.DeliveryFault.TheVariants.{NotDelivery, NotJson}
+use Rattle.siri_json.specs.declared.delivery.DeliveryFault.TheVariants as deliveries
 use Rattle.stop_schedule.specs.Answers.{is_free as is_free_table}
 use Rattle.stop_schedule.specs.Seen.{seen}
 use Rattle.stop_schedule.specs.Timetable.{timetable}
@@ -19,9 +22,10 @@ use Rattle.stop_schedule.specs.declared.timetable.Timetable.{Timetable}
 use Rattle.gateway_core.specs.Arrivals.{Arrival, moments_of, schedule_at}
 use Rattle.gateway_core.specs.Feeds.{IsFeedOf}
 use Rattle.gateway_core.specs.Standing.{Kept}
+use Rattle.gateway_core.specs.Taking.{JourneysAnswer}
 use Rattle.gateway_core.specs.declared.setting.Setting.{Setting}
 use Rattle.sample_run.specs.Counts.{all_read, counts_of, updates_of}
-use Rattle.sample_run.specs.Ends.{folder_end, is_free, is_unread}
+use Rattle.sample_run.specs.Ends.{delivery_end, folder_end, is_free, is_unread}
 use Rattle.sample_run.specs.Made.{made, made_at, made_files}
 use Rattle.sample_run.specs.Sample.{Arrives, Counted, CountsOf, Delivered, MadeFolder, Taken, body_limit, limited}
 use Rattle.sample_run.specs.Steps.{Takes, tally}
@@ -144,3 +148,12 @@ all_counted setting own last texts now answer starts ends arrivals arrived count
     then_found (Arrives setting texts []) (Counted setting) arrivals answer
     (subst (λ (s : Setting). Arrives s texts [] (Ok arrivals)) starts arrived)
     (subst (λ (s : Setting). UnlessFree is_free answer (Counted s arrivals)) ends counted)
+
+-- a delivery that is refused has the fault that it is refused for
+pub refused : (kept now : Kept) (arrivals : List Arrival) (moment : ℤ) (body : List ℕ) (fault : DeliveryFault) (end : SampleFault)
+    → JourneysAnswer kept arrivals moment body (Err fault) now → moment ≡ made_at → end ≡ delivery_end fault
+    → MatchBool (is_free end) ⊤ (Taken kept.setting arrivals body (Err end))
+refused kept now arrivals moment body NotJson end answer at is = rw is (NotJson, rw answer tt, refl)
+refused kept now arrivals moment body (NotDelivery member) end answer at is =
+    rw is (NotDelivery member, rw (answer.1, ← at, answer.2) refl, refl)
+refused kept now arrivals moment body deliveries.Memory end answer at is = rw is tt

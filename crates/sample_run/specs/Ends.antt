@@ -2,9 +2,9 @@
 use Rattle.std.specs.Prelude.{Bool, true, false}
 use Rattle.feed_messages.specs.declared.fault.FeedFault as feeds
 use Rattle.feed_messages.specs.declared.fault.FeedFault.TheVariants.{EntityTooLong, Wire, NotText, MissingField}
-use Rattle.siri_calls.specs.declared.delivery.DeliveryFault.{DeliveryFault}
-use Rattle.siri_calls.specs.declared.delivery.DeliveryFault.TheVariants.{NotJson, NotDelivery}
-use Rattle.siri_calls.specs.declared.delivery.DeliveryFault.TheVariants as deliveries
+use Rattle.siri_json.specs.declared.delivery.DeliveryFault.{DeliveryFault}
+use Rattle.siri_json.specs.declared.delivery.DeliveryFault.TheVariants.{NotJson, NotDelivery}
+use Rattle.siri_json.specs.declared.delivery.DeliveryFault.TheVariants as deliveries
 use Rattle.stop_schedule.specs.declared.table_fault.TableFault.{TableFault}
 use Rattle.stop_schedule.specs.declared.table_fault.TableFault.TheVariants as tables
 use Rattle.sample_run.specs.declared.fault.SampleFault.{SampleFault}

@@ -16,7 +16,7 @@ use Rattle.feed_messages.specs.declared.fault.FeedFault.{FeedFault}
 use Rattle.journey_model.specs.Records.{Recorded}
 use Rattle.journey_model.specs.declared.report.Report.{Report}
 use Rattle.siri_calls.specs.Deliveries.{ReadsBody}
-use Rattle.siri_calls.specs.declared.delivery.DeliveryFault.{DeliveryFault}
+use Rattle.siri_json.specs.declared.delivery.DeliveryFault.{DeliveryFault}
 use Rattle.sample_maker.specs.Deliveries.{deliveries}
 use Rattle.gateway_core.specs.Arrivals.{Arrival, journeys, moments_of, schedule_at}
 use Rattle.gateway_core.specs.Recording.{IsRebuiltOf}

@@ -7,9 +7,9 @@ use Rattle.serde_json.specs.Data.{Data}
 use Rattle.service_day.specs.declared.zones.Rules.{Rules}
 use Rattle.siri_calls.specs.Calls.{call, calls}
 use Rattle.siri_calls.specs.Journeys.{Call}
-use Rattle.siri_calls.specs.Shown.{ok_map, IsFaultOf}
-use Rattle.siri_calls.specs.declared.read_fault.ReadFault.{ReadFault}
-use Rattle.siri_calls.specs.declared.read_fault.ReadFault.TheVariants.{Aside, Memory}
+use Rattle.siri_json.specs.Shown.{ok_map, IsFaultOf}
+use Rattle.siri_json.specs.declared.read_fault.ReadFault.{ReadFault}
+use Rattle.siri_json.specs.declared.read_fault.ReadFault.TheVariants.{Aside, Memory}
 
 -- the calls that were found, and those of the trees left, are all
 abbrev pub SoFar : Rules → Result (List (Option Call)) Fault → List (Option Call) → List Data → Type 0

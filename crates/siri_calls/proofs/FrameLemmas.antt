@@ -6,12 +6,13 @@ use Rattle.std.proofs.lemmas.List.Folds.{list_all-append}
 use Rattle.journey_model.specs.Chains.{◌>>=◌}
 use Rattle.gw_base.specs.declared.member.Member.{Member}
 use Rattle.json_tree.specs.Trees.{Tree, view}
-use Rattle.siri_calls.specs.Forms.{is_object}
-use Rattle.siri_calls.specs.Frame.{Place, has_object, all_objects, frames_below, frame_place, frames_of, repeated_under}
-use Rattle.siri_calls.specs.Shown.{ok_map, IsFrameFault}
-use Rattle.siri_calls.specs.declared.delivery.DeliveryFault.{DeliveryFault}
-use Rattle.siri_calls.specs.declared.delivery.DeliveryFault.TheVariants as delivery
-use Rattle.siri_calls.proofs.TreeLemmas.{list_all-map}
+use Rattle.siri_json.specs.Forms.{is_object}
+use Rattle.siri_calls.specs.Frame.{Place, has_object, all_objects, frames_below, frame_place, frames_of}
+use Rattle.siri_json.specs.Frame.{repeated_under}
+use Rattle.siri_json.specs.Shown.{ok_map, IsFrameFault}
+use Rattle.siri_json.specs.declared.delivery.DeliveryFault.{DeliveryFault}
+use Rattle.siri_json.specs.declared.delivery.DeliveryFault.TheVariants as delivery
+use Rattle.siri_json.proofs.TreeLemmas.{list_all-map}
 
 -- the trees of frames are objects, and then so are the frames
 framed : (place : Place) (trees : List Tree) → list_all has_object (map (frame_place place) (map view trees)) ≡ list_all (λ tree. is_object (view tree)) trees

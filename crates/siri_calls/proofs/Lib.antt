@@ -1,7 +1,5 @@
 pub mod CallLemmas
-pub mod DeliveryLemmas
 pub mod DenseLemmas
-pub mod FormLemmas
 pub mod FrameLemmas
 pub mod OrderLemmas
 pub mod PlaceLemmas
@@ -16,6 +14,5 @@ pub mod SaidAgainPlain
 pub mod SaidAgainRuns
 pub mod SaidAgainTrees
 pub mod ServableLemmas
-pub mod TreeLemmas
 pub mod WrittenLemmas
 pub mod WrittenTimes

@@ -23,8 +23,8 @@ use Rattle.journey_model.specs.declared.readings.JourneyReading.TheVariants.{Can
 use Rattle.journey_model.specs.declared.readings.StopReading.{StopReading}
 use Rattle.siri_calls.specs.Calls.{call_trees, calls, calls_under}
 use Rattle.siri_calls.specs.DeliveryTree.{call_trees_from, delivery_tree, frame_tree, framed_ref, id_at, is_cancelled_journey, items_of, journey_of_run, journey_on, journey_tree, stop_readings, service_tree, timetable_tree}
-use Rattle.siri_calls.specs.Fields.{required_member}
-use Rattle.siri_calls.specs.Forms.{day, is_object, listed, object_form, text}
+use Rattle.siri_json.specs.Fields.{required_member}
+use Rattle.siri_json.specs.Forms.{day, is_object, listed, object_form, text}
 use Rattle.siri_calls.specs.Frame.{Place, delivery_place, frame_place, item_place, items}
 use Rattle.siri_calls.specs.Journeys.{Call, Header}
 use Rattle.siri_calls.specs.Judged.{extras, journey_read, judged, run_named, taken, trip_named}

@@ -1,6 +1,7 @@
 -- What is recorded of a journey can be served.
-use Rattle.std.proofs.Common.{◌≡◌, ◌∙◌, ◌<◌, ◌+◌, ◌==◌, ℕ, ℤ, pos, ◌+ℤ◌, ◌-ℤ◌, suc, Bool, true, false, cond, List, [], ◌∷◌, length, map, find, position, slice_get, Option, Some, None, Result, Ok, Err, refl, ap, arith, subst, add-zero}
-use Rattle.std.specs.List.{range_with_len}
+use Rattle.std.proofs.Common.{◌≡◌, ◌∙◌, ◌<◌, ◌+◌, ◌==◌, ℕ, ℤ, pos, ◌+ℤ◌, ◌-ℤ◌, suc, Bool, true, false, cond, List, [], ◌∷◌, ◌++◌, length, map, find, position, slice_get, Option, Some, None, Result, Ok, Err, refl, ap, arith, subst, add-zero}
+use Rattle.std.specs.List.{AllByRecursion, range_with_len}
+use Rattle.std.specs.Prelude.{IfOk}
 use Rattle.std.specs.Option.{ok_or, option_or, option_map_or}
 use Rattle.std.specs.Cmp.Derive.{both_true}
 use Rattle.std.specs.Str.{bytes_eq}
@@ -23,9 +24,15 @@ use Rattle.journey_model.specs.declared.readings.StopReading.{StopReading}
 use Rattle.journey_model.specs.declared.readings.StopReading.TheVariants.{Skipped}
 use Rattle.stop_schedule.specs.Planned.{planned}
 use Rattle.stop_schedule.specs.declared.stop_times.StopRow.{StopRow}
+use Rattle.siri_calls.specs.Deliveries.{AreServable, CanServe}
 use Rattle.siri_calls.specs.Journeys.{Call, Header}
 use Rattle.siri_calls.specs.Judged as spec
 use Rattle.siri_calls.specs.Servable.{IsServable}
+use Rattle.siri_json.specs.Deliveries.{IsAdded}
+use Rattle.siri_json.specs.declared.delivery.Delivery.{Delivery}
+use Rattle.siri_json.specs.declared.delivery.Item.TheVariants.{Aside, Taken}
+use Rattle.siri_json.specs.declared.read_fault.ReadFault.{ReadFault}
+use Rattle.siri_json.specs.declared.read_fault.ReadFault.TheVariants as read
 
 -- a time whose event has no fault is at most a week from the planned one
 event-near : (number : ℕ) (plan time : ℤ) → event_fault number plan (Some time) ≡ None → is_delay (time -ℤ plan) ≡ true
@@ -209,3 +216,14 @@ servable schedule head all one count h = by (spec.trip_named schedule head) refl
         → (trip >>= λ found. spec.trip_read schedule found head all >>= λ reading. Ok (spec.taken head found all reading)) ≡ Ok (recorded one, count) → IsServable schedule one
     by (Err fault) e told = absurd (cc)
     by (Ok trip) e told = with trip (spec.trip_read schedule trip head all) (known-trip schedule head trip e) refl told
+
+appended : {A : Type 0} (P : A → Type 0) (all : List A) (last : A) → AllByRecursion P all → P last → AllByRecursion P (all ++ last ∷ [])
+appended P [] last each is = (is, tt)
+appended P (one ∷ others) last each is = (each.0, appended P others last each.1 is)
+
+-- one item more can be served
+pub one_served : (schedule : Schedule) (old new : Delivery JourneyRecord) (answer : Result (JourneyRecord × ℕ) ReadFault) → IfOk answer (λ one. IsServable schedule one.0)
+    → IsAdded answer old new → AreServable schedule old.items → AreServable schedule new.items
+one_served schedule old new (Ok one) servable added all = rw added.0 (appended (CanServe schedule) old.items (Taken one.0) all servable)
+one_served schedule old new (Err (read.Aside fault)) servable added all = rw added.0 (appended (CanServe schedule) old.items (Aside fault) all tt)
+one_served schedule old new (Err read.Memory) servable added all = absurd added

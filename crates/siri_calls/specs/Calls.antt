@@ -1,21 +1,20 @@
 -- The calls of a journey (SIRI 2.0, RecordedCall and EstimatedCall).
-use Rattle.std.specs.Prelude.{◌&&◌, ◌||◌, ℕ, ℤ, Bool, true, false, List, [], ◌∷◌, ◌++◌, map, codes, Option, Some, None, option_map, is_none, unwrap_or, Result, Ok, if◌then◌else◌}
-use Rattle.std.specs.Char.{to_ascii_lowercase}
+use Rattle.std.specs.Prelude.{◌&&◌, ◌||◌, ℕ, ℤ, Bool, true, false, List, [], ◌∷◌, ◌++◌, codes, Option, Some, None, option_map, is_none, unwrap_or, Result, Ok, if◌then◌else◌}
 use Rattle.std.specs.Option.{option_or}
-use Rattle.std.specs.Str.{bytes_eq}
 use Rattle.journey_model.specs.Chains.{◌>>=◌}
 use Rattle.gw_base.specs.declared.member.Member.{Member}
 use Rattle.journey_model.specs.declared.fault.Fault.{Fault}
 use Rattle.serde_json.specs.Data.{Data}
 use Rattle.service_day.specs.declared.zones.Rules.{Rules}
 use Rattle.siri_calls.specs.declared.call_reading.Statuses.{Statuses}
-use Rattle.siri_calls.specs.Fields.{optional_member, required_member}
-use Rattle.siri_calls.specs.Forms.{text, flag, whole, moment, object_form, objects}
+use Rattle.siri_json.specs.Fields.{optional_member, required_member}
+use Rattle.siri_json.specs.Forms.{text, flag, whole, moment, object_form, objects}
 use Rattle.siri_calls.specs.Journeys.{Call}
+use Rattle.siri_json.specs.Words.{is_word}
 
--- a status is `cancelled`, in any case of its letters
+-- a status is `cancelled`
 abbrev pub says_cancelled : List ℕ → Bool
-says_cancelled status = bytes_eq (map to_ascii_lowercase status) (codes "cancelled")
+says_cancelled status = is_word (codes "cancelled") status
 
 -- a status, where there is one: whether it is `cancelled`
 abbrev pub status : Member → Data → Result (Option Bool) Fault

@@ -2,14 +2,10 @@ pub mod Calls
 pub mod Deliveries
 pub mod DeliveryTexts
 pub mod DeliveryTree
-pub mod Fields
-pub mod Forms
 pub mod Frame
 pub mod Journeys
 pub mod Judged
-pub mod Judgements
 pub mod MatchedCalls
-pub mod Refusals
 pub mod SaidAgain
 pub mod Sayable
 pub mod Seen

@@ -5,7 +5,8 @@ use Rattle.journey_model.specs.Schedules.{Schedule}
 use Rattle.journey_model.specs.declared.fault.Fault.{Fault}
 use Rattle.journey_model.specs.declared.readings.DatedReading.{DatedReading}
 use Rattle.serde_json.specs.Data.{Data}
-use Rattle.siri_calls.specs.Verdicts.{tree_of, verdicts}
+use Rattle.siri_calls.specs.Verdicts.{verdicts}
+use Rattle.siri_json.specs.Deliveries.{tree_of}
 
 -- a reading as a record: recorded at the moment that it has, else at the delivery's
 abbrev pub said_again : ℤ → DatedReading → Recorded

@@ -1,9 +1,7 @@
 -- What an item of a delivery is: a record of a journey, or the first fault for which it is set aside (SIRI 2.0,
 -- EstimatedVehicleJourney).
-use Rattle.std.specs.Prelude.{ℕ, ℤ, Bool, true, false, List, [], ◌∷◌, map, sum_by, min, Option, None, unwrap_or, Result, Ok, Err, if◌then◌else◌, codes}
-use Rattle.std.specs.Str.{is_utf8}
+use Rattle.std.specs.Prelude.{ℕ, ℤ, Bool, true, false, List, [], ◌∷◌, map, Option, unwrap_or, Result, Ok, Err, if◌then◌else◌, codes}
 use Rattle.journey_model.specs.Chains.{◌>>=◌}
-use Rattle.gw_base.specs.Count.{last_count}
 use Rattle.gw_base.specs.declared.member.Member.{Member}
 use Rattle.journey_model.specs.Records.{Recorded}
 use Rattle.journey_model.specs.Schedules.{Schedule}
@@ -11,16 +9,15 @@ use Rattle.journey_model.specs.declared.fault.Fault.{Fault}
 use Rattle.journey_model.specs.declared.fault.Fault.TheVariants.{BadField}
 use Rattle.serde_json.specs.Data.{Data}
 use Rattle.serde_json.specs.Find.{get}
-use Rattle.serde_json.specs.Read.{read}
 use Rattle.service_day.specs.declared.zones.Rules.{Rules}
 use Rattle.siri_calls.specs.Calls.{calls_under}
-use Rattle.siri_calls.specs.Fields.{required, form_at, optional_member, required_member}
-use Rattle.siri_calls.specs.Forms.{text, flag, day, object_form, is_object, moment}
+use Rattle.siri_json.specs.Fields.{required, form_at, optional_member, required_member}
+use Rattle.siri_json.specs.Forms.{text, flag, day, object_form, is_object, moment}
 use Rattle.siri_calls.specs.Frame.{Place, items}
 use Rattle.siri_calls.specs.Journeys.{Header, Call}
 use Rattle.siri_calls.specs.Judged.{judged}
-use Rattle.siri_calls.specs.declared.forms.Form.{Form}
-use Rattle.siri_calls.specs.declared.forms.Form.TheVariants.{Missing, Wrong, Found}
+use Rattle.siri_json.specs.declared.forms.Form.{Form}
+use Rattle.siri_json.specs.declared.forms.Form.TheVariants.{Missing, Wrong, Found}
 
 -- when an item was recorded: by the first member that isn't missing, its own and then those of the objects above
 abbrev pub or_further : Rules → Form (ℤ × ℕ) → Form (ℤ × ℕ) → Form (ℤ × ℕ)
@@ -74,15 +71,3 @@ abbrev pub verdicts : Schedule → Data → Result (List (Result (Recorded × �
 verdicts schedule root = do
   all ← items root
   Ok (map (verdict schedule) all)
-
--- how many calls of the journeys that are taken were passed over; a count of 64 bits stays at its last value
-abbrev pub passed_in : Result (Recorded × ℕ) Fault → ℕ
-passed_in (Ok one) = one.1
-passed_in (Err fault) = 0
-
-abbrev pub passed_count : List (Result (Recorded × ℕ) Fault) → ℕ
-passed_count all = min (sum_by passed_in all) last_count
-
--- the tree that a body is, where it is UTF-8 and JSON
-abbrev pub tree_of : List ℕ → Option Data
-tree_of body = if is_utf8 body then read body else None

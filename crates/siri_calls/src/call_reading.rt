@@ -6,19 +6,19 @@ ghost use Rattle.json_tree.specs.Trees.{view};
 ghost use Rattle.gw_base.specs.Moments.{IsMoment};
 ghost use Rattle.siri_calls.specs.Calls as spec;
 ghost use Rattle.siri_calls.specs.Seen.{call_of, calls_of};
-ghost use Rattle.siri_calls.specs.Shown.{ok_map, instant_of, trees_of, IsFaultOf};
+ghost use Rattle.siri_json.specs.Shown.{ok_map, instant_of, trees_of, IsFaultOf};
 
 use crate::calls::Call;
-use crate::fields::{
-    optional_flag, optional_moment, optional_object, optional_objects, optional_text,
-    optional_whole, required_text,
-};
-use crate::forms::none;
-use crate::read_fault::ReadFault;
 use gw_base::Member;
 use journey_model::Fault;
 use json::Value;
 use service_day::{Instant, Zone};
+use siri_json::ReadFault;
+use siri_json::fields::{
+    optional_flag, optional_moment, optional_object, optional_objects, optional_text,
+    optional_whole, required_text,
+};
+use siri_json::forms::none;
 use std::alloc::Global;
 
 /// What a call says of whether the journey stops there.

@@ -1,120 +1,32 @@
 //! A delivery of estimated timetables. The functions meet `specs/Deliveries.antt`.
-ghost use Rattle.std.specs.Prelude.{◌++◌, ◌∷◌, [], ℕ, List as Values, Result as Answer, map, IfOk, OnOk};
+ghost use Rattle.std.specs.Prelude.{◌++◌, ℕ, List as Values, Result as Answer, map, IfOk, OnOk};
 ghost use Rattle.std.specs.List.{flat_map};
-ghost use Rattle.journey_model.specs.Records.{Recorded};
-ghost use Rattle.journey_model.specs.Schedules.{Schedule, schedule_of};
+ghost use Rattle.journey_model.specs.Records.{Recorded, recorded};
+ghost use Rattle.journey_model.specs.Schedules.{schedule_of};
 ghost use Rattle.journey_model.specs.declared.fault.Fault as faults;
 ghost use Rattle.json_tree.specs.Trees.{view};
-ghost use Rattle.siri_calls.specs.Deliveries.{AreServable, HasVerdicts, ReadsBody, ReadsTree};
+ghost use Rattle.siri_calls.specs.Deliveries.{AreServable, ReadsBody};
 ghost use Rattle.siri_calls.specs.Frame.{items_below};
-ghost use Rattle.siri_calls.specs.Judgements.{CanBeServed, shown_judged};
 ghost use Rattle.siri_calls.specs.Shown.{place_of};
 ghost use Rattle.siri_calls.specs.Verdicts as spec;
+ghost use Rattle.siri_json.specs.Deliveries.{HasVerdicts, ReadsTree};
 
-use crate::frame::{Place, frames_in, repeated_under};
+use crate::frame::{Place, frames_in};
 use crate::items::{item_place, verdict};
-use crate::judgement::Judged;
-use gw_base::{List, Member};
-use journey_model::{Context, Fault, JourneyRecord};
+use gw_base::Member;
+use journey_model::{Context, JourneyRecord};
 use json::{Scratch, Value};
-use json_tree::{TreeFault, read_tree};
-use std::alloc::{AllocError, AllocFailed, Global};
+use json_tree::read_tree;
+use siri_json::DeliveryFault;
+use siri_json::frame::repeated_under;
+use std::alloc::{AllocError, Global};
 
-/// Why a delivery is refused.
-#[derive(Clone, Copy, Debug, PartialEq, Eq)]
-pub enum DeliveryFault {
-    /// It isn't JSON in UTF-8.
-    NotJson,
-    /// The way down to its journeys is broken at this member.
-    NotDelivery(Member),
-    /// Want of memory.
-    Memory,
-}
+/// What an item of a delivery is: a record of a journey, or the fault for which it is set aside.
+pub type Item = siri_json::Item<JourneyRecord>;
 
-impl From<AllocError> for DeliveryFault {
-    ghost use Rattle.std.specs.Prelude.{◌≡◌};
-    ghost use Rattle.siri_calls.specs.declared.delivery.DeliveryFault.TheVariants.{Memory};
-
-    ghost from_gives = { λ _ e. e ≡ Memory };
-
-    fn from(_e: AllocError) -> DeliveryFault {
-        DeliveryFault::Memory
-    }
-}
-
-impl<T: Drop> From<AllocFailed<T>> for DeliveryFault {
-    ghost use Rattle.std.specs.Prelude.{◌≡◌};
-    ghost use Rattle.siri_calls.specs.declared.delivery.DeliveryFault.TheVariants.{Memory};
-
-    ghost from_gives = { λ _ e. e ≡ Memory };
-
-    fn from(_e: AllocFailed<T>) -> DeliveryFault {
-        DeliveryFault::Memory
-    }
-}
-
-impl From<TreeFault> for DeliveryFault {
-    ghost use Rattle.std.specs.Prelude.{◌≡◌};
-    ghost use Rattle.siri_calls.specs.Refusals.{refusal};
-
-    ghost from_gives = { λ fault e. e ≡ refusal fault };
-
-    fn from(fault: TreeFault) -> DeliveryFault {
-        match fault {
-            TreeFault::NotJson => DeliveryFault::NotJson,
-            TreeFault::Memory => DeliveryFault::Memory,
-        }
-    }
-}
-
-impl From<Member> for DeliveryFault {
-    ghost use Rattle.std.specs.Prelude.{◌≡◌};
-    ghost use Rattle.siri_calls.specs.declared.delivery.DeliveryFault.TheVariants.{NotDelivery};
-
-    ghost from_gives = { λ member e. e ≡ NotDelivery member };
-
-    fn from(member: Member) -> DeliveryFault {
-        DeliveryFault::NotDelivery(member)
-    }
-}
-
-/// What an item of a delivery is.
-#[derive(Debug, Drop)]
-pub enum Item {
-    /// A record of a journey.
-    Taken(JourneyRecord),
-    /// It is set aside.
-    Aside(Fault),
-}
-
-/// What a delivery says.
-#[derive(Debug, Drop)]
-pub struct Delivery {
-    /// Its items, in document order.
-    pub items: List<Item>,
-    /// How many calls of the journeys that are taken were passed over as extra ones; a count
-    /// stays at its last value.
-    pub passed: u64,
-}
-
-// What an item is, behind those before.
-fn add_item(delivery: &mut Delivery, judged: Judged) -> Result<(), AllocError>
-    ensures verdicts { (earlier : Values (Answer (Recorded × ℕ) faults.Fault))
-        → HasVerdicts delivery.old earlier
-        → OnOk result (HasVerdicts delivery.new (earlier ++ shown_judged judged ∷ [])) }
-    ensures servable { (schedule : Schedule) → AreServable schedule delivery.old.items
-        → CanBeServed schedule judged
-        → OnOk result (AreServable schedule delivery.new.items) }
-{
-    match judged {
-        Judged::Taken { record, extras } => {
-            delivery.items.push(Item::Taken(record))?;
-            delivery.passed = delivery.passed.saturating_add(extras);
-            Ok(())
-        }
-        Judged::Aside(fault) => delivery.items.push(Item::Aside(fault)),
-    }
-}
+/// What a delivery of estimated timetables says. The calls of the journeys that are taken which were passed over as extra
+/// ones are counted.
+pub type Delivery = siri_json::Delivery<JourneyRecord>;
 
 // What the items below a frame are, behind those before.
 fn add_items(
@@ -124,8 +36,8 @@ fn add_items(
     context: &Context<'_>,
 ) -> Result<(), AllocError>
     ensures verdicts { (earlier : Values (Answer (Recorded × ℕ) faults.Fault))
-        → HasVerdicts delivery.old earlier
-        → OnOk result (HasVerdicts delivery.new
+        → HasVerdicts recorded delivery.old earlier
+        → OnOk result (HasVerdicts recorded delivery.new
         (earlier
         ++ map (spec.verdict (schedule_of context.now)) (items_below (place_of frame.now)))) }
     ensures servable { AreServable (schedule_of context.now) delivery.old.items
@@ -134,8 +46,8 @@ fn add_items(
     let trees = repeated_under(frame.tree, Member::EstimatedVehicleJourney);
     for tree in trees {
         let place = item_place(tree, frame);
-        let judged = verdict(alloc, &place, context)?;
-        add_item(delivery, judged)?;
+        let answer = verdict(alloc, &place, context);
+        delivery.add(answer)?;
     }
     Ok(())
 }
@@ -146,16 +58,13 @@ fn all_items(
     frames: &[Place<'_, '_>],
     context: &Context<'_>,
 ) -> Result<Delivery, AllocError>
-    ensures verdicts { IfOk result (λ delivery. HasVerdicts delivery
+    ensures verdicts { IfOk result (λ delivery. HasVerdicts recorded delivery
         (map (spec.verdict (schedule_of context.now))
         (flat_map items_below (map place_of frames.now)))) }
     ensures servable { IfOk result (λ delivery.
         AreServable (schedule_of context.now) delivery.items) }
 {
-    let mut delivery = Delivery {
-        items: List::new(alloc),
-        passed: 0,
-    };
+    let mut delivery = Delivery::new(alloc);
     for frame in frames {
         add_items(alloc, &mut delivery, frame, context)?;
     }
@@ -168,7 +77,7 @@ fn tree_delivery(
     root: &Value<'_>,
     context: &Context<'_>,
 ) -> Result<Delivery, DeliveryFault>
-    ensures reads { ReadsTree (spec.verdicts (schedule_of context.now) (view root.now)) result }
+    ensures reads { ReadsTree recorded (spec.verdicts (schedule_of context.now) (view root.now)) result }
     ensures servable { IfOk result (λ delivery.
         AreServable (schedule_of context.now) delivery.items) }
 {

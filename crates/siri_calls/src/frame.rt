@@ -1,19 +1,16 @@
 //! The way down from the root of a delivery to its journeys. The functions meet `specs/Frame.antt`.
-ghost use Rattle.std.specs.Prelude.{◌≡◌, ◌++◌, codes, false, true, map, Ok, IfErr, IfOk};
-ghost use Rattle.std.specs.List.{list_all};
-ghost use Rattle.gw_base.specs.declared.member.Member.TheVariants as Member;
-ghost use Rattle.serde_json.specs.Find.{get};
+ghost use Rattle.std.specs.Prelude.{◌≡◌, ◌++◌, map, Ok, IfErr, IfOk};
 ghost use Rattle.json_tree.specs.Trees.{view};
-ghost use Rattle.siri_calls.specs.Fields.{member_form};
-ghost use Rattle.siri_calls.specs.Forms.{object_form};
 ghost use Rattle.siri_calls.specs.Frame as spec;
-ghost use Rattle.siri_calls.specs.Shown.{ok_map, tree_form, trees_of, place_of, places_of, IsFrameFault};
+ghost use Rattle.siri_calls.specs.Shown.{place_of, places_of};
+ghost use Rattle.siri_json.specs.Shown.{ok_map, IsFrameFault};
 
-use crate::delivery::DeliveryFault;
-use crate::forms::{Form, are_objects, is_object, none, object_form, objects, repeated};
 use gw_base::Member;
 use json::Value;
 use json_tree::find;
+use siri_json::DeliveryFault;
+use siri_json::forms::are_objects;
+use siri_json::frame::{deliveries_in, repeated_under, service_in};
 use std::alloc::Global;
 
 /// An object of a delivery or a journey's item, and the members above that may say when it was
@@ -28,70 +25,6 @@ pub(crate) struct Place<'t, 'a> {
     pub delivery: Option<&'t Value<'a>>,
     /// ResponseTimestamp of its service delivery.
     pub service: Option<&'t Value<'a>>,
-}
-
-/// The form of an object under a name.
-pub fn object_at<'t, 'a>(tree: &'t Value<'a>, member: Member) -> Form<&'t Value<'a>>
-    ensures { tree_form result ≡ member_form object_form member (view tree.now) }
-{
-    match find(tree, member.name()) {
-        Some(found) => object_form(found),
-        None => Form::Missing,
-    }
-}
-
-// The object that is read: the root, or what stands in it as Siri.
-fn siri<'t, 'a>(root: &'t Value<'a>) -> Result<&'t Value<'a>, Member>
-    ensures { ok_map (λ tree. view tree.now) result ≡ spec.siri (view root.now) }
-{
-    if !is_object(root) {
-        return Err(Member::Siri);
-    }
-    match object_at(root, Member::Siri) {
-        Form::Missing => Ok(root),
-        Form::Wrong => Err(Member::Siri),
-        Form::Found(siri) => Ok(siri),
-    }
-}
-
-/// The service delivery of a root (SIRI 2.0, Siri and ServiceDelivery), or the member that is wrong.
-pub fn service_in<'t, 'a>(root: &'t Value<'a>) -> Result<&'t Value<'a>, Member>
-    ensures { ok_map (λ tree. view tree.now) result ≡ spec.service_in (view root.now) }
-{
-    let body = siri(root)?;
-    match object_at(body, Member::ServiceDelivery) {
-        Form::Missing | Form::Wrong => Err(Member::ServiceDelivery),
-        Form::Found(service) => Ok(service),
-    }
-}
-
-// The deliveries of a service delivery, which have to be there.
-fn deliveries_in<'t, 'a>(service: &'t Value<'a>) -> Result<&'t [Value<'a>], Member>
-    ensures { ok_map trees_of result ≡ spec.there Member.EstimatedTimetableDelivery
-        (get (codes "EstimatedTimetableDelivery") (view service.now)) }
-{
-    let Some(found) = find(service, "EstimatedTimetableDelivery") else {
-        return Err(Member::EstimatedTimetableDelivery);
-    };
-    match found {
-        Value::Array(_) | Value::Object(_) => match objects(found) {
-            Form::Missing | Form::Wrong => Err(Member::EstimatedTimetableDelivery),
-            Form::Found(trees) => Ok(trees),
-        },
-        Value::Null | Value::Bool(_) | Value::Number(_) | Value::String(_) => {
-            Err(Member::EstimatedTimetableDelivery)
-        }
-    }
-}
-
-/// The items of an element that may be missing.
-pub fn repeated_under<'t, 'a>(tree: &'t Value<'a>, member: Member) -> &'t [Value<'a>]
-    ensures { map view result.now ≡ spec.repeated_under member (view tree.now) }
-{
-    match find(tree, member.name()) {
-        Some(found) => repeated(found),
-        None => none(),
-    }
 }
 
 // A frame of a delivery.
@@ -166,6 +99,6 @@ pub(crate) fn frames_in<'t, 'a>(
     ensures fault { IfErr result (IsFrameFault (spec.frames_in (view root.now))) }
 {
     let service = service_in(root)?;
-    let deliveries = deliveries_in(service)?;
+    let deliveries = deliveries_in(service, Member::EstimatedTimetableDelivery)?;
     frames_of(alloc, deliveries, service)
 }

@@ -3,20 +3,21 @@
 ghost use Rattle.std.specs.Prelude.{◌≡◌, ◌∷◌, [], codes};
 ghost use Rattle.serde_json.specs.Find.{get};
 ghost use Rattle.json_tree.specs.Trees.{view};
-ghost use Rattle.siri_calls.specs.Fields.{form_at};
-ghost use Rattle.siri_calls.specs.Forms as forms;
+ghost use Rattle.siri_json.specs.Fields.{form_at};
+ghost use Rattle.siri_json.specs.Forms as forms;
 ghost use Rattle.siri_calls.specs.Seen.{header_of};
-ghost use Rattle.siri_calls.specs.Shown.{ok_map, instant_of, moment_form, place_of, tree_at};
+ghost use Rattle.siri_calls.specs.Shown.{place_of, tree_at};
+ghost use Rattle.siri_json.specs.Shown.{ok_map, instant_of, moment_form};
 ghost use Rattle.siri_calls.specs.Verdicts as spec;
 
-use crate::fields::{optional_flag, required_day, required_object, required_text};
-use crate::forms::{Form, moment};
 use crate::frame::Place;
 use gw_base::Member;
 use journey_model::Fault;
 use json::Value;
 use json_tree::find;
 use service_day::{Day, Instant, Zone};
+use siri_json::fields::{optional_flag, required_day, required_object, required_text};
+use siri_json::forms::{Form, moment};
 
 /// What a journey says before its calls.
 #[derive(Clone, Copy)]

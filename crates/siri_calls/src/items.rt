@@ -1,26 +1,27 @@
 //! What an item of a delivery is. The functions meet `specs/Verdicts.antt`.
 ghost use Rattle.std.specs.Prelude.{◌≡◌, Ok, IfErr, IfOk};
+ghost use Rattle.journey_model.specs.Records.{recorded};
 ghost use Rattle.journey_model.specs.Schedules.{schedule_of};
 ghost use Rattle.json_tree.specs.Trees.{view};
 ghost use Rattle.siri_calls.specs.Frame as places;
-ghost use Rattle.siri_calls.specs.Judgements.{CanBeServed, shown_judged};
 ghost use Rattle.siri_calls.specs.Seen.{calls_of};
-ghost use Rattle.siri_calls.specs.Shown.{place_of, IsFaultOf};
+ghost use Rattle.siri_calls.specs.Servable.{IsServable};
+ghost use Rattle.siri_calls.specs.Shown.{place_of};
+ghost use Rattle.siri_json.specs.Shown.{IsFaultOf};
 ghost use Rattle.siri_calls.specs.Verdicts as spec;
 
 use crate::call_reading::read_calls;
 use crate::calls::Call;
-use crate::forms::is_object;
 use crate::frame::Place;
 use crate::header::read_header;
-use crate::judgement::Judged;
 use crate::judging::judged;
-use crate::read_fault::ReadFault;
 use gw_base::Member;
-use journey_model::{Context, Fault};
+use journey_model::{Context, Fault, JourneyRecord};
 use json::Value;
 use service_day::Zone;
-use std::alloc::{AllocError, Global};
+use siri_json::ReadFault;
+use siri_json::forms::is_object;
+use std::alloc::Global;
 
 // The calls of an item, which aren't read where its journey is cancelled.
 fn calls_unless<'a>(
@@ -46,42 +47,38 @@ fn item_read(
     alloc: Global,
     place: &Place<'_, '_>,
     context: &Context<'_>,
-) -> Result<Judged, ReadFault>
-    ensures value { IfOk result (λ answer.
-        shown_judged answer ≡ spec.item_read (schedule_of context.now) (place_of place.now)) }
+) -> Result<(JourneyRecord, u64), ReadFault>
+    ensures found { IfOk result (λ found. spec.item_read (schedule_of context.now) (place_of place.now)
+        ≡ Ok (recorded found.0, found.1)) }
     ensures fault { IfErr result
         (IsFaultOf (spec.item_read (schedule_of context.now) (place_of place.now))) }
-    ensures servable { IfOk result (CanBeServed (schedule_of context.now)) }
+    ensures servable { IfOk result (λ found. IsServable (schedule_of context.now) found.0) }
 {
     let head = match read_header(place, context.zone) {
         Ok(head) => head,
         Err(fault) => return Err(ReadFault::Aside(fault)),
     };
     let calls = calls_unless(alloc, head.cancelled, place.tree, context.zone)?;
-    match judged(alloc, context, &head, calls.as_slice()) {
-        Ok(answer) => Ok(answer),
-        Err(AllocError) => Err(ReadFault::Memory),
-    }
+    judged(alloc, context, &head, calls.as_slice())
 }
 
-/// What an item is: its members are read, and then its journey is judged. An error is want of
-/// memory.
+/// What an item is: its members are read, and then its journey is judged, which gives its record and the number of its
+/// extra calls, or its first fault.
 pub(crate) fn verdict(
     alloc: Global,
     place: &Place<'_, '_>,
     context: &Context<'_>,
-) -> Result<Judged, AllocError>
-    ensures value { IfOk result (λ answer.
-        shown_judged answer ≡ spec.verdict (schedule_of context.now) (place_of place.now)) }
-    ensures servable { IfOk result (CanBeServed (schedule_of context.now)) }
+) -> Result<(JourneyRecord, u64), ReadFault>
+    ensures found { IfOk result (λ found. spec.verdict (schedule_of context.now) (place_of place.now)
+        ≡ Ok (recorded found.0, found.1)) }
+    ensures fault { IfErr result
+        (IsFaultOf (spec.verdict (schedule_of context.now) (place_of place.now))) }
+    ensures servable { IfOk result (λ found. IsServable (schedule_of context.now) found.0) }
 {
-    if !is_object(place.tree) {
-        return Ok(Judged::Aside(Fault::BadField(Member::EstimatedVehicleJourney)));
-    }
-    match item_read(alloc, place, context) {
-        Ok(answer) => Ok(answer),
-        Err(ReadFault::Aside(fault)) => Ok(Judged::Aside(fault)),
-        Err(ReadFault::Memory) => Err(AllocError),
+    if is_object(place.tree) {
+        item_read(alloc, place, context)
+    } else {
+        Err(ReadFault::Aside(Fault::BadField(Member::EstimatedVehicleJourney)))
     }
 }
 

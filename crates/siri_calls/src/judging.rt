@@ -3,22 +3,21 @@ ghost use Rattle.std.specs.Prelude.{◌≡◌, ◌<◌, length, Ok, IfErr, IfOk}
 ghost use Rattle.journey_model.specs.Records.{recorded};
 ghost use Rattle.journey_model.specs.Schedules.{schedule_of};
 ghost use Rattle.siri_calls.specs.Judged as spec;
-ghost use Rattle.siri_calls.specs.Judgements.{CanBeServed, shown_judged};
 ghost use Rattle.siri_calls.specs.Seen.{calls_of, header_of};
-ghost use Rattle.siri_calls.specs.Shown.{IsFaultOf, ok_map};
+ghost use Rattle.siri_json.specs.Shown.{IsFaultOf, ok_map};
+ghost use Rattle.siri_calls.specs.Servable.{IsServable};
 ghost use Rattle.siri_calls.specs.TripRuns.{run_over};
 
 use crate::calls::Call;
 use crate::delays::delays_fault;
 use crate::dense::dense_readings;
 use crate::header::Header;
-use crate::judgement::Judged;
 use crate::matching_calls::{placed_calls, stop_calls};
-use crate::read_fault::ReadFault;
 use crate::trip_run::TripRun;
 use journey_model::{Context, Fault, JourneyReading, JourneyRecord};
 use service_day::Day;
-use std::alloc::{AllocError, Global};
+use siri_json::ReadFault;
+use std::alloc::Global;
 use stop_schedule::TripNo;
 
 // The trip that a journey is of, unless it is an extra journey.
@@ -106,50 +105,31 @@ fn extras(calls: &[Option<Call<'_>>]) -> u64
     extras
 }
 
-// What is recorded of a journey.
-fn recorded_of(
-    alloc: Global,
-    context: &Context<'_>,
-    head: &Header<'_>,
-    calls: &[Option<Call<'_>>],
-) -> Result<JourneyRecord, ReadFault>
-    ensures found { IfOk result (λ found.
-        spec.judged (schedule_of context.now) (header_of head.now) (calls_of calls.now)
-        ≡ Ok (recorded found, spec.extras (calls_of calls.now))) }
-    ensures fault { IfErr result (IsFaultOf
-        (spec.judged (schedule_of context.now) (header_of head.now) (calls_of calls.now))) }
-{
-    let trip = trip_named(context, head)?;
-    let reading = trip_read(alloc, context, trip, head, calls)?;
-    Ok(JourneyRecord {
-        trip,
-        day: head.day,
-        at: head.at,
-        reading,
-    })
-}
-
 /// What a journey is by its header and its calls, of which those that are None are extra ones (SIRI 2.0,
-/// EstimatedVehicleJourney): its record, or the first fault in this order. It is an extra journey; no carried trip has
-/// its id; its day isn't in the window; the trip doesn't run on it; and, unless it is cancelled: a call is of a stop
-/// that the trip doesn't have; a call is of no stop behind the one before; a time is over a week from the planned one.
-/// An error is want of memory.
+/// EstimatedVehicleJourney): its record with the number of its extra calls, or the first fault in this order. It is an
+/// extra journey; no carried trip has its id; its day isn't in the window; the trip doesn't run on it; and, unless it is
+/// cancelled: a call is of a stop that the trip doesn't have; a call is of no stop behind the one before; a time is over
+/// a week from the planned one.
 pub(crate) fn judged(
     alloc: Global,
     context: &Context<'_>,
     head: &Header<'_>,
     calls: &[Option<Call<'_>>],
-) -> Result<Judged, AllocError>
-    ensures value { IfOk result (λ answer. shown_judged answer
-        ≡ spec.judged (schedule_of context.now) (header_of head.now) (calls_of calls.now)) }
-    ensures servable { IfOk result (CanBeServed (schedule_of context.now)) }
+) -> Result<(JourneyRecord, u64), ReadFault>
+    ensures found { IfOk result (λ found.
+        spec.judged (schedule_of context.now) (header_of head.now) (calls_of calls.now)
+        ≡ Ok (recorded found.0, found.1)) }
+    ensures fault { IfErr result (IsFaultOf
+        (spec.judged (schedule_of context.now) (header_of head.now) (calls_of calls.now))) }
+    ensures servable { IfOk result (λ found. IsServable (schedule_of context.now) found.0) }
 {
-    match recorded_of(alloc, context, head, calls) {
-        Ok(record) => Ok(Judged::Taken {
-            record,
-            extras: extras(calls),
-        }),
-        Err(ReadFault::Aside(fault)) => Ok(Judged::Aside(fault)),
-        Err(ReadFault::Memory) => Err(AllocError),
-    }
+    let trip = trip_named(context, head)?;
+    let reading = trip_read(alloc, context, trip, head, calls)?;
+    let record = JourneyRecord {
+        trip,
+        day: head.day,
+        at: head.at,
+        reading,
+    };
+    Ok((record, extras(calls)))
 }

@@ -6,13 +6,13 @@ ghost use Rattle.journey_model.specs.Matching.{is_of_stop};
 ghost use Rattle.siri_calls.specs.Judged as spec;
 ghost use Rattle.siri_calls.specs.MatchedCalls.{stop_call, placed_call};
 ghost use Rattle.siri_calls.specs.Seen.{calls_of};
-ghost use Rattle.siri_calls.specs.Shown.{IsFaultOf};
+ghost use Rattle.siri_json.specs.Shown.{IsFaultOf};
 ghost use Rattle.siri_calls.specs.TripRuns.{run_over};
 
 use crate::calls::Call;
-use crate::read_fault::ReadFault;
 use crate::trip_run::TripRun;
 use journey_model::{Fault, match_call};
+use siri_json::ReadFault;
 use std::alloc::Global;
 use stop_schedule::{StopNo, StopRow};
 

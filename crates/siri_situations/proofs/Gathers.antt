@@ -3,9 +3,9 @@ use Rattle.std.proofs.Common.{◌≡◌, ◌∙◌, refl, ap, sym, List, [], ◌
 use Rattle.journey_model.specs.Chains.{◌>>=◌}
 use Rattle.journey_model.specs.declared.fault.Fault.{Fault}
 use Rattle.serde_json.specs.Data.{Data}
-use Rattle.siri_calls.specs.Shown.{ok_map, IsFaultOf}
-use Rattle.siri_calls.specs.declared.read_fault.ReadFault.{ReadFault}
-use Rattle.siri_calls.specs.declared.read_fault.ReadFault.TheVariants.{Aside, Memory}
+use Rattle.siri_json.specs.Shown.{ok_map, IsFaultOf}
+use Rattle.siri_json.specs.declared.read_fault.ReadFault.{ReadFault}
+use Rattle.siri_json.specs.declared.read_fault.ReadFault.TheVariants.{Aside, Memory}
 use Rattle.siri_situations.specs.Steps.{gather}
 
 -- what was found, and what the trees left give, are all

@@ -12,18 +12,19 @@ use Rattle.journey_model.specs.declared.fault.Fault.{Fault}
 use Rattle.journey_model.specs.declared.situation.Ref.{Ref}
 use Rattle.journey_model.specs.declared.situation.Situation.{Situation}
 use Rattle.serde_json.specs.Data.{Data}
-use Rattle.siri_calls.specs.Fields.{optional_member, required_member}
-use Rattle.siri_calls.specs.Forms.{day, is_object, text}
+use Rattle.siri_json.specs.Fields.{optional_member, required_member}
+use Rattle.siri_json.specs.Forms.{day, is_object, text}
+use Rattle.siri_json.specs.Deliveries.{shown, without_count}
+use Rattle.siri_json.specs.declared.delivery.Item.{Item}
+use Rattle.siri_json.specs.declared.delivery.Item.TheVariants.{Taken, Aside}
 use Rattle.stop_schedule.specs.Table.{Table}
 use Rattle.siri_situations.specs.Affected as spec
-use Rattle.siri_situations.specs.Deliveries.{ReferToKnown, RefersToKnown, shown, without_count}
+use Rattle.siri_situations.specs.Deliveries.{ReferToKnown, RefersToKnown, same}
 use Rattle.siri_situations.specs.Situations.{effect, said, situation, touched, verdict}
 use Rattle.siri_situations.specs.Steps.{gather, trees_at, walk}
 use Rattle.siri_situations.specs.declared.affected.AffectedKind.{AffectedKind}
 use Rattle.siri_situations.specs.declared.affected.AffectedKind.TheVariants as kinds
 use Rattle.siri_situations.specs.declared.affected.Reference.{Reference}
-use Rattle.siri_situations.specs.declared.delivery.Item.{Item}
-use Rattle.siri_situations.specs.declared.delivery.Item.TheVariants.{Taken, Aside}
 use Rattle.siri_situations.specs.declared.steps.Step.TheVariants.{Object}
 
 -- what holds of what is found, where it is found
@@ -162,18 +163,18 @@ of_verdict schedule tree = by (is_object tree)
     by true = of_situation schedule tree
     by false = tt
 
-of_item : (table : Table) (item : Item) (answer : Result (Situation × ℕ) Fault) → OnFound (KnowsAll table) answer → shown item ≡ without_count answer
+of_item : (table : Table) (item : Item Situation) (answer : Result (Situation × ℕ) Fault) → OnFound (KnowsAll table) answer → shown same item ≡ without_count answer
     → RefersToKnown table item
 of_item table (Aside fault) answer holds e = tt
 of_item table (Taken one) (Ok other) holds e = let same : one ≡ other.0 = cc in rw same holds
 of_item table (Taken one) (Err fault) holds e = cc
 
 -- each situation that is taken refers to what is there
-pub of_items : (schedule : Schedule) (trees : List Data) (items : List Item) → map shown items ≡ map without_count (map (verdict schedule) trees)
+pub of_items : (schedule : Schedule) (trees : List Data) (items : List (Item Situation)) → map (shown same) items ≡ map without_count (map (verdict schedule) trees)
     → ReferToKnown schedule.table items
 of_items schedule trees [] e = tt
 of_items schedule [] (item ∷ items) e = cc
 of_items schedule (tree ∷ trees) (item ∷ items) e =
-    let first : shown item ≡ without_count (verdict schedule tree) = cc in
-    let rest : map shown items ≡ map without_count (map (verdict schedule) trees) = cc in
+    let first : shown same item ≡ without_count (verdict schedule tree) = cc in
+    let rest : map (shown same) items ≡ map without_count (map (verdict schedule) trees) = cc in
     (of_item schedule.table item (verdict schedule tree) (of_verdict schedule tree) first, of_items schedule trees items rest)

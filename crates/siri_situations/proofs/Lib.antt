@@ -1,4 +1,3 @@
 pub mod Gathers
 pub mod KnownLemmas
 pub mod PeriodLemmas
-pub mod VerdictLemmas

@@ -5,7 +5,7 @@ use Rattle.gw_base.specs.declared.member.Member.{Member}
 use Rattle.journey_model.specs.declared.fault.Fault.TheVariants.{BadField}
 use Rattle.json_tree.specs.Trees.{Tree, view}
 use Rattle.service_day.specs.declared.zones.Rules.{Rules}
-use Rattle.siri_calls.proofs.TreeLemmas.{list_all-map}
+use Rattle.siri_json.proofs.TreeLemmas.{list_all-map}
 use Rattle.siri_situations.specs.Periods.{period, periods_in, start_in_form}
 use Rattle.siri_situations.specs.Steps.{gather}
 

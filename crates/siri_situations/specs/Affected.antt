@@ -10,8 +10,8 @@ use Rattle.journey_model.specs.declared.fault.Fault.TheVariants.{BadField, NoAff
 use Rattle.journey_model.specs.declared.situation.Ref.{Ref}
 use Rattle.journey_model.specs.declared.situation.Ref.TheVariants.{Route, Stop, Journey}
 use Rattle.serde_json.specs.Data.{Data}
-use Rattle.siri_calls.specs.Fields.{optional_member, required_member}
-use Rattle.siri_calls.specs.Forms.{text, day}
+use Rattle.siri_json.specs.Fields.{optional_member, required_member}
+use Rattle.siri_json.specs.Forms.{text, day}
 use Rattle.stop_schedule.specs.Table.{Table}
 use Rattle.siri_situations.specs.Steps.{gather, trees_at, walk}
 use Rattle.siri_situations.specs.declared.affected.AffectedKind.{AffectedKind}

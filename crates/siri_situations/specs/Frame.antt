@@ -1,21 +1,16 @@
 -- The frame of a delivery of situations: the way from its root to its situations (SIRI 2.0, Siri, ServiceDelivery,
 -- SituationExchangeDelivery, Situations, PtSituationElement).
-use Rattle.std.specs.Prelude.{List, [], ◌∷◌, codes, Result, Ok, Err}
+use Rattle.std.specs.Prelude.{List, [], ◌∷◌, Result, Ok, Err}
 use Rattle.std.specs.List.{flat_map}
 use Rattle.gw_base.specs.declared.member.Member.{Member}
 use Rattle.journey_model.specs.Chains.{◌>>=◌}
 use Rattle.serde_json.specs.Data.{Data}
-use Rattle.serde_json.specs.Find.{get}
-use Rattle.siri_calls.specs.Fields.{member_form}
-use Rattle.siri_calls.specs.Forms.{object_form}
-use Rattle.siri_calls.specs.Frame.{repeated_under, service_in, there}
-use Rattle.siri_calls.specs.declared.forms.Form.{Form}
-use Rattle.siri_calls.specs.declared.forms.Form.TheVariants.{Missing, Wrong, Found}
+use Rattle.siri_json.specs.Fields.{member_form}
+use Rattle.siri_json.specs.Forms.{object_form}
+use Rattle.siri_json.specs.Frame.{deliveries_in, repeated_under, service_in}
+use Rattle.siri_json.specs.declared.forms.Form.{Form}
+use Rattle.siri_json.specs.declared.forms.Form.TheVariants.{Missing, Wrong, Found}
 use Rattle.siri_situations.specs.Steps.{gather}
-
--- the deliveries of a service delivery
-abbrev pub deliveries_in : Data → Result (List Data) Member
-deliveries_in service = there Member.SituationExchangeDelivery (get (codes "SituationExchangeDelivery") service)
 
 -- the object of a delivery in which its situations stand, which may be missing
 abbrev pub group_form : Form Data → Result (List Data) Member
@@ -30,7 +25,7 @@ group delivery = group_form (member_form object_form Member.Situations delivery)
 abbrev pub groups_in : Data → Result (List Data) Member
 groups_in root = do
   service ← service_in root
-  deliveries ← deliveries_in service
+  deliveries ← deliveries_in Member.SituationExchangeDelivery service
   gather group deliveries
 
 -- the situations of a delivery's tree in document order, or the member that is wrong

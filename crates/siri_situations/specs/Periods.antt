@@ -8,8 +8,8 @@ use Rattle.journey_model.specs.declared.fault.Fault.TheVariants.{BadField}
 use Rattle.journey_model.specs.declared.situation.ValidPeriod.{ValidPeriod}
 use Rattle.serde_json.specs.Data.{Data}
 use Rattle.service_day.specs.declared.zones.Rules.{Rules}
-use Rattle.siri_calls.specs.Fields.{optional_member}
-use Rattle.siri_calls.specs.Forms.{moment}
+use Rattle.siri_json.specs.Fields.{optional_member}
+use Rattle.siri_json.specs.Forms.{moment}
 use Rattle.siri_situations.specs.Steps.{gather, trees_at}
 use Rattle.siri_situations.specs.declared.steps.Step.TheVariants.{Repeated}
 

@@ -1,16 +1,13 @@
 -- What words of SIRI mean: whether a situation is served (Progress), and its cause and effect as numbers of GTFS
 -- Realtime (Alert.Cause of the reason members, Alert.Effect of Condition).
-use Rattle.std.specs.Prelude.{◌||◌, ◌==◌, ℕ, ℤ, pos, Bool, true, not, List, map, length, codes, Option, Some, None, if◌then◌else◌}
-use Rattle.std.specs.Char.{to_ascii_lowercase}
+use Rattle.std.specs.Prelude.{◌||◌, ◌==◌, ℕ, ℤ, pos, Bool, true, not, List, length, codes, Option, Some, None, if◌then◌else◌}
 use Rattle.std.specs.Str.{bytes_eq}
 use Rattle.serde_json.specs.Data.{Data}
 use Rattle.serde_json.specs.Find.{get}
-use Rattle.siri_calls.specs.Frame.{repeated_at}
+use Rattle.siri_json.specs.Frame.{repeated_at}
+use Rattle.siri_json.specs.Words.{is_word}
 
--- a situation is served unless its progress is `closed` or `draft`, in any case of the letters
-abbrev pub is_word : List ℕ → List ℕ → Bool
-is_word word progress = bytes_eq (map to_ascii_lowercase progress) word
-
+-- a situation is served unless its progress is `closed` or `draft`
 abbrev pub is_served : Option (List ℕ) → Bool
 is_served None = true
 is_served (Some progress) = not (is_word (codes "closed") progress || is_word (codes "draft") progress)

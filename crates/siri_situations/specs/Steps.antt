@@ -4,8 +4,8 @@ use Rattle.std.specs.Prelude.{List, [], ◌∷◌, ◌++◌, option_to_list, unw
 use Rattle.journey_model.specs.Chains.{◌>>=◌}
 use Rattle.journey_model.specs.declared.fault.Fault.{Fault}
 use Rattle.serde_json.specs.Data.{Data}
-use Rattle.siri_calls.specs.Fields.{optional_member}
-use Rattle.siri_calls.specs.Forms.{object_form, objects}
+use Rattle.siri_json.specs.Fields.{optional_member}
+use Rattle.siri_json.specs.Forms.{object_form, objects}
 use Rattle.siri_situations.specs.declared.steps.Step.{Step}
 use Rattle.siri_situations.specs.declared.steps.Step.TheVariants.{Object, Repeated}
 

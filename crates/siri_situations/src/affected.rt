@@ -2,7 +2,7 @@
 ghost use Rattle.std.specs.Prelude.{◌≡◌, ◌++◌, Ok, IfErr, IfOk, map};
 ghost use Rattle.std.specs.List.{list_all};
 ghost use Rattle.json_tree.specs.Trees.{view};
-ghost use Rattle.siri_calls.specs.Shown.{ok_map, IsFaultOf};
+ghost use Rattle.siri_json.specs.Shown.{ok_map, IsFaultOf};
 ghost use Rattle.siri_situations.specs.Affected as spec;
 ghost use Rattle.siri_situations.specs.Shown.{all_seen};
 ghost use Rattle.siri_situations.specs.Steps.{gather};
@@ -14,8 +14,8 @@ use gw_base::{List, Member};
 use journey_model::{Fault, Ref};
 use json::Value;
 use service_day::Day;
-use siri_calls::fields::{optional_text, required_day, required_text};
-use siri_calls::read_fault::ReadFault;
+use siri_json::ReadFault;
+use siri_json::fields::{optional_text, required_day, required_text};
 use std::alloc::{AllocError, Global};
 use stop_schedule::Timetable;
 

@@ -1,69 +1,33 @@
 //! A delivery of situations. The functions meet `specs/Deliveries.antt`.
-ghost use Rattle.std.specs.Prelude.{◌++◌, ◌∷◌, [], ℕ, List as Values, Result as Answer, map, IfOk, OnOk};
+ghost use Rattle.std.specs.Prelude.{◌++◌, ℕ, List as Values, Result as Answer, map, IfOk, OnOk};
 ghost use Rattle.std.specs.List.{flat_map};
 ghost use Rattle.gw_base.specs.declared.member.Member.TheVariants as Member;
 ghost use Rattle.journey_model.specs.Schedules.{schedule_of};
 ghost use Rattle.journey_model.specs.declared.fault.Fault as faults;
 ghost use Rattle.journey_model.specs.declared.situation.Situation as of_journeys;
 ghost use Rattle.json_tree.specs.Trees.{view};
-ghost use Rattle.siri_calls.specs.Frame.{repeated_under as trees_under};
-ghost use Rattle.siri_situations.specs.Deliveries.{HasVerdicts, ReadsSituations, ReadsTree, ReferToKnown};
+ghost use Rattle.siri_json.specs.Deliveries.{HasVerdicts, ReadsTree};
+ghost use Rattle.siri_json.specs.Frame.{repeated_under as trees_under};
+ghost use Rattle.siri_situations.specs.Deliveries.{same, ReadsSituations, ReferToKnown};
 ghost use Rattle.siri_situations.specs.Shown.{all_seen};
 ghost use Rattle.siri_situations.specs.Situations as spec;
 
 use crate::frame::groups_in;
 use crate::situations::verdict;
 use crate::steps::Branch;
-use gw_base::{List, Member};
-use journey_model::{Context, Fault, Situation};
+use gw_base::Member;
+use journey_model::{Context, Situation};
 use json::{Scratch, Value};
 use json_tree::read_tree;
-use siri_calls::DeliveryFault;
-use siri_calls::frame::repeated_under;
-use siri_calls::read_fault::ReadFault;
+use siri_json::DeliveryFault;
+use siri_json::frame::repeated_under;
 use std::alloc::{AllocError, Global};
 
-/// What an item of a delivery is.
-#[derive(Debug, Drop)]
-pub enum Item {
-    /// A situation.
-    Taken(Situation),
-    /// It is set aside.
-    Aside(Fault),
-}
+/// What an item of a delivery is: a situation, or the fault for which it is set aside.
+pub type Item = siri_json::Item<Situation>;
 
-/// What a delivery says.
-#[derive(Debug, Drop)]
-pub struct SituationDelivery {
-    /// Its items, in document order.
-    pub items: List<Item>,
-    /// How many references of the situations that are taken aren't known; a count stays at its last
-    /// value.
-    pub passed: u64,
-}
-
-// What an item is, behind those before.
-fn add_item(
-    alloc: Global,
-    delivery: &mut SituationDelivery,
-    tree: &Value<'_>,
-    context: &Context<'_>,
-) -> Result<(), AllocError>
-    ensures { (earlier : Values (Answer (of_journeys.Situation × ℕ) faults.Fault))
-        → HasVerdicts delivery.old earlier
-        → OnOk result (HasVerdicts delivery.new
-        (earlier ++ spec.verdict (schedule_of context.now) (view tree.now) ∷ [])) }
-{
-    match verdict(alloc, tree, context) {
-        Ok((situation, unknown)) => {
-            delivery.items.push(Item::Taken(situation))?;
-            delivery.passed = delivery.passed.saturating_add(unknown);
-            Ok(())
-        }
-        Err(ReadFault::Aside(fault)) => delivery.items.push(Item::Aside(fault)),
-        Err(ReadFault::Memory) => Err(AllocError),
-    }
-}
+/// What a delivery of situations says. The references of the situations that are taken which aren't known are counted.
+pub type SituationDelivery = siri_json::Delivery<Situation>;
 
 // What the items are that stand in an object, behind those before.
 fn add_items(
@@ -73,14 +37,15 @@ fn add_items(
     context: &Context<'_>,
 ) -> Result<(), AllocError>
     ensures { (earlier : Values (Answer (of_journeys.Situation × ℕ) faults.Fault))
-        → HasVerdicts delivery.old earlier
-        → OnOk result (HasVerdicts delivery.new
+        → HasVerdicts same delivery.old earlier
+        → OnOk result (HasVerdicts same delivery.new
         (earlier ++ map (spec.verdict (schedule_of context.now))
         (trees_under Member.PtSituationElement (view group.now)))) }
 {
     let trees = repeated_under(group, Member::PtSituationElement);
     for tree in trees {
-        add_item(alloc, delivery, tree, context)?;
+        let answer = verdict(alloc, tree, context);
+        delivery.add(answer)?;
     }
     Ok(())
 }
@@ -91,14 +56,11 @@ fn all_items(
     groups: &[Branch<'_, '_>],
     context: &Context<'_>,
 ) -> Result<SituationDelivery, AllocError>
-    ensures { IfOk result (λ delivery. HasVerdicts delivery
+    ensures { IfOk result (λ delivery. HasVerdicts same delivery
         (map (spec.verdict (schedule_of context.now))
         (flat_map (trees_under Member.PtSituationElement) (all_seen groups.now)))) }
 {
-    let mut delivery = SituationDelivery {
-        items: List::new(alloc),
-        passed: 0,
-    };
+    let mut delivery = SituationDelivery::new(alloc);
     for group in groups {
         add_items(alloc, &mut delivery, group.tree, context)?;
     }
@@ -111,7 +73,7 @@ fn tree_delivery(
     root: &Value<'_>,
     context: &Context<'_>,
 ) -> Result<SituationDelivery, DeliveryFault>
-    ensures reads { ReadsTree (spec.verdicts (schedule_of context.now) (view root.now)) result }
+    ensures reads { ReadsTree same (spec.verdicts (schedule_of context.now) (view root.now)) result }
     ensures known { IfOk result (λ delivery.
         ReferToKnown (schedule_of context.now).table delivery.items) }
 {

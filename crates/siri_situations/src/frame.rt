@@ -1,7 +1,7 @@
 //! The way down from the root of a delivery to its situations. The functions meet `specs/Frame.antt`.
 ghost use Rattle.std.specs.Prelude.{◌≡◌, Ok, IfErr, IfOk, map};
 ghost use Rattle.json_tree.specs.Trees.{view};
-ghost use Rattle.siri_calls.specs.Shown.{ok_map, trees_of, IsFrameFault};
+ghost use Rattle.siri_json.specs.Shown.{ok_map, trees_of, IsFrameFault};
 ghost use Rattle.siri_situations.specs.Frame as spec;
 ghost use Rattle.siri_situations.specs.Shown.{all_seen};
 ghost use Rattle.siri_situations.specs.Steps.{gather};
@@ -9,30 +9,11 @@ ghost use Rattle.siri_situations.specs.Steps.{gather};
 use crate::steps::{Branch, add_trees};
 use gw_base::Member;
 use json::Value;
-use json_tree::find;
-use siri_calls::DeliveryFault;
-use siri_calls::forms::{Form, none, objects};
-use siri_calls::frame::{object_at, service_in};
+use siri_json::DeliveryFault;
+use siri_json::forms::{Form, none};
+use siri_json::frame::{deliveries_in, object_at, service_in};
 use std::alloc::Global;
 use std::slice;
-
-// The deliveries of a service delivery, which have to be there.
-fn deliveries_in<'t, 'a>(service: &'t Value<'a>) -> Result<&'t [Value<'a>], Member>
-    ensures { ok_map trees_of result ≡ spec.deliveries_in (view service.now) }
-{
-    let Some(found) = find(service, "SituationExchangeDelivery") else {
-        return Err(Member::SituationExchangeDelivery);
-    };
-    match found {
-        Value::Array(_) | Value::Object(_) => match objects(found) {
-            Form::Missing | Form::Wrong => Err(Member::SituationExchangeDelivery),
-            Form::Found(trees) => Ok(trees),
-        },
-        Value::Null | Value::Bool(_) | Value::Number(_) | Value::String(_) => {
-            Err(Member::SituationExchangeDelivery)
-        }
-    }
-}
 
 // The object in which the situations of a delivery stand, if it is there.
 fn group<'t, 'a>(delivery: &'t Value<'a>) -> Result<&'t [Value<'a>], Member>
@@ -76,6 +57,6 @@ pub(crate) fn groups_in<'t, 'a>(
     ensures fault { IfErr result (IsFrameFault (spec.groups_in (view root.now))) }
 {
     let service = service_in(root)?;
-    let deliveries = deliveries_in(service)?;
+    let deliveries = deliveries_in(service, Member::SituationExchangeDelivery)?;
     groups_of(alloc, deliveries)
 }

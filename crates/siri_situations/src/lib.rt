@@ -13,4 +13,4 @@ mod steps;
 
 pub use delivery::{Item, SituationDelivery, read_situations};
 pub use journey_model::{Ref, Situation, ValidPeriod};
-pub use siri_calls::DeliveryFault;
+pub use siri_json::DeliveryFault;

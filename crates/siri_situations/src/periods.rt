@@ -2,7 +2,7 @@
 ghost use Rattle.std.specs.Prelude.{◌≡◌, Ok, IfErr, IfOk, map, option_map, option_to_list};
 ghost use Rattle.std.specs.List.{list_all};
 ghost use Rattle.json_tree.specs.Trees.{view};
-ghost use Rattle.siri_calls.specs.Shown.{ok_map, instant_of, IsFaultOf};
+ghost use Rattle.siri_json.specs.Shown.{ok_map, instant_of, IsFaultOf};
 ghost use Rattle.siri_situations.specs.Periods as spec;
 ghost use Rattle.siri_situations.specs.Steps.{gather};
 
@@ -11,8 +11,8 @@ use gw_base::{List, Member};
 use journey_model::{Fault, ValidPeriod};
 use json::Value;
 use service_day::{Instant, Zone};
-use siri_calls::fields::optional_moment;
-use siri_calls::read_fault::ReadFault;
+use siri_json::ReadFault;
+use siri_json::fields::optional_moment;
 use std::alloc::Global;
 
 // The whole seconds of an instant.

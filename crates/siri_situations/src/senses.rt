@@ -9,7 +9,7 @@ use gw_base::alert_effect::{
 };
 use json::Value;
 use json_tree::find;
-use siri_calls::forms::repeated;
+use siri_json::forms::repeated;
 
 // Whether a situation with this progress is served.
 fn is_served_at(progress: &str) -> bool

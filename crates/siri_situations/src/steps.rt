@@ -1,16 +1,16 @@
 //! The way down from an object to what stands in it. The functions meet `specs/Steps.antt`.
 ghost use Rattle.std.specs.Prelude.{◌≡◌, ◌++◌, map, Ok, IfErr, IfOk, OnOk};
 ghost use Rattle.json_tree.specs.Trees.{view};
-ghost use Rattle.siri_calls.specs.Shown.{ok_map, trees_of, IsFaultOf};
+ghost use Rattle.siri_json.specs.Shown.{ok_map, trees_of, IsFaultOf};
 ghost use Rattle.siri_situations.specs.Shown.{all_seen};
 ghost use Rattle.siri_situations.specs.Steps as spec;
 
 use gw_base::Member;
 use journey_model::Fault;
 use json::Value;
-use siri_calls::fields::{optional_object, optional_objects};
-use siri_calls::forms::none;
-use siri_calls::read_fault::ReadFault;
+use siri_json::ReadFault;
+use siri_json::fields::{optional_object, optional_objects};
+use siri_json::forms::none;
 use std::alloc::{AllocError, Global};
 use std::slice;
 

@@ -5,7 +5,7 @@ ghost use Rattle.std.specs.Ordering.{nat_cmp};
 ghost use Rattle.feed_index.specs.Entries.{put_all};
 ghost use Rattle.journey_model.specs.Schedules.{schedule_of};
 ghost use Rattle.journey_model.specs.declared.situation.Situation as of_journeys;
-ghost use Rattle.siri_calls.specs.declared.delivery.DeliveryFault.TheVariants as DeliveryFault;
+ghost use Rattle.siri_json.specs.declared.delivery.DeliveryFault.TheVariants as DeliveryFault;
 ghost use Rattle.stop_schedule.specs.Seen.{seen};
 ghost use Rattle.gateway_core.specs.Arrivals.{Arrival};
 ghost use Rattle.gateway_core.specs.SituationSteps as spec;

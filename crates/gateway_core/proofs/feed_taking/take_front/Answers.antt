@@ -1,4 +1,4 @@
-use Rattle.std.proofs.Common.{◌≡◌, ◌∷◌, ◌++◌, [], ℕ, List, Option, Some, None, take, subst}
+use Rattle.std.proofs.Common.{◌∷◌, ◌++◌, [], ℕ, Option, Some, None, subst}
 use Rattle.gw_base.specs.declared.messages.Entity.{Entity}
 use Rattle.feed_messages.specs.FeedPieces.{GoesOn}
 use Rattle.gateway_core.proofs.feed_taking.take_front.Goals as goal

@@ -2,8 +2,9 @@
 use Rattle.std.proofs.Common.{◌∙◌, ◌++◌, ap, arith, List, reverse, subst, sym, take, ℕ, Option}
 use Rattle.journey_model.specs.Schedules.{schedule_of}
 use Rattle.journey_model.specs.declared.fault.Fault.{Fault}
+use Rattle.journey_model.specs.declared.readings.JourneyRecord.{JourneyRecord}
 use Rattle.siri_calls.specs.Deliveries.{CanServe}
-use Rattle.siri_calls.specs.declared.delivery.Item.{Item}
+use Rattle.siri_json.specs.declared.delivery.Item.{Item}
 use Rattle.gateway_core.specs.JourneySteps.{GathersItems, item_fault, numbered, seen_after}
 use Rattle.gateway_core.proofs.JourneyLemmas.{front_left, gathers_more, next_holds, next_left, one_aside, place_left, rest_left}
 use Rattle.gateway_core.proofs.journeys.take_items.Goals as goal
@@ -22,7 +23,7 @@ loop-item-preserved c =
       same = c.take_item.ensures.same ∙ c.loop-item.invariant.same;
       few = one_aside c.loop-item.aside c.add_aside.new.aside n c.in_ok-fault.fault c.in_ok-add_aside.ensures c.loop-item.invariant.few;
       gathered = λ before h.
-          subst (λ (these : List Item). GathersItems schedule before these (seen_after c.take_item.new.draft) c.add_aside.new.aside) (sym (front_left c.args.items rest n one there))
+          subst (λ (these : List (Item JourneyRecord)). GathersItems schedule before these (seen_after c.take_item.new.draft) c.add_aside.new.aside) (sym (front_left c.args.items rest n one there))
           (gathers_more schedule before (take n c.args.items) one (seen_after c.loop-item.draft) (seen_after c.take_item.new.draft) c.loop-item.aside c.add_aside.new.aside
           holds.0 holds.1 c.in_ok-fault.ensures.put c.in_ok-fault.ensures.entries
           (c.in_ok-add_aside.ensures

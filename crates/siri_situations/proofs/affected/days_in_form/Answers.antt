@@ -1,5 +1,5 @@
 use Rattle.std.proofs.Common.{◌∙◌}
-use Rattle.siri_calls.proofs.TreeLemmas.{list_all-map}
+use Rattle.siri_json.proofs.TreeLemmas.{list_all-map}
 use Rattle.siri_situations.specs.Affected.{day_in_form}
 use Rattle.siri_situations.specs.Shown.{seen}
 use Rattle.siri_situations.proofs.affected.days_in_form.Goals as goal

@@ -1,11 +1,10 @@
 -- An alert with a fault is set aside, and one without is taken.
-use Rattle.std.proofs.Common.{◌≡◌, Some, None, Ok, Err}
+use Rattle.std.proofs.Common.{◌≡◌, Some, Err}
 use Rattle.std.proofs.lemmas.Result.{on_ok_weaker}
 use Rattle.stop_schedule.specs.Seen.{seen}
-use Rattle.reverse_alerts.specs.Senses.{sense}
-use Rattle.reverse_alerts.specs.Taken.{situation_of, verdict}
+use Rattle.reverse_alerts.specs.Taken.{verdict}
 use Rattle.reverse_alerts.proofs.ProgressLemmas.{told, verdict_by}
-use Rattle.reverse_alerts.proofs.SituationLemmas.{aside_report, aside_text, taken_report, taken_text}
+use Rattle.reverse_alerts.proofs.SituationLemmas.{aside_report, aside_text}
 use Rattle.reverse_alerts.proofs.writing.Writing.take_alert.Goals as goal
 
 pub add-requires-clause-told : goal.add-requires-clause-told

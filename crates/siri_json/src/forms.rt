@@ -4,8 +4,8 @@ ghost use Rattle.std.specs.Char.{is_ascii_digit};
 ghost use Rattle.std.specs.List.{list_all};
 ghost use Rattle.serde_json.specs.Find.{get};
 ghost use Rattle.json_tree.specs.Trees.{view};
-ghost use Rattle.siri_calls.specs.Forms as spec;
-ghost use Rattle.siri_calls.specs.Shown.{text_form, moment_form, tree_form, trees_form};
+ghost use Rattle.siri_json.specs.Forms as spec;
+ghost use Rattle.siri_json.specs.Shown.{text_form, moment_form, tree_form, trees_form};
 
 use json::Value;
 use json_tree::{find, whole_number};

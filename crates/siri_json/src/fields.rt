@@ -1,10 +1,9 @@
 //! The members of an item, each read in its form. The functions meet `specs/Fields.antt`.
 ghost use Rattle.std.specs.Prelude.{◌≡◌};
 ghost use Rattle.json_tree.specs.Trees.{view};
-ghost use Rattle.siri_calls.specs.Fields as spec;
-ghost use Rattle.siri_calls.specs.Forms as forms;
-ghost use Rattle.siri_calls.specs.Shown.{optional_text, optional_moment, optional_tree};
-ghost use Rattle.siri_calls.specs.Shown.{optional_trees, required_text, required_tree};
+ghost use Rattle.siri_json.specs.Fields as spec;
+ghost use Rattle.siri_json.specs.Forms as forms;
+ghost use Rattle.siri_json.specs.Shown.{optional_moment, optional_text, optional_tree, optional_trees, required_text, required_tree};
 
 use crate::forms::{Form, day, flag, moment, object_form, objects, text, whole};
 use gw_base::Member;

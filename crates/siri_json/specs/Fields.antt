@@ -6,8 +6,8 @@ use Rattle.journey_model.specs.declared.fault.Fault.{Fault}
 use Rattle.journey_model.specs.declared.fault.Fault.TheVariants.{BadField}
 use Rattle.serde_json.specs.Data.{Data}
 use Rattle.serde_json.specs.Find.{get}
-use Rattle.siri_calls.specs.declared.forms.Form.{Form}
-use Rattle.siri_calls.specs.declared.forms.Form.TheVariants.{Missing, Wrong, Found}
+use Rattle.siri_json.specs.declared.forms.Form.{Form}
+use Rattle.siri_json.specs.declared.forms.Form.TheVariants.{Missing, Wrong, Found}
 
 -- what a form is where the member may be missing, and where it is required
 abbrev pub optional : {A : Type 0} → Member → Form A → Result (Option A) Fault

@@ -4,8 +4,8 @@ use Rattle.std.specs.List.{list_all}
 use Rattle.serde_json.specs.Data.{Data}
 use Rattle.serde_json.specs.View.{items_of}
 use Rattle.json_tree.specs.Trees.{Tree, view}
-use Rattle.siri_calls.specs.Forms.{listed, is_object, objects, repeated}
-use Rattle.siri_calls.specs.declared.forms.Form.TheVariants.{Wrong, Found}
+use Rattle.siri_json.specs.Forms.{listed, is_object, objects, repeated}
+use Rattle.siri_json.specs.declared.forms.Form.TheVariants.{Wrong, Found}
 
 -- an array made of a list has the list's items
 pub listed-items_of : (trees : List Data) → listed (items_of trees) ≡ trees

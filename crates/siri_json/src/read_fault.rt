@@ -13,7 +13,7 @@ pub enum ReadFault {
 
 impl From<Fault> for ReadFault {
     ghost use Rattle.std.specs.Prelude.{◌≡◌};
-    ghost use Rattle.siri_calls.specs.declared.read_fault.ReadFault.TheVariants.{Aside};
+    ghost use Rattle.siri_json.specs.declared.read_fault.ReadFault.TheVariants.{Aside};
 
     ghost from_gives = { λ fault e. e ≡ Aside fault };
 
@@ -24,7 +24,7 @@ impl From<Fault> for ReadFault {
 
 impl From<AllocError> for ReadFault {
     ghost use Rattle.std.specs.Prelude.{◌≡◌};
-    ghost use Rattle.siri_calls.specs.declared.read_fault.ReadFault.TheVariants.{Memory};
+    ghost use Rattle.siri_json.specs.declared.read_fault.ReadFault.TheVariants.{Memory};
 
     ghost from_gives = { λ _ e. e ≡ Memory };
 
@@ -35,7 +35,7 @@ impl From<AllocError> for ReadFault {
 
 impl<T: Drop> From<AllocFailed<T>> for ReadFault {
     ghost use Rattle.std.specs.Prelude.{◌≡◌};
-    ghost use Rattle.siri_calls.specs.declared.read_fault.ReadFault.TheVariants.{Memory};
+    ghost use Rattle.siri_json.specs.declared.read_fault.ReadFault.TheVariants.{Memory};
 
     ghost from_gives = { λ _ e. e ≡ Memory };
 

@@ -10,8 +10,8 @@ use Rattle.service_day.specs.declared.zones.Rules.{Rules}
 use Rattle.stop_schedule.specs.Forms.{digits_value}
 use Rattle.serde_json.specs.Data.{Data, null, boolean, number, string, array, object, Num, unsigned, negative, float, Items, no_items, item}
 use Rattle.serde_json.specs.Find.{get_member}
-use Rattle.siri_calls.specs.declared.forms.Form.{Form}
-use Rattle.siri_calls.specs.declared.forms.Form.TheVariants.{Missing, Wrong, Found}
+use Rattle.siri_json.specs.declared.forms.Form.{Form}
+use Rattle.siri_json.specs.declared.forms.Form.TheVariants.{Missing, Wrong, Found}
 
 -- the form of what is made of a value that was found
 abbrev pub then_form : {A B : Type 0} → Form A → (A → Form B) → Form B

@@ -1,0 +1,3 @@
+pub mod DeliveryLemmas
+pub mod FormLemmas
+pub mod TreeLemmas
