@@ -84,7 +84,8 @@ numbered number (Some fault) = (number, fault) ∷ []
 pub record GathersItems (schedule : Schedule) (before : List Recorded) (items : List (Item JourneyRecord))
     (entries : List JourneyEntry) (aside : List (ℕ × Fault)) : Type 0 where
   pub entries_are : JourneysAfter schedule before (map (shown recorded) items) entries
-  pub aside_are : aside ≡ aside_from 0 (map result_err (journeys_with_room schedule.window before (map (shown recorded) items)))
+  pub aside_are : aside
+      ≡ aside_from 0 (map result_err (journeys_with_room schedule.window before (map (shown recorded) items)))
 
 -- after all of them: what is kept, and the report
 pub record GathersJourneys (schedule : Schedule) (before : List Recorded) (delivery : Delivery JourneyRecord)

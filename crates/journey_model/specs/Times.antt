@@ -1,6 +1,6 @@
 -- Times of arrival and departure against the planned ones (GTFS Realtime reference, StopTimeEvent; SIRI 2.0, the
 -- times of EstimatedCall).
-use Rattle.std.specs.Prelude.{ℕ, ℤ, pos, negsuc, ◌+ℤ◌, ◌-ℤ◌, Bool, ◌&&◌, int_le, Option, Some, None, if◌then◌else◌}
+use Rattle.std.specs.Prelude.{ℕ, ℤ, pos, negsuc, ◌+ℤ◌, ◌-ℤ◌, ◌≤ℤ◌, Bool, ◌&&◌, int_le, Option, Some, None, if◌then◌else◌}
 use Rattle.std.specs.Option.{option_or}
 use Rattle.journey_model.specs.declared.fault.Fault.{Fault}
 use Rattle.journey_model.specs.declared.fault.Fault.TheVariants.{DelayRange}
@@ -26,3 +26,14 @@ event_fault number planned (Some time) =
 abbrev pub delay_fault : ℕ → ℤ × ℤ → Option ℤ → Option ℤ → Option Fault
 delay_fault number planned arrival departure =
     option_or (event_fault number planned.0 arrival) (event_fault number planned.1 departure)
+
+-- a planned time is a moment and at most as many seconds more as a row of a stop counts
+abbrev pub IsPlanned : ℤ → Type 0
+IsPlanned secs = (pos 0 ≤ℤ secs) × (secs ≤ℤ pos 257665732094)
+
+abbrev pub ArePlanned : ℤ × ℤ → Type 0
+ArePlanned planned = IsPlanned planned.0 × IsPlanned planned.1
+
+-- a time that can be told apart from a planned one in 64 bits: a moment is one, and so is one a week from a planned one
+abbrev pub IsTime : ℤ → Type 0
+IsTime secs = (negsuc 604799 ≤ℤ secs) × (secs ≤ℤ pos 257666336894)

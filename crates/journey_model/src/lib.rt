@@ -9,6 +9,7 @@ mod matching;
 mod readings;
 mod report;
 mod situation;
+mod times;
 
 pub use context::{Context, DatedTrip};
 pub use fault::{Fault, FaultText, fault_text};
@@ -16,3 +17,4 @@ pub use matching::{MatchFault, NamedStop, match_call, match_update};
 pub use readings::{DatedReading, JourneyReading, JourneyRecord, StopReading};
 pub use report::Report;
 pub use situation::{Ref, Situation, ValidPeriod};
+pub use times::{both_times, delay_fault, planned_times};

@@ -2,8 +2,9 @@
 use Rattle.std.proofs.Common.{◌≡◌, ℕ, ℤ, ◌+ℤ◌, ◌-ℤ◌, Bool, true, false, Option, Some, None, if◌then◌else◌, refl, sym, arith}
 use Rattle.std.proofs.lemmas.Int.{ints}
 use Rattle.std.proofs.lemmas.Option.{none-some}
-use Rattle.std.specs.Option.{option_or}
-use Rattle.journey_model.specs.Times.{both_times, delay_fault, event_fault, is_delay}
+use Rattle.std.specs.Option.{ForSome, option_or}
+use Rattle.journey_model.proofs.Delays.{near_time}
+use Rattle.journey_model.specs.Times.{ArePlanned, IsPlanned, IsTime, both_times, delay_fault, event_fault, is_delay}
 use Rattle.journey_model.specs.declared.fault.Fault.{Fault}
 use Rattle.journey_model.specs.declared.fault.Fault.TheVariants.{DelayRange}
 
@@ -54,3 +55,13 @@ times_near number planned None (Some d) both e same =
       departure = near;
     })
 times_near number planned None None both e same = absurd (none-some both same)
+
+-- a time without a fault is near enough
+pub time_in : (number : ℕ) (planned : ℤ) (time : Option ℤ) → IsPlanned planned → event_fault number planned time ≡ None → ForSome time IsTime
+time_in number planned time range none = λ value is. near_time planned value range (event_near number planned value (rw is at none))
+
+pub times_in : (number : ℕ) (planned : ℤ × ℤ) (arrival departure : Option ℤ) → ArePlanned planned → delay_fault number planned arrival departure ≡ None
+    → ForSome arrival IsTime × ForSome departure IsTime
+times_in number planned arrival departure range none =
+    let each = or-none (event_fault number planned.0 arrival) (event_fault number planned.1 departure) none in
+    (time_in number planned.0 arrival range.0 each.0, time_in number planned.1 departure range.1 each.1)

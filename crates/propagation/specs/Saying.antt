@@ -1,5 +1,5 @@
 -- What an update says at its place (GTFS Realtime reference, StopTimeUpdate).
-use Rattle.std.specs.Prelude.{◌||◌, ℕ, ℤ, pos, ◌-ℤ◌, ◌≤ℤ◌, Bool, List, map, Option, Some, None, Result, Ok, Err, if◌then◌else◌}
+use Rattle.std.specs.Prelude.{◌||◌, ℕ, ℤ, ◌-ℤ◌, Bool, List, map, Option, Some, None, Result, Ok, Err, if◌then◌else◌}
 use Rattle.std.specs.List.{zip}
 use Rattle.gw_base.specs.declared.messages.StopUpdate.{StopUpdate}
 use Rattle.journey_model.specs.Runs.{Run, planned_at}
@@ -10,13 +10,6 @@ use Rattle.journey_model.specs.declared.fault.Fault.TheVariants.{NoTime}
 use Rattle.propagation.specs.declared.placing.Placed.{Placed}
 use Rattle.propagation.specs.declared.placing.Says.{Says}
 use Rattle.propagation.specs.declared.placing.Says.TheVariants.{Skipped, NoData, Timed}
-
--- a planned time: a moment, and up to 4,294,967,295 seconds
-abbrev pub IsPlanned : ℤ → Type 0
-IsPlanned secs = (pos 0 ≤ℤ secs) × (secs ≤ℤ pos 257665732094)
-
-abbrev pub ArePlanned : ℤ × ℤ → Type 0
-ArePlanned planned = IsPlanned planned.0 × IsPlanned planned.1
 
 -- the relation of the update is read
 abbrev pub is_read : StopUpdate → Bool

@@ -4,11 +4,12 @@ ghost use Rattle.std.specs.Prelude.{◌≡◌, ◌<◌, ℕ, true, Ok, Some, IsT
 ghost use Rattle.std.specs.Option.{option_copied};
 ghost use Rattle.std.specs.Str.{bytes_eq};
 ghost use Rattle.journey_model.specs.Dated.{run_of};
+ghost use Rattle.journey_model.specs.Times.{ArePlanned};
 ghost use Rattle.journey_model.specs.Updates as spec;
 ghost use Rattle.propagation.specs.Answers.{Propagates};
-ghost use Rattle.propagation.specs.Saying.{ArePlanned, is_read, placed_all, placed_by, said_at, said_by_events};
+ghost use Rattle.propagation.specs.Saying.{is_read, placed_all, placed_by, said_at, said_by_events};
 
-use crate::events::{event_time, planned_at, said_times};
+use crate::events::{event_time, said_times};
 use crate::room::with_room;
 use crate::update_fault::UpdateFault;
 use gw_base::stop_relation::{NO_DATA, SCHEDULED, SKIPPED};
@@ -158,7 +159,7 @@ fn placed_at(
     ensures { (ids : Values (Values ℕ)) → let run = run_of ids dated.now in
         result ≡ placed_by run update.now (spec.place_timed run number update.now (Ok place)) }
 {
-    match said_at(number, planned_at(dated, place), update) {
+    match said_at(number, dated.planned_at(place), update) {
         Ok(says) => Ok(Placed { place, says }),
         Err(fault) => Err(fault),
     }

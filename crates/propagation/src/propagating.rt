@@ -5,10 +5,10 @@ ghost use Rattle.std.specs.List.{range_with_len};
 ghost use Rattle.gw_base.specs.declared.messages.StopUpdate.{StopUpdate};
 ghost use Rattle.journey_model.specs.Dated.{run_of};
 ghost use Rattle.journey_model.specs.Propagation.{prop};
-ghost use Rattle.propagation.specs.Saying.{ArePlanned, placed_at};
+ghost use Rattle.journey_model.specs.Times.{ArePlanned};
+ghost use Rattle.propagation.specs.Saying.{placed_at};
 ghost use Rattle.propagation.specs.Spreading.{are_rising_from, delay_behind, first_at, later, reading_at};
 
-use crate::events::planned_times;
 use crate::placing::{Placed, Says};
 use crate::room::with_room;
 use gw_base::List;
@@ -87,7 +87,7 @@ pub(crate) fn readings(
     let mut delay = None;
     for (place, row) in dated.stops.iter().enumerate() {
         let said = first_at(rest, place);
-        all.push(reading_at(planned_times(dated, row), delay, said))?;
+        all.push(reading_at(dated.planned_times(row), delay, said))?;
         delay = delay_behind(delay, said);
         if said.is_some() {
             rest = behind_first(rest);

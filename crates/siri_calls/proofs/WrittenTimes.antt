@@ -1,5 +1,5 @@
 -- The times that a journey says are moments.
-use Rattle.std.proofs.Common.{◌≡◌, ℕ, ℤ, pos, negsuc, map, ap, ◌+ℤ◌, ◌-ℤ◌, ◌≤◌, ◌<◌, ◌≤ℤ◌, Bool, true, false, ◌&&◌, List, [], ◌∷◌, length, slice_get, Option, Some, None, option_map, sym, int_le, nat_le, refl, arith, suc, zero}
+use Rattle.std.proofs.Common.{◌≡◌, ℕ, ℤ, pos, map, ap, ◌+ℤ◌, ◌-ℤ◌, ◌≤◌, ◌<◌, Bool, true, false, ◌&&◌, List, [], ◌∷◌, length, slice_get, Option, Some, None, option_map, sym, nat_le, refl, arith, suc, zero}
 use Rattle.std.specs.List.{list_all}
 use Rattle.std.proofs.lemmas.Bool.Decides.{nat_tests}
 use Rattle.std.proofs.lemmas.Int.{ints}
@@ -9,6 +9,7 @@ use Rattle.gw_base.specs.Moments.{IsMoment}
 use Rattle.stop_schedule.specs.Planned.{planned}
 use Rattle.stop_schedule.specs.Stops.{is_timed}
 use Rattle.stop_schedule.specs.declared.stop_times.StopRow.{StopRow}
+use Rattle.journey_model.proofs.Delays.{delay-range}
 use Rattle.journey_model.specs.Readings.{are_near, fits_trip, is_near}
 use Rattle.journey_model.specs.Runs.{Run}
 use Rattle.journey_model.specs.Schedules.{Schedule, run_from, run_on}
@@ -40,16 +41,10 @@ pub planned_times : (start : ℤ) (row : StopRow) → IsDayStart start → is_ti
 planned_times start row day timed =
     (within_day start row.arrival day (few row timed).0, within_day start row.departure day (few row timed).1)
 
--- a delay, as facts
-week : (delay : ℤ) → is_delay delay ≡ true → (negsuc 604799 ≤ℤ delay) × (delay ≤ℤ pos 604800)
-week delay h =
-    let both_bounds = both (int_le (negsuc 604799) delay) (int_le delay (pos 604800)) h in
-    (omega (arith, ints, both_bounds.0), omega (arith, ints, both_bounds.1))
-
 -- a time at most a week from a planned one
 near_moment : (start : ℤ) (seconds : ℕ) (time : ℤ) → IsDayStart start → seconds ≤ 359999 → is_delay (time -ℤ (start +ℤ pos seconds)) ≡ true → IsMoment time
 near_moment start seconds time day few near =
-    let bounds = week (time -ℤ (start +ℤ pos seconds)) near in
+    let bounds = delay-range (time -ℤ (start +ℤ pos seconds)) near in
     omega (arith, ints, day, bounds.0, bounds.1)
 
 pub says_moments : (start : ℤ) (row : StopRow) (reading : StopReading) → IsDayStart start → is_timed row ≡ true

@@ -1,5 +1,5 @@
 -- What calls show with their stops, and with their places.
-use Rattle.std.specs.Prelude.{◌+◌, ◌≤ℤ◌, ℤ, pos, ◌&&◌, ℕ, Bool, true, nat_le, List, [], ◌∷◌}
+use Rattle.std.specs.Prelude.{◌+◌, ◌&&◌, ℕ, Bool, true, nat_le, List, [], ◌∷◌}
 use Rattle.siri_calls.specs.Journeys.{Call}
 use Rattle.siri_calls.specs.Seen.{call_of}
 use Rattle.siri_calls.specs.declared.matching_calls.StopCall.{StopCall}
@@ -12,10 +12,6 @@ stop_call one = (one.stop.0, (one.number, call_of one.call.now))
 -- its place, and the call with its number
 abbrev pub placed_call : PlacedCall → ℕ × (ℕ × Call)
 placed_call one = (one.place, (one.number, call_of one.call.now))
-
--- a planned time is a moment and at most as many seconds more as a row of a stop counts
-abbrev pub IsPlanned : ℤ → Type 0
-IsPlanned time = (pos 0 ≤ℤ time) × (time ≤ℤ pos 257665732094)
 
 -- the places rise, from a place on
 abbrev pub rise_from : ℕ → List (ℕ × (ℕ × Call)) → Bool

@@ -24,8 +24,8 @@ use std::alloc::{AllocError, Global};
 /// What an item of a delivery is: a record of a journey, or the fault for which it is set aside.
 pub type Item = siri_json::Item<JourneyRecord>;
 
-/// What a delivery of estimated timetables says. The calls of the journeys that are taken which were passed over as extra
-/// ones are counted.
+/// What a delivery of estimated timetables says. Of the journeys that are taken, the calls that were passed over as
+/// extra ones are counted.
 pub type Delivery = siri_json::Delivery<JourneyRecord>;
 
 // What the items below a frame are, behind those before.

@@ -107,9 +107,9 @@ fn extras(calls: &[Option<Call<'_>>]) -> u64
 
 /// What a journey is by its header and its calls, of which those that are None are extra ones (SIRI 2.0,
 /// EstimatedVehicleJourney): its record with the number of its extra calls, or the first fault in this order. It is an
-/// extra journey; no carried trip has its id; its day isn't in the window; the trip doesn't run on it; and, unless it is
-/// cancelled: a call is of a stop that the trip doesn't have; a call is of no stop behind the one before; a time is over
-/// a week from the planned one.
+/// extra journey; no carried trip has its id; its day isn't in the window; the trip doesn't run on it; and, unless it
+/// is cancelled: a call is of a stop that the trip doesn't have; a call is of no stop behind the one before; a time is
+/// over a week from the planned one.
 pub(crate) fn judged(
     alloc: Global,
     context: &Context<'_>,

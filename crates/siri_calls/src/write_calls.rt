@@ -16,17 +16,6 @@ use journey_model::{JourneyReading, StopReading};
 use std::alloc::AllocError;
 use stop_schedule::StopRow;
 
-// The planned arrival and departure of a stop, in seconds since 1970.
-#[tactic(auto, using(crate::proofs::WrittenTimes::planned_times))]
-fn planned_times(run: &TripRun<'_>, row: &StopRow) -> (i64, i64)
-    requires { is_timed row.now ≡ true }
-    ensures value { result ≡ planned run.now.dated.start row.now }
-    ensures moments { IsMoment result.0 × IsMoment result.1 }
-{
-    let start = run.dated.start;
-    (start + row.arrival as i64, start + row.departure as i64)
-}
-
 // Adds the planned times of a stop, with which its call begins.
 fn put_aimed(out: &mut Bytes, times: &(i64, i64)) -> Result<(), AllocError>
     requires { IsMoment times.now.0 × IsMoment times.now.1 }
@@ -80,7 +69,7 @@ fn put_call(
     requires near { is_near (planned run.now.dated.start row.now) reading.now ≡ true }
     ensures { OnOk result (out.new ≡ out.old ++ call_text (run_over run.now) order row.now reading.now) }
 {
-    put_aimed(out, &planned_times(run, row))?;
+    put_aimed(out, &run.dated.planned_times(row))?;
     put_said(out, reading)?;
     put_stop(out, order, run.table.stop_id(row.stop))
 }

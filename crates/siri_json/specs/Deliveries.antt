@@ -38,7 +38,8 @@ shown seen (Taken one) = Ok (seen one)
 shown seen (Aside fault) = Err fault
 
 -- a delivery has these verdicts
-pub record HasVerdicts {A B : Type 0} (seen : A → B) (delivery : Delivery A) (all : List (Result (B × ℕ) Fault)) : Type 0 where
+pub record HasVerdicts {A B : Type 0} (seen : A → B) (delivery : Delivery A)
+    (all : List (Result (B × ℕ) Fault)) : Type 0 where
   pub items_are : map (shown seen) delivery.items ≡ map without_count all
   pub passed_is : delivery.passed ≡ passed_count all
 

@@ -1,5 +1,5 @@
--- The way down from the root of a delivery (SIRI 2.0, Siri and ServiceDelivery), and repeated elements. The fault of a way
--- is the member that is wrong.
+-- The way down from the root of a delivery (SIRI 2.0, Siri and ServiceDelivery), and repeated elements. The fault of a
+-- way is the member that is wrong.
 use Rattle.std.specs.Prelude.{List, [], ◌∷◌, Option, Some, None, Result, Ok, Err, if◌then◌else◌}
 use Rattle.std.specs.List.{list_all}
 use Rattle.gw_base.specs.Member.{member_name}

@@ -1,4 +1,3 @@
-pub mod Delays
 pub mod States
 pub mod Walks
 pub mod Placing

@@ -13,22 +13,9 @@ ghost use Rattle.sparse_planner.specs.Shortest as spec;
 
 use gw_base::stop_relation::{NO_DATA, SCHEDULED, SKIPPED};
 use gw_base::{Event, List, StopUpdate};
-use journey_model::{DatedTrip, JourneyReading, StopReading};
+use journey_model::{DatedTrip, JourneyReading, StopReading, planned_times};
 use std::alloc::{AllocError, Global};
 use stop_schedule::StopRow;
-
-// The planned arrival and departure of a stop, in seconds since 1970.
-fn planned_times(start: i64, row: &StopRow) -> (i64, i64)
-    requires { IsMoment start }
-    ensures value { result ≡ planned start row.now }
-    ensures arrival_in { (pos 0 ≤ℤ result.0) × (result.0 <ℤ pos (2 ^ 38)) }
-    ensures departure_in { (pos 0 ≤ℤ result.1) × (result.1 <ℤ pos (2 ^ 38)) }
-{
-    (
-        start + i64::from(row.arrival),
-        start + i64::from(row.departure),
-    )
-}
 
 // How a stop reads by what the stops before it supply: nothing, or the delay of a departure, in seconds.
 fn supplied(start: i64, row: &StopRow, delay: Option<i64>) -> StopReading

@@ -3,7 +3,7 @@ use Rattle.std.proofs.lemmas.Bool.{and_parts}
 use Rattle.std.proofs.lemmas.Int.{ints}
 use Rattle.stop_schedule.specs.Planned.{planned}
 use Rattle.journey_model.specs.Times.{is_delay}
-use Rattle.sparse_planner.proofs.Delays.{delay-range}
+use Rattle.journey_model.proofs.Delays.{delay-range}
 use Rattle.sparse_planner.proofs.planning.handed_on.Goals as goal
 
 pub returns-in-Timed-clause-timed : goal.returns-in-Timed-clause-timed
@@ -16,4 +16,4 @@ returns-in-Timed-clause-timed c = λ arrival departure e.
     let range = delay-range (departure -ℤ own.1) late in
     let same : c.in-Timed.departure ≡ departure = cc (e, c.in-Timed.is) in
     let planned_departure : result.1 ≡ to_z w64 (of_z w64 c.args.start) +ℤ pos c.args.row.now.departure = ap (λ (both : ℤ × ℤ). both.1) times.value in
-    ap Some (omega (arith, ints, range, same, planned_departure, times.departure_in))
+    ap Some (omega (arith, ints, range, same, planned_departure, times.range.1))

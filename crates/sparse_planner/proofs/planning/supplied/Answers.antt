@@ -1,7 +1,7 @@
 use Rattle.std.proofs.Common.{◌≡◌, ◌+ℤ◌, ℤ, pos, ap, ap₂, arith, to_z, of_z, w64}
 use Rattle.std.proofs.lemmas.Int.{ints}
 use Rattle.journey_model.specs.declared.readings.StopReading.TheVariants.{Timed}
-use Rattle.sparse_planner.proofs.Delays.{delay-range, delay-some}
+use Rattle.journey_model.proofs.Delays.{delay-range, delay-some}
 use Rattle.sparse_planner.proofs.planning.supplied.Goals as goal
 
 pub returns-in-Some : goal.returns-in-Some
@@ -14,4 +14,4 @@ returns-in-Some c =
     let arrival : result.0 ≡ to_z w64 (of_z w64 c.args.start) +ℤ pos row.arrival = ap (λ (both : ℤ × ℤ). both.0) times.value in
     let departure : result.1 ≡ to_z w64 (of_z w64 c.args.start) +ℤ pos row.departure = ap (λ (both : ℤ × ℤ). both.1) times.value in
     rw c.in-Some.is
-    (ap₂ Timed (omega (arith, ints, arrival, range, times.arrival_in)) (omega (arith, ints, departure, range, times.departure_in)))
+    (ap₂ Timed (omega (arith, ints, arrival, range, times.range.0)) (omega (arith, ints, departure, range, times.range.1)))
