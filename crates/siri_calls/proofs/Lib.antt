@@ -5,7 +5,6 @@ pub mod OrderLemmas
 pub mod PlaceLemmas
 pub mod PlacedLemmas
 mod PlainLemmas
-pub mod Prefixes
 pub mod SaidAgain
 pub mod SaidAgainCalls
 pub mod SaidAgainIds

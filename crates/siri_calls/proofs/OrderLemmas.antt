@@ -5,11 +5,12 @@ use Rattle.std.proofs.lemmas.Bool.{leb-true}
 use Rattle.std.proofs.lemmas.Bool.Decides.{nat_tests}
 use Rattle.journey_model.specs.Chains.{◌>>=◌}
 use Rattle.journey_model.specs.Matching.{call_place, first_place, fits_order, is_of_stop, place_behind, stands_at}
+use Rattle.journey_model.specs.Runs.{Run}
 use Rattle.journey_model.specs.declared.fault.Fault.{Fault}
 use Rattle.journey_model.specs.declared.fault.Fault.TheVariants.{OutOfOrder}
 use Rattle.stop_schedule.specs.declared.stop_times.StopRow.{StopRow}
 use Rattle.siri_calls.specs.Journeys.{Call}
-use Rattle.siri_calls.specs.Judged.{placed_calls}
+use Rattle.siri_calls.specs.Judged.{calls_placed, numbered, placed_calls, stops_named}
 use Rattle.siri_calls.specs.MatchedCalls.{rise_from}
 use Rattle.siri_calls.proofs.DenseLemmas.{first-of, second-of}
 
@@ -61,3 +62,10 @@ placed-rise stops after (one ∷ others) placed e = by (call_place stops after o
         → rise_from (place_behind after) placed ≡ true
     by None at h rise = absurd (cc)
     by (Some place) at h rise = with place (placed_calls stops (Some place) others) (call-behind stops after one.0 one.1.1.order place at) h (rise place)
+
+pub calls-rise : (run : Run) (all : List (Option Call)) (placed : List (ℕ × (ℕ × Call))) → calls_placed run all ≡ Ok placed → rise_from 0 placed ≡ true
+calls-rise run all placed e = by (stops_named run (numbered 0 all)) e
+  where
+    by : (named : Result (List (ℕ × (ℕ × Call))) Fault) → (named >>= λ found. placed_calls run.stops None found) ≡ Ok placed → rise_from 0 placed ≡ true
+    by (Err fault) h = absurd (cc)
+    by (Ok named) h = placed-rise run.stops None named placed h

@@ -128,19 +128,13 @@ unless-fits run placed reading h = by (spec.delays_fault run placed) refl h
         subst (λ r. fits_trip run.start run.stops r ≡ true) same (dense-fits run placed e)
 
 stops-fit : (run : Run) (all : List (Option Call)) (reading : JourneyReading) → spec.stops_read run all ≡ Ok reading → fits_trip run.start run.stops reading ≡ true
-stops-fit run all reading h = by (spec.stops_named run (spec.numbered 0 all)) h
+stops-fit run all reading h = by (spec.calls_placed run all) h
   where
-    with : (placed : Result (List (ℕ × (ℕ × Call))) Fault)
+    by : (placed : Result (List (ℕ × (ℕ × Call))) Fault)
         → (placed >>= λ found. spec.dense_unless (spec.delays_fault run found) (spec.all_dense run found)) ≡ Ok reading
         → fits_trip run.start run.stops reading ≡ true
-    with (Err fault) told = absurd (cc)
-    with (Ok placed) told = unless-fits run placed reading told
-
-    by : (named : Result (List (ℕ × (ℕ × Call))) Fault)
-        → (named >>= λ found. spec.placed_calls run.stops None found >>= λ placed. spec.dense_unless (spec.delays_fault run placed) (spec.all_dense run placed)) ≡ Ok reading
-        → fits_trip run.start run.stops reading ≡ true
     by (Err fault) told = absurd (cc)
-    by (Ok named) told = with (spec.placed_calls run.stops None named) told
+    by (Ok placed) told = unless-fits run placed reading told
 
 journey-fits : (run : Run) (cancelled : Bool) (all : List (Option Call)) (reading : JourneyReading) → spec.journey_read run cancelled all ≡ Ok reading
     → fits_trip run.start run.stops reading ≡ true

@@ -78,11 +78,16 @@ abbrev pub dense_unless : Option Fault → List StopReading → Result JourneyRe
 dense_unless None readings = Ok (Stops readings)
 dense_unless (Some fault) readings = Err fault
 
+-- the calls with their places: each has a stop of the trip before any is matched
+abbrev pub calls_placed : Run → List (Option Call) → Result (List (ℕ × (ℕ × Call))) Fault
+calls_placed run all = do
+  named ← stops_named run (numbered 0 all)
+  placed_calls run.stops None named
+
 -- how the calls of a journey read its trip on its day, or the first fault
 abbrev pub stops_read : Run → List (Option Call) → Result JourneyReading Fault
 stops_read run all = do
-  named ← stops_named run (numbered 0 all)
-  placed ← placed_calls run.stops None named
+  placed ← calls_placed run all
   dense_unless (delays_fault run placed) (all_dense run placed)
 
 abbrev pub journey_read : Run → Bool → List (Option Call) → Result JourneyReading Fault

@@ -12,7 +12,7 @@ use crate::calls::Call;
 use crate::delays::delays_fault;
 use crate::dense::dense_readings;
 use crate::header::Header;
-use crate::matching_calls::{placed_calls, stop_calls};
+use crate::matching_calls::placed_calls;
 use crate::trip_run::TripRun;
 use journey_model::{Context, Fault, JourneyReading, JourneyRecord};
 use service_day::Day;
@@ -62,8 +62,7 @@ fn stops_read(
         spec.stops_read (run_over run.now) (calls_of calls.now) ≡ Ok reading) }
     ensures fault { IfErr result (IsFaultOf (spec.stops_read (run_over run.now) (calls_of calls.now))) }
 {
-    let found = stop_calls(alloc, run, calls)?;
-    let placed = placed_calls(alloc, run, found.as_slice())?;
+    let placed = placed_calls(alloc, run, calls)?;
     if let Some(fault) = delays_fault(run, placed.as_slice()) {
         return Err(ReadFault::Aside(fault));
     }

@@ -1,18 +1,47 @@
 -- A call that has a place goes behind those before it.
-use Rattle.std.proofs.Common.{◌≡◌, None, refl, ◌∙◌, ◌+◌, ◌∷◌, ◌++◌, [], map, drop, ap, sym, arith}
+use Rattle.std.proofs.Common.{◌≡◌, ◌∙◌, ◌+◌, ◌∷◌, ℕ, ap, arith, drop, map, option_map, subst, sym}
 use Rattle.std.proofs.lemmas.List.{map-append}
-use Rattle.siri_calls.specs.Judged as spec
-use Rattle.siri_calls.specs.MatchedCalls.{stop_call, placed_call}
-use Rattle.siri_calls.proofs.Prefixes.{after_these}
-use Rattle.siri_calls.proofs.PlacedLemmas.{left-at, placed-one}
+use Rattle.siri_calls.specs.Journeys.{Call}
+use Rattle.siri_calls.specs.Judged.{numbered}
+use Rattle.siri_calls.specs.MatchedCalls.{placed_call}
+use Rattle.siri_calls.specs.Seen.{call_of, calls_of}
+use Rattle.siri_calls.specs.TripRuns.{run_over}
+use Rattle.siri_calls.proofs.PlacedLemmas.{SoFar, left_at, one_more, refused}
 use Rattle.siri_calls.proofs.matching_calls.placed_calls.Goals as goal
+use Rattle.siri_calls.proofs.matching_calls.placed_calls.Goals.{in-Some+in-Some-place_of+in_ok-push, in_default}
 
-pub loop-one-preserved : goal.loop-one-preserved
-loop-one-preserved c =
-    let stops = c.args.run.now.dated.stops.now in
-    let front = map placed_call c.loop-one.placed.items in
-    let left = left-at c.args.calls.now c.loop-one.one-index c.one-item.result (omega arith) c.one-item.is in
-    let step = placed-one stops c.loop-one.after c.in-Some.place front (stop_call c.one-item.result) (map stop_call (drop (c.loop-one.one-index + 1) c.args.calls.now)) (sym c.in-Some.ensures.value) in
-    let whole : spec.placed_calls stops None (map stop_call c.args.calls.now) ≡ after_these front (spec.placed_calls stops c.loop-one.after (map stop_call (drop c.loop-one.one-index c.args.calls.now))) = c.loop-one.invariant in
-    let items : map placed_call c.push.new.self.items ≡ front ++ placed_call (record { place = c.in-Some.place; number = c.one-item.result.number; call = c.one-item.result.call }) ∷ [] = ap (map placed_call) c.in_ok-push.ensures.items ∙ map-append placed_call c.loop-one.placed.items _ in
-    whole ∙ rw left (step ∙ rw items refl)
+pub returns-in_default-place_of-clause-fault : goal.returns-in_default-place_of-clause-fault
+returns-in_default-place_of-clause-fault c =
+    let i = c.loop-index.index in
+    let run = run_over c.args.run.now in
+    let all = numbered 0 (calls_of c.args.calls.now) in
+    let placed = map placed_call c.loop-index.placed.items in
+    let left = numbered (i + 1) (calls_of (drop (i + 1) c.args.calls.now)) in
+    let one : ℕ × Call = (i, call_of c.in-Some.call) in
+    let begins : numbered i (calls_of (drop i c.args.calls.now)) ≡ one ∷ left =
+    ap (λ rest. numbered i (calls_of rest)) (left_at c.args.calls.now i c.index-calls-index.result (omega arith) c.index-calls-index.is)
+    ∙ ap (λ x. numbered i (option_map call_of x ∷ calls_of (drop (i + 1) c.args.calls.now))) c.in-Some.is in
+    refused run all left c.loop-index.after placed one (subst (λ rest. SoFar run all rest c.loop-index.after placed) begins c.loop-index.invariant)
+    c.fault_of.result (sym c.in_default-place_of.is ∙ c.place_of.ensures) c.fault_of.ensures
+
+pub loop-index-preserved : goal.loop-index-preserved
+loop-index-preserved c =
+    let i = c.loop-index.index in
+    let run = run_over c.args.run.now in
+    let all = numbered 0 (calls_of c.args.calls.now) in
+    let placed = map placed_call c.loop-index.placed.items in
+    let others = calls_of (drop (i + 1) c.args.calls.now) in
+    let at = left_at c.args.calls.now i c.index-calls-index.result (omega arith) c.index-calls-index.is in
+    elim c.match-call.branch [
+      | in-Some+in-Some-place_of+in_ok-push w ↦
+          let one : ℕ × Call = (i, call_of w.in-Some.call) in
+          let begins : numbered i (calls_of (drop i c.args.calls.now)) ≡ one ∷ numbered (i + 1) others =
+          ap (λ rest. numbered i (calls_of rest)) at ∙ ap (λ x. numbered i (option_map call_of x ∷ others)) w.in-Some.is in
+          let next = one_more run all (numbered (i + 1) others) c.loop-index.after placed one (subst (λ rest. SoFar run all rest c.loop-index.after placed) begins c.loop-index.invariant)
+          w.in-Some-place_of.place (sym w.in-Some-place_of.is ∙ w.place_of.ensures) in
+          rw (w.after-is, w.placed-is, w.in_ok-push.ensures.items, map-append placed_call c.loop-index.placed.items _) next
+      | in_default w ↦
+          let begins : numbered i (calls_of (drop i c.args.calls.now)) ≡ numbered (i + 1) others =
+          ap (λ rest. numbered i (calls_of rest)) at ∙ ap (λ x. numbered i (option_map call_of x ∷ others)) w.in_default.is in
+          rw (w.after-is, w.placed-is) (subst (λ rest. SoFar run all rest c.loop-index.after placed) begins c.loop-index.invariant)
+    ]

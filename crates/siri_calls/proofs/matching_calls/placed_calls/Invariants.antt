@@ -1,11 +1,12 @@
--- the places so far, and those of the other calls
-use Rattle.std.proofs.Common.{◌≡◌, None, map, drop}
-use Rattle.siri_calls.specs.Judged as spec
-use Rattle.siri_calls.specs.MatchedCalls.{stop_call, placed_call}
-use Rattle.siri_calls.proofs.Prefixes.{after_these}
+-- the calls so far have their places
+use Rattle.std.proofs.Common.{drop, map}
+use Rattle.siri_calls.specs.Judged.{numbered}
+use Rattle.siri_calls.specs.MatchedCalls.{placed_call}
+use Rattle.siri_calls.specs.Seen.{calls_of}
+use Rattle.siri_calls.specs.TripRuns.{run_over}
+use Rattle.siri_calls.proofs.PlacedLemmas.{SoFar}
 use Rattle.siri_calls.proofs.matching_calls.placed_calls.Given as goal
 
-abbrev pub invariant-loop-one : goal.invariant-loop-one
-invariant-loop-one l =
-    spec.placed_calls l.run.dated.stops.now None (map stop_call l.calls)
-    ≡ after_these (map placed_call l.placed.items) (spec.placed_calls l.run.dated.stops.now l.after (map stop_call (drop l.one-index l.calls)))
+abbrev pub invariant-loop-index : goal.invariant-loop-index
+invariant-loop-index l =
+    SoFar (run_over l.run) (numbered 0 (calls_of l.calls)) (numbered l.index (calls_of (drop l.index l.calls))) l.after (map placed_call l.placed.items)
