@@ -13,13 +13,8 @@ mod items;
 mod judging;
 mod matching_calls;
 mod trip_run;
-mod write;
-mod write_calls;
-mod write_journeys;
-mod write_texts;
+mod writing;
 
 pub use delivery::{Delivery, Item, read_delivery};
 pub use siri_json::DeliveryFault;
-pub use write::write_delivery;
-pub use write_calls::put_comma;
-pub use write_texts::{put_moment, put_text};
+pub use writing::{put_comma, put_moment, put_text, write_delivery};

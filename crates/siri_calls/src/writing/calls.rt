@@ -10,7 +10,7 @@ ghost use Rattle.siri_calls.specs.DeliveryTexts.{SaysMoments, aimed_text, call_t
 ghost use Rattle.siri_calls.specs.TripRuns.{run_over};
 
 use crate::trip_run::TripRun;
-use crate::write_texts::{put_number, put_text, put_times};
+use crate::writing::texts::{put_number, put_text, put_times};
 use gw_base::Bytes;
 use journey_model::{JourneyReading, StopReading};
 use std::alloc::AllocError;

@@ -5,7 +5,7 @@ use Rattle.std.proofs.lemmas.Result.{on_ok_weaker}
 use Rattle.siri_calls.specs.DeliveryTree.{id_at}
 use Rattle.siri_calls.specs.DeliveryTexts.{journey_text}
 use Rattle.siri_calls.proofs.WrittenLemmas.{four_pieces}
-use Rattle.siri_calls.proofs.write_journeys.put_run.Goals as goal
+use Rattle.siri_calls.proofs.writing.journeys.put_run.Goals as goal
 
 pub returns : goal.returns
 unfolding journey_text

@@ -1,7 +1,7 @@
 -- The four pieces behind the journeys.
 use Rattle.std.proofs.lemmas.Result.{on_ok_weaker}
 use Rattle.siri_calls.proofs.WrittenLemmas.{four_pieces}
-use Rattle.siri_calls.proofs.write.put_tail.Goals as goal
+use Rattle.siri_calls.proofs.writing.put_tail.Goals as goal
 
 pub returns : goal.returns
 returns c =

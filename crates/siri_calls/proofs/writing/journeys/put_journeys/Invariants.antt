@@ -2,7 +2,7 @@
 use Rattle.std.proofs.Common.{◌≡◌, ◌++◌, false, drop}
 use Rattle.journey_model.specs.Schedules.{schedule_of}
 use Rattle.siri_calls.specs.DeliveryTexts.{journeys_text}
-use Rattle.siri_calls.proofs.write_journeys.put_journeys.Given as goal
+use Rattle.siri_calls.proofs.writing.journeys.put_journeys.Given as goal
 
 abbrev pub invariant-loop-one : goal.invariant-loop-one
 invariant-loop-one l =

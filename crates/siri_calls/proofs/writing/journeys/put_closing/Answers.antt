@@ -1,7 +1,7 @@
 -- The three pieces of a journey's end.
 use Rattle.std.proofs.lemmas.Result.{on_ok_weaker}
 use Rattle.siri_calls.proofs.WrittenLemmas.{three_pieces}
-use Rattle.siri_calls.proofs.write_journeys.put_closing.Goals as goal
+use Rattle.siri_calls.proofs.writing.journeys.put_closing.Goals as goal
 
 pub returns : goal.returns
 returns c =

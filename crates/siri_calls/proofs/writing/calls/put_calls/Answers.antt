@@ -8,7 +8,7 @@ use Rattle.siri_calls.specs.DeliveryTexts.{call_text}
 use Rattle.siri_calls.specs.TripRuns.{run_over}
 use Rattle.siri_calls.proofs.WrittenLemmas.{calls_on, one_more}
 use Rattle.siri_calls.proofs.WrittenTimes.{fits_near, near_at}
-use Rattle.siri_calls.proofs.write_calls.put_calls.Goals as goal
+use Rattle.siri_calls.proofs.writing.calls.put_calls.Goals as goal
 
 no_row : StopRow
 no_row = record { sequence = 0; stop = record { 0 = 0 }; arrival = 0; departure = 0 }

@@ -11,8 +11,8 @@ ghost use Rattle.siri_calls.specs.DeliveryTexts.{closing_text, frame_ref_text, j
 ghost use Rattle.siri_calls.specs.TripRuns.{run_over};
 
 use crate::trip_run::TripRun;
-use crate::write_calls::{put_calls, put_comma};
-use crate::write_texts::{put_moment, put_text};
+use crate::writing::calls::{put_calls, put_comma};
+use crate::writing::texts::{put_moment, put_text};
 use gw_base::{Bytes, Moment};
 use journey_model::{Context, DatedReading, JourneyReading};
 use service_day::{Day, day_text};

@@ -6,11 +6,16 @@ ghost use Rattle.journey_model.specs.Schedules.{FitsSchedule, schedule_of};
 ghost use Rattle.siri_calls.specs.DeliveryTree.{delivery_text};
 ghost use Rattle.siri_calls.specs.DeliveryTexts.{head_text, tail_text};
 
-use crate::write_journeys::put_journeys;
-use crate::write_texts::put_moment;
+mod calls;
+mod journeys;
+mod texts;
+
+pub use calls::put_comma;
 use gw_base::{Bytes, List, Moment};
 use journey_model::{Context, DatedReading};
+use journeys::put_journeys;
 use std::alloc::{AllocError, Global};
+pub use texts::{put_moment, put_text};
 
 // Adds a delivery up to its journeys.
 fn put_head(out: &mut Bytes) -> Result<(), AllocError>

@@ -3,7 +3,7 @@ use Rattle.std.proofs.Common.{◌≡◌, ◌+◌, ◌++◌, false, drop, nat_lt}
 use Rattle.siri_calls.specs.DeliveryTree.{stop_readings}
 use Rattle.siri_calls.specs.DeliveryTexts.{calls_text}
 use Rattle.siri_calls.specs.TripRuns.{run_over}
-use Rattle.siri_calls.proofs.write_calls.put_calls.Given as goal
+use Rattle.siri_calls.proofs.writing.calls.put_calls.Given as goal
 
 abbrev pub invariant-loop-place : goal.invariant-loop-place
 invariant-loop-place l =

@@ -5,7 +5,7 @@ use Rattle.std.proofs.lemmas.Result.{on_ok_weaker}
 use Rattle.siri_calls.specs.DeliveryTree.{id_at}
 use Rattle.siri_calls.specs.DeliveryTexts.{call_text}
 use Rattle.siri_calls.proofs.WrittenLemmas.{three_pieces}
-use Rattle.siri_calls.proofs.write_calls.put_call.Goals as goal
+use Rattle.siri_calls.proofs.writing.calls.put_call.Goals as goal
 
 pub returns : goal.returns
 unfolding call_text
