@@ -51,7 +51,7 @@ const LATER: [(i32, Option<i32>); 6] = [
 ];
 
 #[test]
-fn days_later_and_earlier(rt: HostRuntime) {
+fn days_are_counted_on_and_back(rt: HostRuntime) {
     let day = read_day("20240501", DayForm::Compact).expect(&rt, "a day");
     for (days, number) in LATER {
         assert!(rt; day.plus(days).map(|later| later.number()) == number);

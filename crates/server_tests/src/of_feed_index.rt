@@ -18,7 +18,7 @@ fn put(
 }
 
 #[test]
-fn four_puts_under_one_key(rt: HostRuntime) -> Result<(), Fail> {
+fn dead_bytes_are_given_back(rt: HostRuntime) -> Result<(), Fail> {
     let piece = vec![in rt.alloc(); 7u8; 40_000]?;
     let mut index = FeedIndex::make(rt.alloc());
     for dead in [0, 40_000, 80_000, 0] {
@@ -46,7 +46,7 @@ fn write_odd(rt: &impl Abort, index: &FeedIndex<u32, u8>, sink: &mut MemorySink,
 }
 
 #[test]
-fn each_call_once(rt: HostRuntime) -> Result<(), Fail> {
+fn entries_are_put_found_written_and_cut(rt: HostRuntime) -> Result<(), Fail> {
     let mut index = FeedIndex::make(rt.alloc());
     for (key, value, bytes) in [(5, 1, b"five"), (2, 4, b"two "), (9, 3, b"nine")] {
         assert_eq!(rt; put(&mut index, key, value, bytes)?, None);
@@ -73,7 +73,7 @@ fn merge(index: &mut FeedIndex<u32, u8>, batch: Batch<u32, u8>) -> Result<(), Al
 }
 
 #[test]
-fn merges_many_at_once(rt: HostRuntime) -> Result<(), Fail> {
+fn a_batch_is_merged_at_once(rt: HostRuntime) -> Result<(), Fail> {
     let mut index = FeedIndex::make(rt.alloc());
     put(&mut index, 5, 1, b"five")?;
     put(&mut index, 7, 3, b"seven")?;

@@ -59,7 +59,7 @@ fn assert_file(rt: &impl Abort, alloc: Global, name: &str, wanted: &[u8])
 }
 
 #[test]
-fn files_of_a_small_sample(rt: HostRuntime) {
+fn a_small_sample_has_these_files(rt: HostRuntime) {
     let alloc = rt.alloc();
     assert_file(&rt, alloc, "agency.txt", AGENCY);
     assert_file(&rt, alloc, "stops.txt", STOPS);

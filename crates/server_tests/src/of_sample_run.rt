@@ -24,7 +24,7 @@ fn assert_line(rt: &impl Abort, alloc: Global, seed: u32, trips: u32, stops: u32
 
 // Stop 1 is skipped, stop 2 is on time and stop 3 is 421 seconds late.
 #[test]
-fn a_skip_and_a_delay(rt: HostRuntime) {
+fn a_skip_and_a_delay_are_counted(rt: HostRuntime) {
     assert_line(
         &rt,
         rt.alloc(),
@@ -36,7 +36,7 @@ fn a_skip_and_a_delay(rt: HostRuntime) {
 }
 
 #[test]
-fn two_deliveries(rt: HostRuntime) {
+fn a_sample_of_two_deliveries_is_counted(rt: HostRuntime) {
     assert_line(
         &rt,
         rt.alloc(),

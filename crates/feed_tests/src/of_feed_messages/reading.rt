@@ -242,7 +242,7 @@ static ALERT: [u8; 61] =
         \x00\x2a\x01S\x52\x0c\x0a\x0a\x0a\x04late\x12\x02en\x5a\x08\x0a\x06\x0a\x04late";
 
 #[test]
-fn fronts_of_a_feed(rt: HostRuntime) {
+fn both_readers_agree_on_a_feed_cut_anywhere(rt: HostRuntime) {
     for feed in [SPLIT.as_slice(), &ALERT] {
         for length in 0..feed.len() {
             agree(&rt, rt.alloc(), &feed[..length]);

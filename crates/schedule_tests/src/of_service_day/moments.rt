@@ -75,7 +75,7 @@ const NO_MOMENTS: [&str; 45] = [
 ];
 
 #[test]
-fn moments_in_a_zone(rt: HostRuntime) -> Result<(), Fail> {
+fn moments_are_read_in_a_zone(rt: HostRuntime) -> Result<(), Fail> {
     let zone = Zone::from_rule("CET-1CEST,M3.5.0,M10.5.0/3").expect(&rt, "a zone");
     for (text, secs, nanos) in MOMENTS {
         let instant = read_moment(text, &zone).expect(&rt, "a moment");

@@ -247,7 +247,7 @@ const IN_BOGOTA: [(&str, i64); 7] = [
 ];
 
 #[test]
-fn a_zone_file(rt: HostRuntime) -> Result<(), Fail> {
+fn a_zone_file_is_read_whole_or_refused(rt: HostRuntime) -> Result<(), Fail> {
     let zone = Zone::from_file(rt.alloc(), BOGOTA).expect(&rt, "a zone");
     for (text, secs) in IN_BOGOTA {
         let instant = read_moment(text, &zone).expect(&rt, "a moment");
@@ -281,7 +281,7 @@ const WIDE_RULES: [(&str, i64); 3] = [
 ];
 
 #[test]
-fn rules(rt: HostRuntime) -> Result<(), Fail> {
+fn rules_out_of_form_are_refused(rt: HostRuntime) -> Result<(), Fail> {
     for text in NO_RULES {
         assert!(rt; is_refused(Zone::from_rule(text)));
     }

@@ -179,6 +179,6 @@ static CALLS: [(&str, &str); 57] = [
 ];
 
 #[test]
-fn calls(rt: HostRuntime) {
+fn each_member_of_a_call_is_read_or_refused(rt: HostRuntime) {
     assert_said(&rt, rt.alloc(), (BEFORE, AFTER), &CALLS);
 }

@@ -110,6 +110,6 @@ static FRAMES: [(&str, &str); 34] = [
 ];
 
 #[test]
-fn frames(rt: HostRuntime) {
+fn journeys_are_found_or_the_broken_member_is_told(rt: HostRuntime) {
     assert_said(&rt, rt.alloc(), ("", ""), &FRAMES);
 }

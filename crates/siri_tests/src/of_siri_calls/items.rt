@@ -399,12 +399,12 @@ static ABOVE: [(&str, &str); 10] = [
 ];
 
 #[test]
-fn items(rt: HostRuntime) {
+fn each_member_of_an_item_is_read_or_refused(rt: HostRuntime) {
     assert_said(&rt, rt.alloc(), (BEFORE, AFTER), &ITEMS);
 }
 
 #[test]
-fn moments_above(rt: HostRuntime) {
+fn the_nearest_moment_of_recording_counts(rt: HostRuntime) {
     let before = "{'ServiceDelivery':{";
     let after = "'EstimatedVehicleJourney':{'FramedVehicleJourneyRef':{'DataFrameRef':'2024-05-01',\
           'DatedVehicleJourneyRef':'T1'},'Cancellation':true}}}}}";

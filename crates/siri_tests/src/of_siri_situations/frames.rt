@@ -110,6 +110,6 @@ static FRAMES: [(&str, &str); 30] = [
 ];
 
 #[test]
-fn frames(rt: HostRuntime) {
+fn situations_are_found_or_the_broken_member_is_told(rt: HostRuntime) {
     assert_said(&rt, rt.alloc(), ("", ""), &FRAMES);
 }

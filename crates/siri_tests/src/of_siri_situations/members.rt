@@ -243,6 +243,6 @@ static MEMBERS: [(&str, &str); 86] = [
 ];
 
 #[test]
-fn members(rt: HostRuntime) {
+fn each_member_of_a_situation_is_read_or_refused(rt: HostRuntime) {
     assert_said(&rt, rt.alloc(), (BEFORE, AFTER), &MEMBERS);
 }

@@ -254,12 +254,12 @@ static SEVERAL: [(&str, &str); 1] = [(
 )];
 
 #[test]
-fn references(rt: HostRuntime) {
+fn what_a_situation_affects_is_known_or_told(rt: HostRuntime) {
     assert_said(&rt, rt.alloc(), (BEFORE, AFTER), &REFERENCES);
 }
 
 #[test]
-fn several(rt: HostRuntime) {
+fn situations_come_in_their_order(rt: HostRuntime) {
     let before =
         "{'ServiceDelivery':{'SituationExchangeDelivery':{'Situations':{'PtSituationElement':[";
     assert_said(&rt, rt.alloc(), (before, "]}}}}"), &SEVERAL);
