@@ -1,12 +1,10 @@
--- The texts of days, and how long the bodies of entities are.
-use Rattle.std.proofs.Common.{◌≡◌, ◌∙◌, ◌<◌, ◌≤◌, ◌-◌, ◌^◌, ◌++◌, ◌∷◌, ◌&&◌, Bool, true, false, ℕ, List, [], length, length-append, take, drop, Result, Ok, Err, refl, ap, inl, inr, arith}
-use Rattle.std.proofs.lemmas.Bool.{cases_lt, false≢true, ltb-true}
-use Rattle.std.proofs.lemmas.List.{get_or_past, take_all}
+-- How long the bodies of entities are.
+use Rattle.std.proofs.Common.{◌≡◌, ◌∙◌, ◌<◌, ◌≤◌, ◌-◌, ◌^◌, ◌++◌, ◌∷◌, ◌&&◌, Bool, true, false, ℕ, List, [], length, length-append, take, drop, Result, Ok, Err, refl, ap, arith}
+use Rattle.std.proofs.lemmas.Bool.{false≢true, ltb-true}
+use Rattle.std.proofs.lemmas.List.{take_all}
 use Rattle.std.proofs.lemmas.List.Elements.{All-from_recursion}
-use Rattle.std.proofs.lemmas.Str.{IsUtf8-from_ascii}
-use Rattle.std.specs.Char.{IsAsciiDigit}
 use Rattle.std.specs.List.{AllByRecursion, list_all}
-use Rattle.std.specs.Prelude.{All, IfOk, IsUtf8}
+use Rattle.std.specs.Prelude.{IfOk}
 use Rattle.gw_base.specs.declared.messages.Entity.{Entity}
 use Rattle.gw_base.specs.declared.messages.Feed.{Feed}
 use Rattle.stop_schedule.specs.Table.{Table}
@@ -23,13 +21,6 @@ use Rattle.wire_fields.proofs.Written.{varint_written}
 use Rattle.feed_messages.specs.Tables.{MeansEntity, MeansFeed, with_entity}
 use Rattle.feed_messages.specs.Written.{feed_entity, written}
 use Rattle.feed_messages.proofs.Building.{means_more}
-
--- digits are text
-pub digits_are_text : (date : List ℕ) → All IsAsciiDigit date → IsUtf8 date
-digits_are_text date digits = IsUtf8-from_ascii date (λ i. elim (cases_lt i (length date)) [
-  | inl within ↦ let digit = digits i 0 within in omega arith
-  | inr past ↦ rw (get_or_past date i 0 past) (omega arith)
-])
 
 -- bytes begin with one number at most
 pub one_number : (bytes : List ℕ) (a b : ℕ) (behind_a behind_b : List ℕ) → BeginsNumber bytes a behind_a → BeginsNumber bytes b behind_b → a ≡ b

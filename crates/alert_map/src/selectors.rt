@@ -1,6 +1,5 @@
 //! What a situation refers to, as selectors (GTFS Realtime reference, EntitySelector).
-ghost use Rattle.std.specs.Prelude.{◌≡◌, All, IfOk, map};
-ghost use Rattle.std.specs.Char.{IsAsciiDigit};
+ghost use Rattle.std.specs.Prelude.{◌≡◌, IfOk, map};
 ghost use Rattle.stop_schedule.specs.Seen.{seen};
 ghost use Rattle.service_day.specs.DayTexts.{compact_text};
 ghost use Rattle.alert_map.specs.Known.{IsEachKnown, IsKnown};
@@ -8,7 +7,7 @@ ghost use Rattle.alert_map.specs.Alerts as spec;
 
 use gw_base::trip_relation::SCHEDULED;
 use gw_base::{Boxed, List, Selector, Text, TripDescriptor};
-use journey_model::Ref;
+use journey_model::{Ref, date_text};
 use service_day::{Day, day_compact};
 use std::alloc::{AllocError, Global};
 use stop_schedule::Timetable;
@@ -37,23 +36,12 @@ fn stop_selector(alloc: Global, stop_id: &str) -> Result<Selector, AllocError>
     })
 }
 
-// The text of a day's digits.
-fn digits(date: &[u8; 8]) -> &str
-    requires { All IsAsciiDigit date.now }
-    ensures { result.now ≡ date.now }
-{
-    match str::from_utf8(date) {
-        Ok(text) => text,
-        Err(_) => unreachable!(),
-    }
-}
-
 // The trip on that day.
 fn trip_on(alloc: Global, trip_id: &str, day: Day) -> Result<TripDescriptor, AllocError>
     ensures { IfOk result (λ trip. trip ≡ spec.trip_on trip_id.now (compact_text day)) }
 {
     let date = day_compact(day);
-    let date = Text::copied(alloc, digits(&date))?;
+    let date = Text::copied(alloc, date_text(&date))?;
     Ok(TripDescriptor {
         trip_id: Some(Text::copied(alloc, trip_id)?),
         start_date: Some(date),

@@ -2,10 +2,9 @@
 use Rattle.std.specs.Prelude.{ℕ, List, ◌++◌, codes, decimal}
 use Rattle.gw_base.specs.Member.{member_name}
 use Rattle.gw_base.specs.Required.{required_name}
-use Rattle.gw_base.specs.declared.wire_kind.WireKind.{WireKind}
-use Rattle.gw_base.specs.declared.wire_kind.WireKind.TheVariants.{Truncated, LongVarint, BadTag, BadGroup, DeepGroup}
 use Rattle.feed_messages.specs.declared.fault.FeedFault.{FeedFault}
 use Rattle.feed_messages.specs.declared.fault.FeedFault.TheVariants as feeds
+use Rattle.http_talk.specs.Texts.{kind_name}
 use Rattle.siri_json.specs.declared.delivery.DeliveryFault.{DeliveryFault}
 use Rattle.siri_json.specs.declared.delivery.DeliveryFault.TheVariants.{NotJson, NotDelivery, Memory}
 use Rattle.gateway_top.specs.declared.exit.Exit.{Exit}
@@ -16,14 +15,6 @@ abbrev pub body_end : List ℕ → DeliveryFault → Exit
 body_end name NotJson = exit.Refused (name ++ codes " NotJson")
 body_end name (NotDelivery member) = exit.Refused (name ++ codes " NotDelivery " ++ member_name member)
 body_end name Memory = exit.Memory
-
--- the name of a kind of break in protobuf's encoding
-abbrev pub kind_name : WireKind → List ℕ
-kind_name Truncated = codes "Truncated"
-kind_name LongVarint = codes "LongVarint"
-kind_name BadTag = codes "BadTag"
-kind_name BadGroup = codes "BadGroup"
-kind_name DeepGroup = codes "DeepGroup"
 
 -- the end that a fault of a feed's body is, with the place in bytes from the feed's first one
 abbrev pub feed_end : List ℕ → FeedFault → Exit

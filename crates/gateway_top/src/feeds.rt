@@ -12,26 +12,14 @@ use crate::reading::{BODY_LIMIT, further_file, joined};
 use feed_messages::{FeedFault, read_feed};
 use gateway_core::{Setting, feed_report};
 use gw_base::incrementality::DIFFERENTIAL;
-use gw_base::{Bytes, Feed, Files, Moment, Text, WireKind};
+use gw_base::{Bytes, Feed, Files, Moment, Text};
+use http_talk::kind_name;
 use itoa::Buffer;
 use propagation::readings_of;
 use reverse_alerts::SxFault;
 use reverse_calls::ReverseFault;
 use show_command::show_lines;
 use std::alloc::{AllocError, Global};
-
-// The name of a kind of break in protobuf's encoding.
-fn kind_name(kind: WireKind) -> &'static str
-    ensures { result.now ≡ ends.kind_name kind }
-{
-    match kind {
-        WireKind::Truncated => "Truncated",
-        WireKind::LongVarint => "LongVarint",
-        WireKind::BadTag => "BadTag",
-        WireKind::BadGroup => "BadGroup",
-        WireKind::DeepGroup => "DeepGroup",
-    }
-}
 
 // A file's name, a fault's name and a number.
 fn numbered(alloc: Global, name: &str, fault: &str, number: u64) -> Result<Text, AllocError>

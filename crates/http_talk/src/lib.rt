@@ -21,5 +21,5 @@ pub use laws::an_input_asks_for_one_thing;
 pub use reader::HeadReader;
 pub use refusal::{Allow, BodyFault, Refusal};
 pub use target::{Head, Target};
-pub use texts::{BodyFaultText, RefusalText, body_fault_text, refusal_text};
+pub use texts::{BodyFaultText, RefusalText, body_fault_text, kind_name, refusal_text};
 pub use whole::{Asked, request_of};

@@ -62,8 +62,8 @@ impl RefusalText {
     }
 }
 
-// The name of a kind of break in protobuf's encoding.
-fn kind_name(kind: WireKind) -> &'static str
+/// The name of a kind of break in protobuf's encoding, as messages tell it.
+pub fn kind_name(kind: WireKind) -> &'static str
     ensures name { result.now ≡ texts.kind_name kind }
     ensures short { length result.now ≤ 10 }
 {

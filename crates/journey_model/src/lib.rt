@@ -4,6 +4,7 @@
 #![tactic(auto)]
 
 mod context;
+mod dates;
 mod fault;
 mod matching;
 mod readings;
@@ -12,6 +13,7 @@ mod situation;
 mod times;
 
 pub use context::{Context, DatedTrip};
+pub use dates::date_text;
 pub use fault::{Fault, FaultText, fault_text};
 pub use matching::{MatchFault, NamedStop, match_call, match_update};
 pub use readings::{DatedReading, JourneyReading, JourneyRecord, StopReading};

@@ -1,11 +1,8 @@
 -- The messages of a record, and the bytes of them.
-use Rattle.std.proofs.Common.{◌≡◌, ◌∙◌, ◌++◌, ◌∷◌, ℕ, zero, suc, List, [], Bool, true, false, length, Result, Ok, Err, Option, Some, refl, sym, ap, inl, inr, arith}
+use Rattle.std.proofs.Common.{◌≡◌, ◌∙◌, ◌++◌, ◌∷◌, ℕ, zero, suc, List, [], true, false, Result, Ok, Err, Some, refl, sym, ap}
 use Rattle.std.proofs.lemmas.Option.{none-some}
-use Rattle.std.proofs.lemmas.Bool.{cases_lt}
-use Rattle.std.proofs.lemmas.List.{append-nil, get_or_past}
-use Rattle.std.proofs.lemmas.Str.{IsUtf8-from_ascii}
-use Rattle.std.specs.Char.{IsAsciiDigit}
-use Rattle.std.specs.Prelude.{All, IfOk, IsUtf8, slice_get}
+use Rattle.std.proofs.lemmas.List.{append-nil}
+use Rattle.std.specs.Prelude.{IfOk, slice_get}
 use Rattle.std.specs.List.{flat_map}
 use Rattle.gw_base.specs.declared.messages.Entity.{Entity}
 use Rattle.gw_base.specs.declared.messages.Feed.{Feed}
@@ -18,13 +15,6 @@ use Rattle.journey_model.specs.Schedules.{Schedule, run_on}
 use Rattle.latest_store.specs.Entities as spec
 use Rattle.latest_store.specs.Entities.{id_of, is_silent, message, messages}
 use Rattle.latest_store.specs.Reads.{with_messages}
-
--- digits are text
-pub digits_are_text : (date : List ℕ) → All IsAsciiDigit date → IsUtf8 date
-digits_are_text date digits = IsUtf8-from_ascii date (λ i. elim (cases_lt i (length date)) [
-  | inl within ↦ let digit = digits i 0 within in omega arith
-  | inr past ↦ rw (get_or_past date i 0 past) (omega arith)
-])
 
 -- a record has no message where nothing is known, and else one
 pub messages_none : (schedule : Schedule) (one : Recorded) (run : Run) → run_on schedule one.trip one.day ≡ Some run → is_silent one.reading ≡ true → messages schedule one ≡ []

@@ -1,5 +1,5 @@
 -- The entity of a record says just its reading.
-use Rattle.std.proofs.Common.{◌≡◌, ◌≤◌, ℕ, ℤ, pos, negsuc, List, [], ◌∷◌, Bool, true, false, length, map, Result, Ok, Err, Option, Some, None, ap, refl, sym, subst, if◌then◌else◌, arith}
+use Rattle.std.proofs.Common.{◌≡◌, ◌≤◌, ℕ, ℤ, pos, negsuc, List, [], ◌∷◌, Bool, true, false, length, map, Ok, Some, ap, refl, arith}
 use Rattle.std.proofs.lemmas.Bool.{le-leb}
 use Rattle.std.proofs.lemmas.Int.{ints}
 use Rattle.std.specs.Prelude.{position, unsigned_abs}
@@ -8,18 +8,17 @@ use Rattle.gw_base.specs.declared.messages.Feed.{Feed}
 use Rattle.service_day.specs.DayTexts.{compact_text, day_of}
 use Rattle.gw_base.specs.Moments.{IsMoment}
 use Rattle.service_day.specs.declared.days.DayForm.TheVariants.{Compact}
-use Rattle.journey_model.specs.FeedReadings.{entity_said, moment_in, reading_said, said_on, said_of_day, said_of_trip, update_said}
+use Rattle.journey_model.specs.FeedReadings.{entity_said, moment_in}
 use Rattle.journey_model.specs.Records.{Recorded}
 use Rattle.journey_model.specs.Runs.{Run}
 use Rattle.journey_model.specs.Schedules.{Schedule, run_on}
 use Rattle.journey_model.specs.Updates.{filled_text}
-use Rattle.journey_model.specs.declared.fault.Fault.{Fault}
 use Rattle.journey_model.specs.declared.readings.JourneyReading.{JourneyReading}
 use Rattle.journey_model.specs.declared.readings.JourneyReading.TheVariants.{Cancelled, Stops}
 use Rattle.journey_model.specs.declared.readings.StopReading.{StopReading}
 use Rattle.sparse_planner.specs.Means.{Says, SaysStops}
 use Rattle.sparse_planner.specs.Shortest.{shortest}
-use Rattle.latest_store.specs.Entities.{id_of, is_silent, message, messages, messages_on}
+use Rattle.latest_store.specs.Entities.{id_of, is_silent, message, messages}
 use Rattle.latest_store.specs.Reads.{SaysItself, dated_reading}
 use Rattle.latest_store.proofs.EntityLemmas.{messages_none, messages_one}
 

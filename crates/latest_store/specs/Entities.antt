@@ -3,7 +3,6 @@ use Rattle.std.specs.Prelude.{ℕ, ℤ, pos, Bool, true, false, List, [], ◌∷
 use Rattle.std.specs.List.{flat_map, list_all}
 use Rattle.gw_base.specs.declared.messages.Entity.{Entity}
 use Rattle.gw_base.specs.declared.messages.TripDescriptor.{TripDescriptor}
-use Rattle.gw_base.specs.declared.messages.TripUpdate.{TripUpdate}
 use Rattle.service_day.specs.DayTexts.{compact_text}
 use Rattle.feed_messages.specs.Written.{written}
 use Rattle.sparse_planner.specs.Shortest.{shortest}

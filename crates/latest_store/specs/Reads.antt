@@ -1,5 +1,5 @@
 -- How the entity of a record is read, and what a feed with it means.
-use Rattle.std.specs.Prelude.{◌≡◌, ℕ, ℤ, List, ◌++◌, map, Option, Some, None, Ok}
+use Rattle.std.specs.Prelude.{◌≡◌, List, ◌++◌, map, Some, Ok}
 use Rattle.gw_base.specs.declared.messages.Entity.{Entity}
 use Rattle.gw_base.specs.declared.messages.Feed.{Feed}
 use Rattle.journey_model.specs.FeedReadings.{entity_said}

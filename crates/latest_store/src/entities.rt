@@ -1,6 +1,5 @@
 //! The entity of a record. The functions meet `specs/Entities.antt`.
-ghost use Rattle.std.specs.Prelude.{◌≡◌, IfOk, All};
-ghost use Rattle.std.specs.Char.{IsAsciiDigit};
+ghost use Rattle.std.specs.Prelude.{◌≡◌, IfOk};
 ghost use Rattle.std.specs.List.{list_all};
 ghost use Rattle.journey_model.specs.Schedules.{IsServable};
 ghost use Rattle.latest_store.specs.Entities as spec;
@@ -9,17 +8,6 @@ use gw_base::trip_relation::{CANCELED, SCHEDULED};
 use gw_base::{Entity, List, StopUpdate, Text, TripDescriptor, TripUpdate};
 use journey_model::{JourneyReading, StopReading};
 use std::alloc::{AllocError, Global};
-
-// The text of a day's digits.
-pub(crate) fn digits(date: &[u8; 8]) -> &str
-    requires { All IsAsciiDigit date.now }
-    ensures same { result.now ≡ date.now }
-{
-    match str::from_utf8(date) {
-        Ok(text) => text,
-        Err(_) => unreachable!(),
-    }
-}
 
 // The id of a journey's entity.
 pub(crate) fn journey_id(alloc: Global, date: &str, trip_id: &str) -> Result<Text, AllocError>

@@ -14,10 +14,10 @@ ghost use Rattle.sparse_planner.specs.Shortest.{shortest};
 ghost use Rattle.latest_store.specs.Entities as spec;
 ghost use Rattle.latest_store.specs.Reads.{SaysItself, with_messages};
 
-use crate::entities::{descriptor, digits, is_silent, journey_id};
+use crate::entities::{descriptor, is_silent, journey_id};
 use feed_messages::entity_bytes;
 use gw_base::{Bytes, Entity, TripUpdate};
-use journey_model::{Context, DatedTrip, JourneyRecord};
+use journey_model::{Context, DatedTrip, JourneyRecord, date_text};
 use service_day::day_compact;
 use sparse_planner::plan;
 use std::alloc::{AllocError, Global};
@@ -39,7 +39,7 @@ fn message(
     ensures date { length (compact_text rec.now.day) ≡ 8 }
 {
     let date = day_compact(rec.day);
-    let date = digits(&date);
+    let date = date_text(&date);
     let updates = plan(alloc, dated, &rec.reading)?;
     let trip = descriptor(alloc, date, trip_id, &rec.reading)?;
     let id = journey_id(alloc, date, trip_id)?;

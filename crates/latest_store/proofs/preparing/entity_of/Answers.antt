@@ -1,5 +1,5 @@
 -- The entity is the record's one message, which says its reading.
-use Rattle.std.proofs.Common.{◌≡◌, ◌∙◌, sym, ap}
+use Rattle.std.proofs.Common.{◌∙◌, sym, ap}
 use Rattle.std.specs.List.{flat_map}
 use Rattle.feed_messages.specs.Written.{written}
 use Rattle.journey_model.specs.Records.{Recorded, recorded}
