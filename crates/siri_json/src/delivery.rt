@@ -13,7 +13,7 @@ use std::alloc::{AllocError, AllocFailed, Global};
 pub enum DeliveryFault {
     /// It isn't JSON in UTF-8.
     NotJson,
-    /// The way down to its journeys is broken at this member.
+    /// The way down to its items is broken at this member.
     NotDelivery(Member),
     /// Want of memory.
     Memory,
