@@ -3,7 +3,7 @@
 
 It writes protobuf from the schema by itself (gtfs-realtime.proto: FeedEntity, TripUpdate, TripDescriptor,
 StopTimeUpdate, StopTimeEvent, Alert, TimeRange, EntitySelector, TranslatedString) and shares nothing with the crates.
-crates/gateway/src/tests/entities.rt and situations.rt hold what it prints.
+entities.rt and situations.rt of crates/gateway_tests/src/of_gateway_top hold what it prints.
 
 usage: bench/entities.py
 """

@@ -1,6 +1,7 @@
 #!/usr/bin/env python3
-"""Makes the table of `crates/gateway/src/tests/rounds.rt`: deliveries of the trip T1 or L1, each with the lines of `show` that
-the feed made of it must have. The lines are computed here from the calls, apart from the program:
+"""Makes the table of `crates/gateway_tests/src/of_gateway_top/rounds.rt`: the trip T1 or L1 and the calls of its journey, each
+with the lines of `show` that the feed made of that delivery must have. The lines are computed here from the calls, apart
+from the program:
 
     python3 bench/lines.py
 
@@ -51,15 +52,26 @@ def clock(second):
 
 
 def call(order, stop, said):
+    """The pieces of a call's JSON: a second one where it has two times."""
     name, arrival, departure = stop
+    head = '{"StopPointRef":"%s","Order":%d' % (name, order)
     if said == 'skip':
-        return "{$P:'%s',$O:%d,$C}" % (name, order)
-    members = ["$P:'%s'" % name, '$O:%d' % order]
+        return [head + ',"Cancellation":true}']
+    times = []
     if said[0] is not None:
-        members.append("$a:'%s'" % clock(arrival + said[0]))
+        times.append('"ExpectedArrivalTime":"%s"' % clock(arrival + said[0]))
     if said[1] is not None:
-        members.append("$d:'%s'" % clock(departure + said[1]))
-    return '{%s}' % ','.join(members)
+        times.append('"ExpectedDepartureTime":"%s"' % clock(departure + said[1]))
+    pieces = [head + ',' + times[0]] + times[1:]
+    return [piece + ',' for piece in pieces[:-1]] + [pieces[-1] + '}']
+
+
+def literal(pieces):
+    """A text in Rust, as a raw string a piece."""
+    raw = ['r#"%s"#' % piece for piece in pieces]
+    if len(raw) == 1:
+        return raw[0]
+    return 'concat!(\n%s        )' % ''.join('            %s,\n' % piece for piece in raw)
 
 
 def line(trip, place, stop, said):
@@ -77,7 +89,8 @@ def line(trip, place, stop, said):
 
 for trip, stops in CASES:
     known = [call(i + 1, TRIPS[trip][i], said) for i, said in enumerate(stops) if said is not None]
-    number = '1' if trip == 'T1' else '2'
-    print('    (\n        "$<{$R,$%s,$(%s$)}$>",' % (number, ',\\\n        '.join(known)))
+    for pieces in known[:-1]:
+        pieces[-1] += ','
+    print('    (\n        "%s",\n        %s,' % (trip, literal(sum(known, []))))
     lines = [line(trip, i + 1, TRIPS[trip][i], said) for i, said in enumerate(stops)]
     print('        "%s\\n",\n    ),' % '\\n\\\n        '.join(lines))

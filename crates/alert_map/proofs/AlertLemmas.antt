@@ -18,9 +18,9 @@ use Rattle.wire_fields.specs.Reading.{varint_at}
 use Rattle.wire_fields.specs.Spelling.{bytes_field, seven_bits_each, varint}
 use Rattle.wire_fields.proofs.Numbers.{varint_again}
 use Rattle.wire_fields.proofs.Written.{varint_written}
-use Rattle.feed_messages.specs.Tables.{MeansEntity, MeansFeed, with_entity}
-use Rattle.feed_messages.specs.Written.{feed_entity, written}
-use Rattle.feed_messages.proofs.Building.{means_more}
+use Rattle.feed_reading.specs.Tables.{MeansEntity, MeansFeed, with_entity}
+use Rattle.feed_writing.specs.Written.{feed_entity, written}
+use Rattle.feed_reading.proofs.Building.{means_more}
 
 -- bytes begin with one number at most
 pub one_number : (bytes : List ℕ) (a b : ℕ) (behind_a behind_b : List ℕ) → BeginsNumber bytes a behind_a → BeginsNumber bytes b behind_b → a ≡ b
@@ -35,7 +35,7 @@ tag_is : varint 18 ≡ 18 ∷ []
 unfolding varint seven_bits_each
 tag_is = refl
 
--- behind it stand the length of the body and the body
+-- after it stand the length of the body and the body
 behind_tag : (bytes body : List ℕ) → bytes ≡ bytes_field 2 body → drop 1 bytes ≡ varint (length body) ++ body
 behind_tag bytes body is = rw is (rw tag_is refl)
 
@@ -49,7 +49,7 @@ rest_is : (bytes : List ℕ) → take (length bytes - 1) (drop 1 bytes) ≡ drop
 rest_is [] = refl
 rest_is (byte ∷ bytes) = take_all (length (byte ∷ bytes) - 1) bytes (omega arith)
 
--- so the bytes behind the tag begin with that length
+-- so the bytes after the tag begin with that length
 body_begins : (bytes body : List ℕ) → bytes ≡ bytes_field 2 body → length bytes < 2 ^ 64 → BeginsNumber (take (length bytes - 1) (drop 1 bytes)) (length body) body
 body_begins bytes body is few =
     let within : length body < 2 ^ 64 = omega (arith, body_within bytes body is) in

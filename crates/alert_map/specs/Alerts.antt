@@ -1,6 +1,6 @@
 -- The alert of a situation (GTFS Realtime reference, Alert, EntitySelector, TimeRange, TranslatedString), and its
 -- entity.
-use Rattle.std.specs.Prelude.{◌≡◌, ℕ, pos, false, List, [], ◌∷◌, ◌++◌, codes, length, map, slice_get, unwrap_or, Option, Some, None}
+use Rattle.std.specs.Prelude.{◌≡◌, ℕ, pos, false, List, [], ◌∷◌, ◌++◌, codes, length, map, Option, Some, None}
 use Rattle.gw_base.specs.declared.messages.Alert.{Alert}
 use Rattle.gw_base.specs.declared.messages.Entity.{Entity}
 use Rattle.gw_base.specs.declared.messages.Period.{Period}
@@ -9,15 +9,12 @@ use Rattle.gw_base.specs.declared.messages.Translation.{Translation}
 use Rattle.gw_base.specs.declared.messages.TripDescriptor.{TripDescriptor}
 use Rattle.service_day.specs.DayTexts.{compact_text}
 use Rattle.stop_schedule.specs.Table.{Table}
+use Rattle.journey_model.specs.Ids.{id_of}
 use Rattle.journey_model.specs.declared.situation.Ref.{Ref}
 use Rattle.journey_model.specs.declared.situation.Ref.TheVariants.{Route, Stop, Journey}
 use Rattle.journey_model.specs.declared.situation.Situation.{Situation}
 use Rattle.journey_model.specs.declared.situation.ValidPeriod.{ValidPeriod}
-use Rattle.feed_messages.specs.Written.{feed_entity, written}
-
--- the id of that number
-abbrev pub id_of : List (List ℕ) → ℕ → List ℕ
-id_of ids number = unwrap_or (slice_get ids number) []
+use Rattle.feed_writing.specs.Written.{feed_entity, written}
 
 -- the selectors of a route, of a stop, and of a trip on a day, which is SCHEDULED
 abbrev pub route_selector : List ℕ → Selector

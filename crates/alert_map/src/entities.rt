@@ -4,8 +4,8 @@ ghost use Rattle.gw_base.specs.declared.messages.Entity.{Entity};
 ghost use Rattle.gw_base.specs.declared.messages.Feed.{Feed};
 ghost use Rattle.stop_schedule.specs.Seen.{seen};
 ghost use Rattle.journey_model.specs.Situations.{AreKnown};
-ghost use Rattle.feed_messages.specs.Tables.{MeansFeed, with_entity};
-ghost use Rattle.feed_messages.specs.Written.{written};
+ghost use Rattle.feed_reading.specs.Tables.{MeansFeed, with_entity};
+ghost use Rattle.feed_writing.specs.Written.{written};
 ghost use Rattle.alert_map.specs.Alerts as spec;
 
 use crate::alerts::alert_of;
@@ -41,7 +41,7 @@ fn message(alloc: Global, table: &Timetable, situation: &Situation) -> Result<En
 }
 
 /// The bytes of a situation's entity as a field of a feed (GTFS Realtime reference, FeedEntity), whether it is served
-/// or not: the id `alert:` with the situation's number, and its alert. Behind the bytes of a feed they mean that feed
+/// or not: the id `alert:` with the situation's number, and its alert. After the bytes of a feed they mean that feed
 /// with this entity more. The condition is that the timetable has all that is referred to. Err for want of memory, also
 /// where there are more bytes than a buffer can have.
 pub fn alert_entity(
@@ -60,7 +60,7 @@ pub fn alert_entity(
     entity_bytes(alloc, &entity)
 }
 
-/// How many bytes the body of an entity has, by the bytes that stand for it in a feed: the number behind its tag
+/// How many bytes the body of an entity has, by the bytes that stand for it in a feed: the number after its tag
 /// (protobuf encoding, "Message Structure"). The condition is that they are a written entity's. Takes no memory.
 pub fn entity_body_len(bytes: &[u8]) -> u64
     requires { spec.IsOfEntity bytes.now }

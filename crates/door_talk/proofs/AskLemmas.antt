@@ -50,7 +50,7 @@ asks_cut before now bytes why h end is = by before.told h.1
         let none : rest ≡ [] = subst (λ (s : Option Connections). IfSome s (λ t. t.unread ≡ [])) told end in
         subst (λ (z : List ℕ). IsRequest z (Refused why)) (sym (unread ∙ ap (λ (z : List ℕ). bytes ++ z) none ∙ append-nil bytes)) is
 
--- what is asked for behind a head
+-- what is asked for after a head
 pub asks_behind : (Stands : Target → List ℕ → Type 0) (before now : Beside) (bytes part : List ℕ) (count : ℕ) (head : Head) (asked : Asked) → HasRead before now bytes
     → ((more : List ℕ) → IsHead (bytes ++ more) count (Ok head)) → drop count bytes ≡ part → count ≤ length bytes
     → IfSome now.told (λ told. (input : List ℕ) (count : ℕ) → IsHead input count (Ok head) → drop count input ≡ part ++ told.unread → AsksFor Stands input asked)

@@ -5,6 +5,7 @@ use Rattle.std.specs.List.{list_all, list_any}
 use Rattle.std.specs.Str.{bytes_eq}
 use Rattle.std.specs.Str.Parse.{digits_value}
 use Rattle.std.proofs.lemmas.List.{length-drop}
+use Rattle.gw_base.specs.Limits.{body_limit}
 use Rattle.http_talk.specs.Asked.{IsAnswer, asks, is_named, is_number, is_post, length_of, length_said, limited, many_lines, no_head, path_of, target_of, values_of, with_fields, with_length, with_target}
 use Rattle.http_talk.specs.Request.{IsHead}
 use Rattle.http_talk.specs.declared.refusal.Refusal.{Refusal}
@@ -16,15 +17,15 @@ use Rattle.door_talk.specs.Requests.{IsWithin}
 -- ---- the length of a body, as a head says it
 
 abbrev Small : ℕ → Type 0
-Small size = size ≤ 16777216
+Small size = size ≤ body_limit
 
 limited_small : (size : ℕ) → IfOk (limited size) Small
-limited_small size = by (nat_le size 16777216) refl
+limited_small size = by (nat_le size body_limit) refl
   where
-    le : nat_le size 16777216 ≡ true → size ≤ 16777216
+    le : nat_le size body_limit ≡ true → size ≤ body_limit
     le e = grind arith
 
-    by : (c : Bool) → nat_le size 16777216 ≡ c → IfOk (if c then Ok size else Err refusal.TooLarge) Small
+    by : (c : Bool) → nat_le size body_limit ≡ c → IfOk (if c then Ok size else Err refusal.TooLarge) Small
     by true e = le e
     by false e = tt
 
@@ -44,7 +45,7 @@ length_small fields = by (list_any (is_named (codes "transfer-encoding")) fields
     by false = said_small (values_of (codes "content-length") fields)
 
 abbrev HasSmall : Head → Type 0
-HasSmall head = head.length ≤ 16777216
+HasSmall head = head.length ≤ body_limit
 
 of_length : (target : Target) (size : Result ℕ Refusal) → IfOk size Small → IfOk (with_length target size) HasSmall
 of_length target (Ok size) small = small
@@ -69,17 +70,17 @@ of_answer bytes answer (asks few head reads is) =
     (of_fields (target_of head.method (path_of head.target)) _)
 
 -- the body of a head has no more bytes than a body may have
-pub small_body : (input : List ℕ) (count : ℕ) (head : Head) → IsHead input count (Ok head) → head.length ≤ 16777216
+pub small_body : (input : List ℕ) (count : ℕ) (head : Head) → IsHead input count (Ok head) → head.length ≤ body_limit
 small_body input count head is = of_answer (take count input) (Ok head) is.answers
 
 -- ---- how much is read
 
--- a piece behind others
+-- a piece after others
 pub one_more : (held piece came : List ℕ) (count left : ℕ) → left + length held ≡ 16384 → count ≤ left → came ≡ take count piece
     → length came ≡ count → length (held ++ take count piece) ≤ 16384
 one_more held piece came count left all most front size = omega (arith, all, most, ap length front, size, length-append held (take count piece))
 
--- the front of a body, and what was read behind it
+-- the front of a body, and what was read after it
 pub behind_front : (front body : List ℕ) (size : ℕ) → length front ≤ length body → length body ≤ size
     → length front + length (drop (length front) body) ≤ size
 behind_front front body size long within = omega (arith, long, within, length-drop (length front) body)
@@ -91,7 +92,7 @@ pub piece_behind : (front body piece came : List ℕ) (count size : ℕ) → len
 piece_behind front body piece came count size long within is many =
     omega (arith, long, within, ap length is, many, length-drop (length front) body, length-append (drop (length front) body) (take count piece))
 
--- behind a head that is read with a front of its body
+-- after a head that is read with a front of its body
 pub within : (bytes part more : List ℕ) (count : ℕ) (head : Head) → length bytes ≤ 16384
     → ((later : List ℕ) → IsHead (bytes ++ later) count (Ok head)) → is_post head.target ≡ true
     → drop count bytes ≡ part → count ≤ length bytes → length more ≤ head.length - length part → IsWithin (bytes ++ more)

@@ -1,6 +1,7 @@
 -- What a connection asks for, as far as its input was read (RFC 9112).
 use Rattle.std.specs.Prelude.{◌≡◌, ◌≤◌, ◌+◌, ◌++◌, ◌⊎◌, ℕ, true, false, ⊤, List, [], drop, take, length, Some, None, IfSome, MatchOption, Ok}
 use Rattle.gw_base.specs.Connections.{Beside}
+use Rattle.gw_base.specs.Limits.{body_limit}
 use Rattle.http_talk.specs.Asked.{is_post}
 use Rattle.http_talk.specs.Request.{IsHead, IsRequest}
 use Rattle.http_talk.specs.Request as request
@@ -18,11 +19,11 @@ HasRead before now bytes =
     × MatchOption before.told (now.told ≡ None) (λ told. (rest : List ℕ) × (told.unread ≡ bytes ++ rest)
     × (now.told ≡ Some (record { coming = told.coming; input = told.input; unread = rest; log = told.log })))
 
--- these bytes are the head of a POST and no more behind it than its body, which has at most 16,777,216 bytes
+-- these bytes are the head of a POST and no more after it than its body, which has at most 16,777,216 bytes
 abbrev pub IsWithinPost : List ℕ → Type 0
 IsWithinPost bytes =
     (count : ℕ) × (head : Head) × IsHead bytes count (Ok head) × (is_post head.target ≡ true)
-    × (length bytes ≤ count + head.length) × (head.length ≤ 16777216)
+    × (length bytes ≤ count + head.length) × (head.length ≤ body_limit)
 
 -- so much may be read for a request: what a head may have, 16,384 bytes, or the head of a POST and its body
 abbrev pub IsWithin : List ℕ → Type 0

@@ -1,6 +1,7 @@
 //! The body of a request, read off a door.
 ghost use Rattle.std.specs.Prelude.{◌≡◌, ◌≤◌, ◌<◌, ◌+◌, ◌++◌, true, ℕ, ℤ, List, length, IfOk, OnOk, IsErr};
 ghost use Rattle.gw_base.specs.Count.{Counts};
+ghost use Rattle.gw_base.specs.Limits.{body_limit};
 ghost use Rattle.door_talk.specs.Bodies.{ReadsBody};
 ghost use Rattle.door_talk.specs.Requests.{HasRead};
 ghost use Rattle.http_talk.specs.declared.target.Target.{Target};
@@ -23,7 +24,7 @@ pub enum BodyRead {
 
 // Hands on the next bytes of a body, if there are some.
 pub fn hand_on<G, B: TakesBody<G>>(over: &G, taker: &mut B, bytes: &[u8]) -> Result<(), AllocError>
-    requires room { B.taken taker.old + length bytes.now ≤ 16777216 }
+    requires room { B.taken taker.old + length bytes.now ≤ body_limit }
     ensures takes { (moment : ℤ) (target : Target) (front : List ℕ) → B.stands over.now taker.old moment target front
         → OnOk result (B.stands over.now taker.new moment target (front ++ bytes.now)) }
     ensures counted { OnOk result (B.taken taker.new ≡ B.taken taker.old + length bytes.now) }
@@ -46,7 +47,7 @@ pub fn read_body<D: Door, G, B: TakesBody<G>>(
 ) -> Result<BodyRead, Failed>
     requires present { (D.beside door.old).present ≡ true }
     requires room { 0 < length piece.old }
-    requires small { (came ≤ size) × (size ≤ 16777216) }
+    requires small { (came ≤ size) × (size ≤ body_limit) }
     requires came { B.taken taker.old ≡ came }
     ensures reads { (bytes : List ℕ) × HasRead (D.beside door.old) (D.beside door.new) bytes
         × IfOk result (λ it. ReadsBody (D.beside door.new) (B.stands over.now taker.old) (B.stands over.now taker.new)

@@ -10,7 +10,7 @@ use http_talk::{Fed, Head, HeadReader, Refusal};
 /// How the reading of a head ended.
 #[derive(Clone, Copy, Debug)]
 pub enum HeadRead {
-    /// The head ended, and the part of the last piece from there to there stands behind it.
+    /// The head ended, and the part of the last piece from there to there stands after it.
     Ended { head: Head, from: usize, to: usize },
     /// The request is refused by what came of it.
     Refused(Refusal),

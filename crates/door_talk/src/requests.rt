@@ -1,6 +1,7 @@
 //! A request, read off a door. The definition is `AsksFor` of `specs/Requests.antt`.
 ghost use Rattle.std.specs.Prelude.{◌≡◌, ◌≤◌, ◌<◌, ◌-◌, ◌++◌, true, ℕ, List, drop, take, length, IfSome, Ok};
 ghost use Rattle.gw_base.specs.Count.{Rose};
+ghost use Rattle.gw_base.specs.Limits.{body_limit};
 ghost use Rattle.http_talk.specs.Asked.{is_post};
 ghost use Rattle.http_talk.specs.Request.{IsHead};
 ghost use Rattle.door_talk.specs.Requests.{AsksFor, HasMethod, HasRead, IsWithin};
@@ -32,7 +33,7 @@ fn read_post<D: Door, G, B: TakesBody<G>>(
     requires room { 0 < length piece.old }
     requires part { (from ≤ to) × (to ≤ length piece.old) }
     requires post { is_post head.target ≡ true }
-    requires small { head.length ≤ 16777216 }
+    requires small { head.length ≤ body_limit }
     ensures asks { IfSome (D.beside door.old).told (λ told. (input : List ℕ) (count : ℕ) → IsHead input count (Ok head)
         → drop count input ≡ drop from (take to piece.old) ++ told.unread
         → AsksFor (B.stands over.now taker.new moment) input result) }
@@ -79,7 +80,7 @@ pub fn read_request<D: Door, G, B: TakesBody<G>>(
     ensures asks { IfSome (D.beside door.old).told (λ told.
         AsksFor (B.stands over.now taker.new moment) told.unread result) }
     ensures reads { (bytes : List ℕ) × HasRead (D.beside door.old) (D.beside door.new) bytes × IsWithin bytes }
-    ensures taken { B.taken taker.old ≤ 16777216 → B.taken taker.new ≤ 16777216 }
+    ensures taken { B.taken taker.old ≤ body_limit → B.taken taker.new ≤ body_limit }
     ensures method { HasMethod (B.stands over.now taker.new moment) result }
     ensures lost { result ≡ Asked.Lost → Rose (D.faults door.old) (D.faults door.new) }
     ensures counts { D.faults door.old ≤ D.faults door.new }

@@ -1,5 +1,6 @@
 //! What takes the body of a POST while it arrives.
 ghost use Rattle.std.specs.Prelude.{◌≡◌, [], length, OnOk};
+ghost use Rattle.gw_base.specs.Limits.{body_limit};
 
 use gw_base::{Bytes, Moment};
 use http_talk::Target;
@@ -32,7 +33,7 @@ pub trait TakesBody<G> {
     /// Takes the next bytes of the body, which has at most 16,777,216. After Err it may only begin again.
     fn take(&mut self, over: &G, piece: &[u8]) -> Result<(), AllocError>
         requires some { 0 < length piece.now }
-        requires room { taken self.old + length piece.now ≤ 16777216 }
+        requires room { taken self.old + length piece.now ≤ body_limit }
         ensures takes { (moment : ℤ) (target : targets.Target) (bytes : List ℕ)
             → stands over.now self.old moment target bytes
             → OnOk result (stands over.now self.new moment target (bytes ++ piece.now)) }

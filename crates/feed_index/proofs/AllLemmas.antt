@@ -60,7 +60,7 @@ eq_turned Greater = refl
 module _ {K X : Type 0} (key_of : X → K) {cmp : K → K → Ordering} (o : IsTotalOrder cmp) where
   -- ---- one more element among several
 
-  -- one whose key is new to others may come before them or behind
+  -- one whose key is new to others may come before them or after
   pub one_apart : (xs more : List X) (x : X) → IsNew key_of cmp more (key_of x) → with_one key_of cmp (with_all key_of cmp xs more) x ≡ with_all key_of cmp (with_one key_of cmp xs x) more
   one_apart xs [] x new = refl
   one_apart xs (y ∷ more) x new = one_apart (with_one key_of cmp xs y) more x new.1 ∙ ap (λ (ys : List X). with_all key_of cmp ys more) (turns (cmp (key_of y) (key_of x)) refl new.0)
@@ -89,7 +89,7 @@ module _ {K X : Type 0} (key_of : X → K) {cmp : K → K → Ordering} (o : IsT
   greater_first : (y x : X) (ys : List X) → AreRising key_of cmp (y ∷ ys) → cmp (key_of y) (key_of x) ≡ Greater → with_one key_of cmp (y ∷ ys) x ≡ x ∷ y ∷ ys
   greater_first y x ys h e = let parts = parts_between key_of o (key_of x) [] (y ∷ ys) tt (above_greater y x ys h e) in rw (parts.0, parts.1) refl
 
-  -- one more among several is one more behind all
+  -- one more among several is one more after all
   pub all_one : (xs more : List X) (x : X) → AreRising key_of cmp more → with_all key_of cmp xs (with_one key_of cmp more x) ≡ with_one key_of cmp (with_all key_of cmp xs more) x
   all_one xs [] x h = refl
   all_one xs (y ∷ more) x h = by (cmp (key_of y) (key_of x)) refl (all_one (with_one key_of cmp xs y) more x (rising_parts key_of o [] y more h).back)
@@ -102,7 +102,7 @@ module _ {K X : Type 0} (key_of : X → K) {cmp : K → K → Ordering} (o : IsT
           ∙ sym (one_apart (with_one key_of cmp xs y) more x (new_above (key_of x) more (above_equal y x more h e)))
       by Greater e more_is = ap (with_all key_of cmp xs) (greater_first y x more h e) ∙ sym (one_apart xs (y ∷ more) x (new_above (key_of x) (y ∷ more) (above_greater y x more h e)))
 
-  -- elements behind a rising list
+  -- elements after a rising list
   one_behind : (xs : List X) (y : X) (ys : List X) → AreRising key_of cmp (xs ++ y ∷ ys) → with_one key_of cmp xs y ≡ xs ++ y ∷ []
   one_behind xs y ys h =
       let low = (rising_parts key_of o xs y ys h).low in

@@ -1,6 +1,6 @@
 -- Two runs that stand for a list, when one more element comes.
-use Rattle.std.proofs.Common.{◌≡◌, ◌∙◌, ◌++◌, ◌∷◌, [], ◌<◌, ◌≤◌, ◌+◌, ◌-◌, ℕ, false, List, length, get_or, take, drop, set, sym, ap, refl, subst, arith}
-use Rattle.std.proofs.lemmas.List.{drop_all, drop_at, length-set, length-take-le, set-append_left, set-append_right, take-append-drop, take_all, take_at}
+use Rattle.std.proofs.Common.{◌≡◌, ◌∙◌, ◌++◌, ◌∷◌, [], ◌<◌, ◌≤◌, ◌+◌, ◌-◌, ℕ, false, List, length, get_or, take, drop, set, sym, ap, subst, arith}
+use Rattle.std.proofs.lemmas.List.{drop_at, length-set, length-take-le, set-append_left, set-append_right, take-append-drop, take_at}
 use Rattle.std.proofs.lemmas.List.Edits.{insert-append_right}
 use Rattle.std.proofs.lemmas.List.Elements.{All-from_recursion}
 use Rattle.std.specs.Prelude.{insert}
@@ -9,11 +9,11 @@ use Rattle.std.specs.List.{AllByRecursion}
 use Rattle.std.specs.Ordering.{is_eq}
 use Rattle.std.specs.declared.cmp.Ordering.{Ordering}
 use Rattle.std.specs.declared.cmp.Ordering.TheVariants.{Equal}
-use Rattle.feed_index.specs.Order.{above, below, with_all, with_one}
+use Rattle.feed_index.specs.Order.{above, below, with_one}
 use Rattle.feed_index.specs.Staged.{AreStaged, IsNew, Stages}
 use Rattle.feed_index.proofs.AllLemmas.{all_one, eq_turned, new_to_put, one_apart}
 use Rattle.feed_index.proofs.OrderLemmas.{each_filter, each_joined, each_weaker}
-use Rattle.feed_index.proofs.RisingLemmas.{high_parts, low_parts, rising_all, rising_none, rising_one}
+use Rattle.feed_index.proofs.RisingLemmas.{high_parts, low_parts, rising_one}
 
 module _ {K X : Type 0} (key_of : X → K) {cmp : K → K → Ordering} (o : IsTotalOrder cmp) where
   -- its key is new to the back: it comes among the front
@@ -40,17 +40,6 @@ module _ {K X : Type 0} (key_of : X → K) {cmp : K → K → Ordering} (o : IsT
       apart = each_joined (λ x. IsNew key_of cmp front (key_of x)) _ (one ∷ above key_of cmp (key_of one) back) (each_filter _ _ back h.apart) (new, each_filter _ _ back h.apart);
     };
     merged = all_one key_of o front back one h.back_rises;
-  }
-
-  -- all of them are merged before it comes
-  pub stages_late : (front back : List X) (one : X) → AreStaged key_of cmp front back → Stages key_of cmp front back one (with_one key_of cmp (with_all key_of cmp front back) one) []
-  stages_late front back one h = record {
-    staged = record {
-      front_rises = rising_one key_of o (with_all key_of cmp front back) one (rising_all key_of o front back h.front_rises);
-      back_rises = rising_none key_of cmp;
-      apart = tt;
-    };
-    merged = refl;
   }
 
   -- a key that stands between the parts is new
@@ -104,8 +93,3 @@ module _ {K X : Type 0} (key_of : X → K) {cmp : K → K → Ordering} (o : IsT
       (ap (λ (ys : List X). insert ys (front + at) one) (sym (take-append-drop front xs))
       ∙ insert-append_right (take front xs) (drop front xs) front (front + at) one (length-take-le front xs le) (omega arith)
       ∙ ap (λ (ys : List X). take front xs ++ ys) (ap (λ n. insert (drop front xs) n one) rest ∙ e))
-
-  pub list_late : (xs now : List X) (front next : ℕ) (one : X) → AreStaged key_of cmp (take front xs) (drop front xs) → now ≡ with_one key_of cmp (with_all key_of cmp (take front xs) (drop front xs)) one → length now ≡ next →
-      Stages key_of cmp (take front xs) (drop front xs) one (take next now) (drop next now)
-  list_late xs now front next one h e long =
-      rw (take_all next now (omega arith), drop_all next now (omega arith), e) (stages_late (take front xs) (drop front xs) one h)

@@ -32,7 +32,7 @@ module _ {K R : Type 0} (cmp : K → K → Ordering) where
   RowsAreStaged rows pool front =
       AreStaged (λ one. one.key) cmp (take front (entries_of pool.spans rows)) (drop front (entries_of pool.spans rows))
 
-  -- the entries of rows whose front ends there: those of the front, with those behind put one after the other
+  -- the entries of rows whose front ends there: those of the front, with those after put one after the other
   abbrev pub gathered : List (Row K R) → List (ℕ × List ℕ) → ℕ → List (Entry K R)
   gathered rows spans front = put_all cmp (take front (entries_of spans rows)) (drop front (entries_of spans rows))
 

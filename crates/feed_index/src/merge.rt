@@ -1,4 +1,4 @@
-//! Many items at once: each is put in place of the row of its key, or among the rows behind the front, and those behind
+//! Many items at once: each is put in place of the row of its key, or among the rows after the front, and those after
 //! are merged into the others where they are many, and at the end.
 ghost use Rattle.std.specs.Prelude.{◌≡◌, ◌+◌, ◌<◌, ◌≤◌, ⊤, MatchBool, length, take, vec_len, vec_capacity};
 ghost use Rattle.feed_index.specs.Entries.{put_all, total};
@@ -9,13 +9,12 @@ use crate::change::{exchange, insert};
 use crate::place::place;
 use crate::row::Row;
 use crate::runs::join;
-use crate::set::set;
 use span_pool::SpanPool;
 
-/// How many rows stand behind before they are merged.
+/// How many rows stand after before they are merged.
 const MOST_BEHIND: usize = 256;
 
-/// Takes an item among those behind the front, where no row before has its key.
+/// Takes an item among those after the front, where no row before has its key.
 fn take_behind<K: Ord + Drop, R: Drop>(
     rows: &mut Vec<Row<K, R>>,
     pool: &mut SpanPool,
@@ -70,7 +69,7 @@ fn take_early<K: Ord + Drop, R: Drop>(
     }
 }
 
-/// Takes an item, after the rows behind the front were merged.
+/// Takes an item, after the rows after the front were merged.
 fn take_late<K: Ord + Drop, R: Drop>(
     rows: &mut Vec<Row<K, R>>,
     pool: &mut SpanPool,
@@ -90,8 +89,9 @@ fn take_late<K: Ord + Drop, R: Drop>(
     ensures capacity { vec_capacity rows.new ≡ vec_capacity rows.old }
 {
     join(rows, front);
-    let _old = set(rows, pool, key, value, bytes);
-    rows.len()
+    let next = rows.len();
+    take_early(rows, pool, next, key, value, bytes);
+    next
 }
 
 /// Takes an item, and answers where the front ends then.

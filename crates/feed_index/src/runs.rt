@@ -43,7 +43,7 @@ fn gap_of_last<K: Ord, R>(rows: &[Row<K, R>], front: usize, end: usize) -> usize
     gap(&rows[..front], &rows[end - 1].key)
 }
 
-/// Merges the rows from `front` on into those before, from the last one on: what is greater than it moves behind it.
+/// Merges the rows from `front` on into those before, from the last one on: what is greater than it moves after it.
 fn merge_runs<K: Ord, R>(rows: &mut [Row<K, R>], front: usize)
     requires within { front ≤ length rows.old }
     requires staged { AreStaged (λ row. row.key) K.cmp (take front rows.old) (drop front rows.old) }

@@ -24,7 +24,7 @@ pub trait Choice<R> {
         ensures value { result ≡ test self.now value.now };
 }
 
-/// Gathers a piece, and writes what is gathered where it has no room behind it.
+/// Gathers a piece, and writes what is gathered where it has no room after it.
 fn gather<S: Sink>(
     gathered: &mut ArrayVec<u8, ROOM>,
     sink: &mut S,

@@ -3,7 +3,7 @@ use Rattle.std.proofs.Common.{◌≡◌, ◌==◌, ℕ, ℤ, pos, negsuc, ◌%�
 use Rattle.std.proofs.lemmas.Int.{to_z-of_z}
 use Rattle.std.proofs.lemmas.List.{append-nil}
 use Rattle.std.proofs.Math.Nat.{mod-eq_of_lt}
-use Rattle.std.specs.Prelude.{Option, Some, None, option_map, unwrap_or, IfSome, IsUtf8, FitsSigned, unsigned_abs, not, if◌then◌else◌}
+use Rattle.std.specs.Prelude.{Result, Ok, Err, IfOk, OnOk, Option, Some, None, option_map, unwrap_or, IfSome, IsUtf8, FitsSigned, unsigned_abs, not, if◌then◌else◌}
 use Rattle.std.specs.List.{filter_map, last_or, flat_map, AllByRecursion, AllZip}
 use Rattle.std.specs.Int.{w32, w64, cast_signed, cast_unsigned}
 use Rattle.gw_base.specs.declared.messages.Alert.{Alert}
@@ -16,12 +16,15 @@ use Rattle.gw_base.specs.declared.messages.Translation.{Translation}
 use Rattle.gw_base.specs.declared.messages.TripDescriptor.{TripDescriptor}
 use Rattle.gw_base.specs.declared.messages.TripUpdate.{TripUpdate}
 use Rattle.wire_fields.specs.Grammar.{Payload, Varint, Bytes, WireField}
-use Rattle.feed_messages.specs.Meaning.{number_in, body_in, numbers, bodies, IsUint64, IsUint32, IsInt64, IsInt32, IsEnum, IsBool, IsText, Means, IsJoined, AreBodies, IsMessage, AreMessages}
-use Rattle.feed_messages.specs.Tables.{OfTripDescriptor, OfStopTimeEvent, OfStopTimeUpdate, OfTripUpdate, OfTimeRange, OfEntitySelector, OfTranslation, OfTranslatedString, AreTranslations, OfAlert, OfFeedEntity, MeansFeed, MeansEntity, full_dataset}
-use Rattle.feed_messages.specs.Written.{trip_descriptor, stop_time_event, stop_time_update, trip_update, time_range, entity_selector, translation, translated_string, alert, feed_entity, written, header}
-use Rattle.feed_messages.specs.Sound.{IsSoundTrip, IsSoundEvent, IsSoundStop, IsSoundUpdate, IsSoundPeriod, IsSoundSelector, IsSoundTranslation, IsSoundAlert, IsSoundEntity}
-use Rattle.feed_messages.proofs.Building.{one_body, means_header, means_more}
-use Rattle.feed_messages.proofs.Parts.{fields_of, held_by, held_parts, number_part, signed_part, body_part, relation_part, deleted_part, found_in, Builds, then_built, builds_body, builds_optional_body, builds_optional_text, builds_bodies, builds_optional_number, builds_signed, builds_optional_signed, builds_relation, builds_deleted, builds_translations, countable_bodies}
+use Rattle.feed_reading.specs.Meaning.{number_in, body_in, numbers, bodies, IsUint64, IsUint32, IsInt64, IsInt32, IsEnum, IsBool, IsText, Means, IsJoined, AreBodies, IsMessage, AreMessages}
+use Rattle.feed_reading.specs.Tables.{OfTripDescriptor, OfStopTimeEvent, OfStopTimeUpdate, OfTripUpdate, OfTimeRange, OfEntitySelector, OfTranslation, OfTranslatedString, AreTranslations, OfAlert, OfFeedEntity, MeansFeed, MeansEntity, full_dataset}
+use Rattle.feed_writing.specs.Writable.{IsWritable}
+use Rattle.feed_writing.specs.Written.{trip_descriptor, stop_time_event, stop_time_update, trip_update, time_range, entity_selector, translation, translated_string, alert, feed_entity, written, header}
+use Rattle.feed_writing.specs.Sound.{IsSoundTrip, IsSoundEvent, IsSoundStop, IsSoundUpdate, IsSoundPeriod, IsSoundSelector, IsSoundTranslation, IsSoundAlert, IsSoundEntity}
+use Rattle.feed_reading.proofs.Building.{one_body, means_more}
+use Rattle.feed_messages.proofs.Headers.{means_header}
+use Rattle.feed_messages.proofs.Parts.{fields_of, held_by, held_parts, number_part, signed_part, body_part, relation_part, deleted_part, found_in, Builds, then_built, builds_body, builds_optional_body, builds_optional_text, builds_bodies, builds_optional_number, builds_signed, builds_optional_signed, builds_relation, builds_deleted, builds_translations}
+use Rattle.feed_reading.proofs.ShortBodies.{countable_bodies}
 
 -- ---- texts and numbers
 
@@ -469,6 +472,13 @@ means_written entity sound short =
     let body = countable_bodies 2 (fields_of ((2, Bytes (feed_entity entity) ∷ []) ∷ [])) (written entity) field
     short in
     record { body = feed_entity entity; field = field; means = means_body entity sound body.0 }
+
+-- what answers the bytes of an entity that can be written answers bytes that mean it
+pub answers_meant : {E : Type 0} (entity : Entity) (result : Result (List ℕ) E)
+    → IfOk result (λ bytes. bytes ≡ written entity) → OnOk result (IsWritable entity)
+    → IfOk result (λ bytes. MeansEntity bytes entity)
+answers_meant entity (Ok bytes) same can = rw same (means_written entity can.sound can.counted)
+answers_meant entity (Err fault) same can = tt
 
 -- ---- the feed
 

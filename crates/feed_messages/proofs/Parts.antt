@@ -1,16 +1,16 @@
 -- Fields that are written number by number, and what those of a number hold.
-use Rattle.std.proofs.Common.{◌≡◌, ◌==◌, ℕ, ℤ, pos, negsuc, ◌+◌, ◌*◌, ◌-◌, ◌^◌, ◌<◌, ◌≤◌, Bool, true, false, List, [], ◌∷◌, ◌++◌, length, map, refl, sym, ap, subst, ◌∙◌, arith, append_assoc, length-append}
+use Rattle.std.proofs.Common.{◌≡◌, ◌==◌, ℕ, ℤ, pos, negsuc, ◌+◌, ◌*◌, ◌^◌, ◌<◌, ◌≤◌, Bool, true, false, List, [], ◌∷◌, ◌++◌, length, map, refl, sym, ap, subst, ◌∙◌, arith, append_assoc, length-append}
 use Rattle.std.proofs.lemmas.List.Elements.{filter_map-append}
 use Rattle.std.specs.Prelude.{Option, Some, None, option_map, IfSome, if◌then◌else◌, FitsSigned, unsigned_abs}
-use Rattle.std.specs.List.{filter_map, flat_map, cons_option, AllByRecursion}
+use Rattle.std.specs.List.{filter_map, flat_map, cons_option}
 use Rattle.std.specs.Int.{w64, cast_unsigned}
-use Rattle.wire_fields.specs.Grammar.{Payload, Varint, Fixed64, Bytes, Group, Fixed32, WireField, IsSpelling, AreFields}
+use Rattle.wire_fields.specs.Grammar.{Payload, Varint, Bytes, WireField, IsSpelling, AreFields}
 use Rattle.wire_fields.specs.Spelling.{varint, varint_field, bytes_field}
 use Rattle.wire_fields.proofs.Lists.{Concatenates-append, Concatenates-one}
 use Rattle.wire_fields.proofs.Written.{varint_field_written, bytes_field_written}
 use Rattle.gw_base.specs.declared.messages.Translation.{Translation}
-use Rattle.feed_messages.specs.Meaning.{body_in, held, bodies}
-use Rattle.feed_messages.specs.Written.{if_there, signed_field, relation_field, deleted_field, translated_string, translated_field}
+use Rattle.feed_reading.specs.Meaning.{held}
+use Rattle.feed_writing.specs.Written.{if_there, signed_field, relation_field, deleted_field, translated_string, translated_field}
 
 -- the fields of a number, and those of parts, of which each has a number and what its fields hold
 abbrev pub fields_with : ℕ → List Payload → List WireField
@@ -179,41 +179,3 @@ pub builds_translations : (number : ℕ) (texts : List Translation) → 1 ≤ nu
     → Builds (translated_field number texts) ((number, body_part (option_map translated_string (found_in texts))) ∷ [])
 builds_translations number [] first last = record { read = λ short. refl }
 builds_translations number (text ∷ texts) first last = builds_body number (translated_string (text ∷ texts)) first last
-
--- ---- no body is longer than the message
-
-pub short_body : (n : ℕ) (number : ℕ) (payload : Payload) (spelling : List ℕ)
-    → IsSpelling 64 (record { number = number; payload = payload }) spelling → length spelling ≤ n
-    → IfSome (body_in payload) (λ body. length body ≤ n)
-short_body n number (Varint value) spelling h le = tt
-short_body n number (Fixed64 value) spelling h le = tt
-short_body n number (Bytes body) spelling h le =
-    omega (arith, ap length h.joined, length-append h.tag h.payload, ap length h.paid.2, length-append h.paid.0 body)
-short_body n number Group spelling h le = tt
-short_body n number (Fixed32 value) spelling h le = tt
-
-all_cons : {X : Type 0} (P : X → Type 0) (b : Bool) (x : Option X) (xs : List X) → IfSome x P → AllByRecursion P xs
-    → AllByRecursion P (cons_option (if b then x else None) xs)
-all_cons P true None xs h k = k
-all_cons P true (Some x) xs h k = (h, k)
-all_cons P false x xs h k = k
-
-short_bodies : (n number : ℕ) (fields : List WireField) (bytes : List ℕ) → AreFields bytes fields → length bytes ≤ n
-    → AllByRecursion (λ body. length body ≤ n) (bodies number fields)
-short_bodies n number [] bytes h le = tt
-short_bodies n number (field ∷ fields) bytes h le =
-    let parts = ap length h.2 ∙ length-append h.0 h.1 in
-    all_cons (λ body. length body ≤ n) (field.number == number) (body_in field.payload) (bodies number fields)
-    (short_body n field.number field.payload h.0 h.3 (omega (arith, parts)))
-    (short_bodies n number fields h.1 h.4 (omega (arith, parts)))
-
-all_weaker : {X : Type 0} (P Q : X → Type 0) (xs : List X) → ((x : X) → P x → Q x) → AllByRecursion P xs
-    → AllByRecursion Q xs
-all_weaker P Q [] along h = tt
-all_weaker P Q (x ∷ xs) along h = (along x h.0, all_weaker P Q xs along h.1)
-
-pub countable_bodies : (number : ℕ) (fields : List WireField) (bytes : List ℕ) → AreFields bytes fields
-    → length bytes < 2 ^ 64 → AllByRecursion (λ body. length body < 2 ^ 64) (bodies number fields)
-countable_bodies number fields bytes h short =
-    all_weaker (λ body. length body ≤ 2 ^ 64 - 1) (λ body. length body < 2 ^ 64) (bodies number fields)
-    (λ body le. omega arith) (short_bodies (2 ^ 64 - 1) number fields bytes h (omega arith))

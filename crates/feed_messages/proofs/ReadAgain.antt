@@ -1,8 +1,10 @@
 -- What is written within the limit of an entity has no fault, and is read again.
-use Rattle.std.proofs.Common.{◌≡◌, ◌∙◌, ◌≤◌, ◌<◌, ◌^◌, ◌++◌, ◌∷◌, ℕ, ℤ, List, [], length, length-append, Result, Ok, Err, IfOk, refl, ap, subst, arith}
+use Rattle.std.proofs.Common.{◌≡◌, ◌∙◌, ◌≤◌, ◌<◌, ◌^◌, ◌++◌, ◌∷◌, ℕ, ℤ, List, [], length, length-append, Result, Ok, Err, IfOk, refl, sym, ap, subst, arith}
+use Rattle.std.proofs.lemmas.Int.{ints}
 use Rattle.std.proofs.lemmas.List.Elements.{filter_map-append}
 use Rattle.std.specs.Prelude.{IfErr, MatchResult, unsigned_abs}
 use Rattle.std.specs.List.{AllByRecursion, AllZip, flat_map}
+use Rattle.gw_base.specs.Moments.{IsMoment}
 use Rattle.gw_base.specs.declared.messages.Entity.{Entity}
 use Rattle.gw_base.specs.declared.messages.Feed.{Feed}
 use Rattle.wire_fields.specs.Grammar.{Bytes, WireField, IsSpelling, AreFields}
@@ -11,19 +13,20 @@ use Rattle.wire_fields.proofs.Broken.{fields_once}
 use Rattle.wire_fields.proofs.Lists.{Concatenates-append}
 use Rattle.wire_fields.proofs.Varints.{length-varint_10}
 use Rattle.wire_fields.proofs.Written.{bytes_field_written}
-use Rattle.feed_messages.specs.declared.fault.FeedFault.{FeedFault}
-use Rattle.feed_messages.specs.declared.fault.FeedFault.TheVariants.{EntityTooLong, Wire, NotText, MissingField, Memory}
-use Rattle.feed_messages.specs.Faults.{HasFault, IsTold}
-use Rattle.feed_messages.specs.Meaning.{bodies, Means}
-use Rattle.feed_messages.specs.Limits.{entity_limit}
-use Rattle.feed_messages.specs.Partly.{AreShort, MeansShortFeed}
-use Rattle.feed_messages.specs.Tables.{MeansEntity, MeansFeed, OfFeedEntity, full_dataset}
-use Rattle.feed_messages.specs.Writable.{IsReadable, IsWritable}
-use Rattle.feed_messages.specs.Written.{feed_entity, header, written}
-use Rattle.feed_messages.proofs.Building.{means_header}
+use Rattle.feed_reading.specs.declared.fault.FeedFault.{FeedFault}
+use Rattle.feed_reading.specs.declared.fault.FeedFault.TheVariants.{EntityTooLong, Wire, NotText, MissingField, Memory}
+use Rattle.feed_reading.specs.Faults.{HasFault, IsTold}
+use Rattle.feed_reading.specs.Meaning.{bodies, Means}
+use Rattle.feed_reading.specs.Limits.{entity_limit}
+use Rattle.feed_reading.specs.Partly.{AreShort, MeansShortFeed}
+use Rattle.feed_reading.specs.Tables.{MeansEntity, MeansFeed, OfFeedEntity, full_dataset}
+use Rattle.feed_messages.specs.Readable.{IsReadable}
+use Rattle.feed_writing.specs.Writable.{IsWritable}
+use Rattle.feed_writing.specs.Written.{feed_entity, header, written, written_feed}
+use Rattle.feed_messages.proofs.Headers.{means_header}
 use Rattle.feed_messages.proofs.Meant.{means_feed, means_written}
-use Rattle.feed_messages.proofs.OneMeaning.{one_feed}
-use Rattle.feed_messages.proofs.ShortEntities.{means_short, short_has_no_fault}
+use Rattle.feed_reading.proofs.OneMeaning.{one_feed}
+use Rattle.feed_reading.proofs.ShortEntities.{means_short, short_has_no_fault}
 
 -- the bytes of entities that can be written mean them
 pub each_meant : (entities : List Entity) → AllByRecursion IsWritable entities
@@ -70,7 +73,7 @@ no_bodies : (bodies : List (List ℕ)) → AllZip (Means OfFeedEntity) bodies []
 no_bodies [] h = refl
 no_bodies (body ∷ bodies) h = absurd h
 
-pub means_short_feed : (moment : ℤ) (entities : List Entity) → unsigned_abs moment < 2 ^ 64
+means_short_feed : (moment : ℤ) (entities : List Entity) → unsigned_abs moment < 2 ^ 64
     → AllByRecursion IsReadable entities
     → MeansShortFeed (header moment ++ flat_map written entities) (full_dataset moment entities)
 means_short_feed moment entities small readable =
@@ -91,6 +94,15 @@ means_short_feed moment entities small readable =
       read = means.read;
       table = (means.table, subst (λ (fields : List WireField). AreShort (bodies 2 fields)) same short);
     }
+
+-- bytes that a header and such entities are
+pub written_short_feed : (bytes : List ℕ) (moment : ℤ) (entities : List Entity) → IsMoment moment
+    → AllByRecursion IsReadable entities → bytes ≡ written_feed moment entities
+    → MeansShortFeed bytes (full_dataset moment entities)
+written_short_feed bytes moment entities is readable same =
+    let small : unsigned_abs moment < 2 ^ 64 = omega (arith, ints) in
+    subst (λ (b : List ℕ). MeansShortFeed b (full_dataset moment entities)) (sym same)
+    (means_short_feed moment entities small readable)
 
 -- where bytes have no fault, want of memory alone is told
 only_memory : (bytes : List ℕ) (fault : FeedFault) → ((other : FeedFault) → ¬ HasFault bytes other)

@@ -129,7 +129,7 @@ fn bytes_are_fields_or_break(rt: HostRuntime) -> Result<(), Fail> {
             ],
             broken(0, WireKind::LongVarint),
         ),
-        // a fault behind a field
+        // a fault after a field
         (&[0x08, 0x01, 0x0e], broken(2, WireKind::BadTag)),
         (
             &[0x08, 0x01, 0x12, 0x02, 0x03],

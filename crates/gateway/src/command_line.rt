@@ -66,7 +66,7 @@ fn text_of(alloc: Global, bytes: &[u8]) -> Result<Text, AllocError> {
     Text::copied(alloc, str::from_utf8(bytes).unwrap_or(""))
 }
 
-/// The words of the command line behind the program's name.
+/// The words of the command line after the program's name.
 pub fn words_of<E: Env>(env: &E, alloc: Global) -> Result<Vec<Text>, AllocError> {
     let mut buf = Vec::new(alloc);
     buf.resize(MOST_BYTES, 0)?;

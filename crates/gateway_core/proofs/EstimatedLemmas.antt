@@ -4,7 +4,7 @@ use Rattle.std.specs.Prelude.{filter}
 use Rattle.std.specs.List.{AllByRecursion}
 use Rattle.gw_base.specs.declared.member.Member.{Member}
 use Rattle.journey_model.specs.Records.{Recorded, recorded}
-use Rattle.journey_model.specs.Schedules.{IsServable, Schedule}
+use Rattle.journey_model.specs.Schedules.{IsServable, Schedule, schedule_from}
 use Rattle.journey_model.specs.declared.fault.Fault.{Fault}
 use Rattle.journey_model.specs.declared.report.Report.{Report}
 use Rattle.serde_json.specs.Data.{Data}
@@ -17,7 +17,6 @@ use Rattle.siri_json.specs.declared.delivery.DeliveryFault.{DeliveryFault}
 use Rattle.siri_json.specs.declared.delivery.DeliveryFault.TheVariants.{NotJson, NotDelivery, Memory}
 use Rattle.service_day.specs.Windows.{DayStarts}
 use Rattle.service_day.specs.declared.moments.Instant.{Instant}
-use Rattle.stop_schedule.specs.Seen.{seen}
 use Rattle.feed_index.specs.Entries.{put_all}
 use Rattle.feed_index.specs.declared.entry.Entry.{Entry}
 use Rattle.gateway_core.specs.Arrivals.{Arrival, admitted, is_within, moments_of, schedule_at, window_at}
@@ -113,16 +112,16 @@ module _ (old now : Kept) (arrivals : List Arrival) (moment : ℤ) (body : List 
 
   -- the context of a window that rolled
   module _ (setting : Setting) (window : DayStarts) (setting_is : setting ≡ old.setting) (rolls : window ≡ window_at old.setting (moment ∷ moments_of arrivals)) where
-    same : record { table = seen setting.table; zone = setting.zone; window = window } ≡ schedule_at old.setting (moment ∷ moments_of arrivals)
-    same = λ i. record { table = seen ((setting_is i).table); zone = (setting_is i).zone; window = rolls i }
+    same : schedule_from setting.table setting.zone window ≡ schedule_at old.setting (moment ∷ moments_of arrivals)
+    same = λ i. schedule_from ((setting_is i).table) ((setting_is i).zone) (rolls i)
 
     pub journeys_accepted : (accepted : Accepted) (entries batch : List (Entry JourneyKey Instant)) (gone : ℕ) → Stands old arrivals
         → old.journeys ≡ map journey_seen entries
         → KeepsJourneys (schedule_at old.setting (moment ∷ moments_of arrivals))
         (filter (is_within (window_at old.setting (moment ∷ moments_of arrivals))) (admitted old.setting arrivals)) (drop gone old.journeys)
         → ((before : List Recorded)
-        → KeepsJourneys (record { table = seen setting.table; zone = setting.zone; window = window }) (filter (is_within window) before) (map journey_seen (drop gone entries))
-        → MakesJourneys (record { table = seen setting.table; zone = setting.zone; window = window }) before body accepted.report (map journey_seen (put_all key_order (drop gone entries) batch)))
+        → KeepsJourneys (schedule_from setting.table setting.zone window) (filter (is_within window) before) (map journey_seen (drop gone entries))
+        → MakesJourneys (schedule_from setting.table setting.zone window) before body accepted.report (map journey_seen (put_all key_order (drop gone entries) batch)))
         → now.setting ≡ setting → now.window ≡ window → now.journeys ≡ map journey_seen (put_all key_order (drop gone entries) batch)
         → now.situations ≡ old.situations → now.text ≡ old.text
         → JourneysAnswer old arrivals moment body (Ok accepted) now
@@ -131,12 +130,12 @@ module _ (old now : Kept) (arrivals : List Arrival) (moment : ℤ) (body : List 
         (subst (λ (es : List JourneyEntry). MakesJourneys (schedule_at old.setting (moment ∷ moments_of arrivals)) (admitted old.setting arrivals) body accepted.report es) (sym journeys_now)
         (subst (λ (s : Schedule). MakesJourneys s (admitted old.setting arrivals) body accepted.report (map journey_seen (put_all key_order (drop gone entries) batch))) same
         (makes (admitted old.setting arrivals)
-        (subst (λ (es : List JourneyEntry). KeepsJourneys (record { table = seen setting.table; zone = setting.zone; window = window }) (filter (is_within window) (admitted old.setting arrivals)) es)
+        (subst (λ (es : List JourneyEntry). KeepsJourneys (schedule_from setting.table setting.zone window) (filter (is_within window) (admitted old.setting arrivals)) es)
         (ap (drop gone) seen_is ∙ journeys_drop entries gone)
         (subst (λ (s : Schedule). KeepsJourneys s (filter (is_within s.window) (admitted old.setting arrivals)) (drop gone old.journeys)) (sym same) keeps)))))
         (setting_now ∙ setting_is) (window_now ∙ rolls) alerts text
 
-    pub journeys_not_accepted : (fault : DeliveryFault) → RefusesJourneys (record { table = seen setting.table; zone = setting.zone; window = window }) body fault
+    pub journeys_not_accepted : (fault : DeliveryFault) → RefusesJourneys (schedule_from setting.table setting.zone window) body fault
         → JourneysAnswer old arrivals moment body (Err fault) now
     journeys_not_accepted NotJson refuses = refuses
     journeys_not_accepted (NotDelivery member) refuses = (refuses.0, refuses.1, ap (λ (s : Schedule). verdicts s refuses.0) (sym same) ∙ refuses.2)

@@ -13,7 +13,7 @@ use Rattle.std.specs.Prelude.{if◌then◌else◌}
 use Rattle.alert_map.specs.Alerts.{alert_message}
 use Rattle.gw_base.specs.declared.messages.Entity.{Entity}
 use Rattle.gw_base.specs.declared.messages.Feed.{Feed}
-use Rattle.feed_messages.specs.Tables.{full_dataset}
+use Rattle.feed_reading.specs.Tables.{full_dataset}
 use Rattle.stop_schedule.specs.Table.{Table}
 use Rattle.stop_schedule.specs.declared.stop_times.StopRow.{StopRow}
 use Rattle.journey_model.specs.FeedReadings.{entity_said, given, last_reading, nothing_known, or_nothing}
@@ -79,7 +79,7 @@ none_of : (trip : ℕ) (day : ℤ) (one : Recorded) (entities : List Entity) →
 none_of trip day one [] e = refl
 none_of trip day one (entity ∷ entities) e = rw (none_of trip day one entities e, e) refl
 
--- and those behind a record in order are of other journeys
+-- and those after a record in order are of other journeys
 other_journey : (trip : ℕ) (day : ℤ) (one other : Recorded) → comes_before one other ≡ true → is_of trip day one ≡ true → is_of trip day other ≡ false
 other_journey trip day one other before of_one = false_from_ne_true (is_of trip day other) (λ of_other. clash_of of_other)
   where

@@ -59,7 +59,7 @@ all_joined P (x ∷ xs) ys h k = (h.0, all_joined P xs ys h.1 k)
 -- ---- the one that counts, when one more arrives
 
 module _ {A : Type 0} (is_its : A → Bool) (is_later : A → A → Bool) where
-  -- what is said of those before the one that counts, and of those behind it
+  -- what is said of those before the one that counts, and of those after it
   abbrev pub IsNoLater : A → A → Type 0
   IsNoLater one other = is_its other ≡ true → is_later other one ≡ false
 

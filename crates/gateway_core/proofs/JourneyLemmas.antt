@@ -21,7 +21,7 @@ use Rattle.siri_json.specs.declared.delivery.Item.{Item}
 use Rattle.siri_json.specs.declared.delivery.Item.TheVariants.{Taken, Aside}
 use Rattle.feed_index.specs.Entries.{put, value_at}
 use Rattle.feed_index.specs.declared.entry.Entry.{Entry}
-use Rattle.feed_messages.specs.Tables.{MeansFeed}
+use Rattle.feed_reading.specs.Tables.{MeansFeed}
 use Rattle.gw_base.specs.declared.messages.Feed.{Feed}
 use Rattle.latest_store.specs.Entities.{entity, messages}
 use Rattle.latest_store.specs.Latest.{is_later}

@@ -5,7 +5,7 @@ use Rattle.std.specs.Prelude.{codes}
 use Rattle.std.specs.List.{flat_map}
 use Rattle.gateway_core.specs.Taking.{joined}
 
--- the first, and each other behind a comma
+-- the first, and each other after a comma
 pub joined_first : {X : Type 0} (text : X → List ℕ) (one : X) (others : List X)
     → joined (map text (one ∷ others)) ≡ text one ++ flat_map (λ other. codes "," ++ text other) others
 joined_first text one [] = sym (append-nil (text one))

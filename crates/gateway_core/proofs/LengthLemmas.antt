@@ -1,4 +1,4 @@
--- How many bytes are served, and that 64 bits count them: at most 5,000 alerts of at most 65,536 bytes stand behind the entities of journeys.
+-- How many bytes are served, and that 64 bits count them: at most 5,000 alerts of at most 65,536 bytes stand after the entities of journeys.
 use Rattle.std.proofs.Common.{◌≡◌, ◌∙◌, ◌++◌, ◌∷◌, ◌||◌, ◌+◌, ◌*◌, ◌<◌, ◌≤◌, [], ℕ, ℤ, suc, get_or, Bool, true, false, cond, List, map, ap, sym, refl, arith, length-append}
 use Rattle.std.proofs.lemmas.List.Folds.{list_any-append}
 use Rattle.std.proofs.lemmas.List.Sums.{sum_by-cons}
@@ -12,7 +12,7 @@ use Rattle.feed_index.proofs.WriteLemmas.{chosen-more}
 use Rattle.feed_index.specs.Chosen.{chosen}
 use Rattle.feed_index.specs.Entries.{total}
 use Rattle.feed_index.specs.declared.entry.Entry.{Entry}
-use Rattle.feed_messages.specs.Written.{feed_entity, header, written}
+use Rattle.feed_writing.specs.Written.{feed_entity, header, written}
 use Rattle.journey_model.specs.declared.situation.Situation.{Situation}
 use Rattle.service_day.specs.declared.moments.Instant.{Instant}
 use Rattle.stop_schedule.specs.Seen.{seen}

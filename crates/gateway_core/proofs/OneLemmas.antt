@@ -13,7 +13,7 @@ use Rattle.std.specs.declared.cmp.Ordering.TheVariants.{Less, Equal, Greater}
 use Rattle.journey_model.specs.Records.{Recorded}
 use Rattle.journey_model.specs.Schedules.{Schedule}
 use Rattle.journey_model.specs.declared.situation.Situation.{Situation}
-use Rattle.feed_messages.specs.Written.{written_feed}
+use Rattle.feed_writing.specs.Written.{written_feed}
 use Rattle.latest_store.specs.Latest.{HasLatestOf, IsLatestOf, has_number, is_newer, is_of, was_later}
 use Rattle.gateway_core.specs.Feeds.{CountAlike, IsRebuilt, are_ordered_by, comes_before, entities_of, has_lesser_number}
 use Rattle.gateway_core.specs.Winners.{IsKeyed, has_key, key_cmp, key_of}

@@ -1,4 +1,5 @@
 -- Of the same records and situations, in any two orders of arrival, the same is rebuilt.
+use Rattle.journey_model.specs.Schedules.{schedule_from}
 use Rattle.std.proofs.Common.{◌≡◌, ◌∙◌, ◌++◌, ◌∷◌, ◌≤◌, [], ℕ, ℤ, Bool, true, false, List, ap, sym, refl, subst, arith}
 use Rattle.std.proofs.lemmas.Bool.{or_left}
 use Rattle.std.proofs.lemmas.Int.{ints}
@@ -11,7 +12,6 @@ use Rattle.std.specs.Ordering.{nat_cmp}
 use Rattle.service_day.specs.Windows.{DayStarts}
 use Rattle.journey_model.specs.Records.{Recorded}
 use Rattle.journey_model.specs.declared.situation.Situation.{Situation}
-use Rattle.stop_schedule.specs.Seen.{seen}
 use Rattle.latest_store.specs.Latest.{HasLatest, HasNewest, has_number, is_later, is_newer, is_of, was_later}
 use Rattle.gateway_core.specs.Arrivals.{Arrival, admit, admitted, admitted_situations, always, firsts, is_same_journey, is_same_number, is_within, moments_of, present, records_of, schedule_at, situations_of, window_at}
 use Rattle.gateway_core.specs.Feeds.{IsFeedOf, comes_before, entities_of, has_lesser_number}
@@ -110,7 +110,7 @@ rebuilt_alike setting arrivals others at feed same decided h = record {
       (find (has_number number) h.numbered)
       (subst (λ (all : List Situation). HasNewest all number (find (has_number number) h.numbered)) numbers_these (h.newest number)));
   is_feed =
-      subst (λ (window : DayStarts). IsFeedOf at (entities_of (record { table = seen setting.table; zone = setting.zone; window = window }) h.ordered h.numbered) feed) same.windows h.is_feed;
+      subst (λ (window : DayStarts). IsFeedOf at (entities_of (schedule_from setting.table setting.zone window) h.ordered h.numbered) feed) same.windows h.is_feed;
 }
   where
     within : Recorded → Bool

@@ -12,7 +12,7 @@ use Rattle.std.specs.Int.{int_max}
 use Rattle.std.specs.List.{AllByRecursion, flat_map, list_all}
 use Rattle.service_day.specs.Starts.{start}
 use Rattle.service_day.specs.Windows.{DayStarts, start_in}
-use Rattle.feed_messages.specs.Written.{written}
+use Rattle.feed_writing.specs.Written.{written}
 use Rattle.journey_model.specs.Records.{Recorded}
 use Rattle.journey_model.specs.Runs.{Run}
 use Rattle.journey_model.specs.Schedules.{IsServable, Schedule, run_from}
@@ -206,7 +206,7 @@ no_later first a (x ∷ xs) stays h =
     at : (a x : ℤ) (t u : ℕ) → int_lt a first ≡ false → (int_lt a x || (int_eq a x && nat_lt t u)) ≡ true → not (int_lt x first) ≡ true
     at a x t u stays h = grind (arith, ints)
 
--- those that are left are what is behind the first so many
+-- those that are left are what is after the first so many
 module _ {E : Type 0} (entry : Recorded → E) (gone : E → Bool) (first : ℤ) (same : (one : Recorded) → gone (entry one) ≡ has_gone first one) where
   pub left_are : (xs : List Recorded) (n : ℕ) → are_ordered_by comes_before xs ≡ true
       → AllByRecursion (λ e. gone e ≡ true) (take n (map entry xs)) → ((d : E) → n < length (map entry xs) → gone (slice_index_or (map entry xs) n d) ≡ false)

@@ -1,4 +1,5 @@
 -- The window after one moment more, and the entries that it leaves behind.
+use Rattle.journey_model.specs.Schedules.{schedule_from}
 use Rattle.std.proofs.Common.{◌≡◌, ◌∙◌, ◌<◌, ◌≤◌, ◌∷◌, ◌+◌, [], ℕ, add-one, ℤ, zero, suc, true, false, List, map, take, drop, ap, sym, subst, arith}
 use Rattle.std.specs.Prelude.{int_lt, length, slice_index_or, filter}
 use Rattle.std.specs.List.{AllByRecursion}
@@ -64,7 +65,7 @@ starts_as setting window first days first_is days_are is =
     ∙ ap (λ (n : ℕ). window_from setting.zone setting.window.first n) days_are
 
 pub starts_in : (setting : Setting) → IsWindowIn setting.zone setting.window → schedule_in setting ≡ schedule_at setting []
-starts_in setting own = λ i. record { table = seen setting.table; zone = setting.zone; window = same i }
+starts_in setting own = λ i. schedule_from setting.table setting.zone (same i)
   where
     same : setting.window ≡ window_at setting []
     same = window_is setting.zone setting.window.first (length setting.window.starts) setting.window own

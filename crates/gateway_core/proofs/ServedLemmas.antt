@@ -5,8 +5,9 @@ use Rattle.std.specs.List.{flat_map}
 use Rattle.gw_base.specs.declared.messages.Entity.{Entity}
 use Rattle.gw_base.specs.declared.messages.Feed.{Feed}
 use Rattle.gw_base.specs.declared.messages.TripUpdate.{TripUpdate}
-use Rattle.feed_messages.specs.Tables.{MeansFeed}
-use Rattle.feed_messages.specs.Written.{written}
+use Rattle.feed_reading.specs.Tables.{MeansFeed}
+use Rattle.feed_writing.specs.Written.{written}
+use Rattle.journey_model.specs.Ids.{id_of}
 use Rattle.journey_model.specs.FeedReadings.{day_named, entity_said, is_cancelled, is_scheduled, reading_said, recorded_in, said_of_day, said_of_trip, said_on, trip_named, update_said, with_reading}
 use Rattle.journey_model.specs.Records.{Recorded}
 use Rattle.journey_model.specs.Runs.{Run}
@@ -15,7 +16,7 @@ use Rattle.journey_model.specs.declared.fault.Fault.{Fault}
 use Rattle.journey_model.specs.declared.fault.Fault.TheVariants.{NotRunning, OtherRelation}
 use Rattle.journey_model.specs.declared.readings.DatedReading.{DatedReading}
 use Rattle.journey_model.specs.declared.readings.JourneyReading.{JourneyReading}
-use Rattle.latest_store.specs.Entities.{entity, id_of, is_silent, message, messages, messages_on}
+use Rattle.latest_store.specs.Entities.{entity, is_silent, message, messages, messages_on}
 use Rattle.latest_store.specs.Reads.{SaysItself, dated_reading, with_messages}
 use Rattle.gateway_core.specs.Arrivals.{is_within, schedule_at, window_at}
 use Rattle.gateway_core.specs.Standing.{IsServed}

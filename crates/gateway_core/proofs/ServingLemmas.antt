@@ -6,8 +6,8 @@ use Rattle.std.specs.Prelude.{filter}
 use Rattle.std.specs.List.{AllByRecursion, flat_map}
 use Rattle.feed_index.specs.Chosen.{chosen}
 use Rattle.feed_index.specs.declared.entry.Entry.{Entry}
-use Rattle.feed_messages.specs.Tables.{MeansFeed, full_dataset}
-use Rattle.feed_messages.specs.Written.{header, written}
+use Rattle.feed_reading.specs.Tables.{MeansFeed, full_dataset}
+use Rattle.feed_writing.specs.Written.{header, written}
 use Rattle.gw_base.specs.declared.messages.Entity.{Entity}
 use Rattle.journey_model.specs.Records.{Recorded}
 use Rattle.journey_model.specs.Schedules.{IsServable, Schedule}
@@ -74,7 +74,7 @@ module _ (schedule : Schedule) where
       ap (λ (rest : List ℕ). entity schedule one ++ rest) (entities_written records)
       ∙ sym (flat_map-append written (messages schedule one) (flat_map (messages schedule) records))
 
-  -- bytes that mean a feed, and behind them those of records
+  -- bytes that mean a feed, and after them those of records
   pub records_mean : (at : ℤ) (front : List ℕ) (entities : List Entity) (records : List Recorded) → AllByRecursion (IsServed schedule) records → MeansFeed front (full_dataset at entities)
       → MeansFeed (front ++ flat_map (λ one. one.bytes) (map (journey_entry schedule) records)) (full_dataset at (entities ++ flat_map (messages schedule) records))
   records_mean at front entities [] good h = rw (append-nil front, append-nil entities) h
@@ -97,7 +97,7 @@ module _ (table : Table) where
       by true rest = ap (λ (bytes : List ℕ). written (alert_message table one) ++ bytes) rest
       by false rest = rest
 
-  -- and behind them those of situations
+  -- and after them those of situations
   pub alerts_mean : (at : ℤ) (front : List ℕ) (entities : List Entity) (all : List Situation) → AllByRecursion (IsAlertServed table) all → MeansFeed front (full_dataset at entities)
       → MeansFeed (front ++ flat_map (λ one. one.bytes) (filter (λ one. one.value.1) (map (situation_entry table) all))) (full_dataset at (entities ++ flat_map (alerts table) all))
   alerts_mean at front entities [] good h = rw (append-nil front, append-nil entities) h
@@ -123,11 +123,13 @@ module _ (table : Table) where
 servable_stays : (setting : Setting) (moments later : List ℤ) (one : Recorded) → IsServable (schedule_at setting moments) one.trip one.day one.reading
     → is_within (window_at setting later) one ≡ true → IsServable (schedule_at setting later) one.trip one.day one.reading
 servable_stays setting moments later one h within = record {
-  trip_in = h.trip_in;
+  fits_schedule = record {
+    trip_in = h.trip_in;
+    run = h.run;
+    on_day = sym (run_stays setting moments later one (within_servable (schedule_at setting moments) one h) within) ∙ h.on_day;
+    fits = h.fits;
+  };
   runs = h.runs;
-  run = h.run;
-  on_day = sym (run_stays setting moments later one (within_servable (schedule_at setting moments) one h) within) ∙ h.on_day;
-  fits = h.fits;
 }
 
 abbrev ServableIn : Setting → List ℤ → Recorded → Type 0

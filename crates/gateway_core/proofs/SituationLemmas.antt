@@ -8,10 +8,10 @@ use Rattle.std.specs.List.{AllByRecursion, count_by}
 use Rattle.std.specs.Ordering.{nat_cmp}
 use Rattle.std.specs.Result.{result_err}
 use Rattle.alert_map.specs.Alerts.{alert_message}
-use Rattle.feed_messages.specs.Written.{written}
+use Rattle.feed_writing.specs.Written.{written}
 use Rattle.feed_index.specs.Entries.{value_at}
 use Rattle.feed_index.specs.declared.entry.Entry.{Entry}
-use Rattle.feed_messages.specs.Tables.{MeansFeed, with_entity}
+use Rattle.feed_reading.specs.Tables.{MeansFeed, with_entity}
 use Rattle.gw_base.specs.declared.messages.Feed.{Feed}
 use Rattle.journey_model.specs.declared.fault.Fault.{Fault}
 use Rattle.journey_model.specs.declared.fault.Fault.TheVariants.{EntityTooLong, Full}

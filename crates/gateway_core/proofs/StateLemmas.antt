@@ -5,8 +5,8 @@ use Rattle.std.specs.Prelude.{filter, find, unsigned_abs}
 use Rattle.std.specs.Cmp.Lexicographic.{slice_cmp}
 use Rattle.std.specs.List.{flat_map}
 use Rattle.std.specs.Ordering.{nat_cmp}
-use Rattle.feed_messages.specs.Written.{header}
-use Rattle.feed_messages.proofs.Building.{means_header}
+use Rattle.feed_writing.specs.Written.{header}
+use Rattle.feed_messages.proofs.Headers.{means_header}
 use Rattle.gw_base.specs.Moments.{IsMoment}
 use Rattle.journey_model.specs.Records.{Recorded}
 use Rattle.journey_model.specs.Schedules.{Schedule}

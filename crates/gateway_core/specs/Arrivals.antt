@@ -8,10 +8,9 @@ use Rattle.service_day.specs.Starts.{local_day, start}
 use Rattle.service_day.specs.Windows.{DayStarts, start_in}
 use Rattle.service_day.specs.declared.zones.Rules.{Rules}
 use Rattle.journey_model.specs.Records.{Recorded}
-use Rattle.journey_model.specs.Schedules.{IsServable, Schedule}
+use Rattle.journey_model.specs.Schedules.{IsServable, Schedule, schedule_from}
 use Rattle.journey_model.specs.Situations.{AreKnown}
 use Rattle.journey_model.specs.declared.situation.Situation.{Situation}
-use Rattle.stop_schedule.specs.Seen.{seen}
 use Rattle.latest_store.specs.Latest.{has_number, is_of}
 use Rattle.gateway_core.specs.declared.setting.Setting.{Setting}
 
@@ -72,7 +71,7 @@ window_at setting moments = window_from setting.zone (first_day setting moments)
 
 abbrev pub schedule_at : Setting → List ℤ → Schedule
 schedule_at setting moments =
-    record { table = seen setting.table; zone = setting.zone; window = window_at setting moments }
+    schedule_from setting.table setting.zone (window_at setting moments)
 
 -- ---- what is admitted: at most so many keys
 

@@ -1,11 +1,10 @@
 -- What a feed stands for that is posted, while it arrives (GTFS Realtime, FeedMessage).
 use Rattle.std.specs.Prelude.{ℕ, ℤ, List}
 use Rattle.gw_base.specs.declared.messages.Entity.{Entity}
-use Rattle.feed_messages.specs.FeedPieces as pieces
-use Rattle.journey_model.specs.Schedules.{Schedule}
+use Rattle.feed_reading.specs.FeedPieces as pieces
+use Rattle.journey_model.specs.Schedules.{Schedule, schedule_from}
 use Rattle.propagation.specs.Folding as folding
 use Rattle.service_day.specs.Windows.{DayStarts}
-use Rattle.stop_schedule.specs.Seen.{seen}
 use Rattle.gateway_core.specs.declared.setting.Setting.{Setting}
 
 -- a feed that arrives, as contracts see it: the moment at which it began to, the window of that moment, what is read of
@@ -24,7 +23,7 @@ pub record Reads (schedule : Schedule) (reader : pieces.Seen) (fold : folding.Fo
 
 -- what a feed's journeys are read over
 abbrev pub schedule_over : Setting → DayStarts → Schedule
-schedule_over setting window = record { table = seen setting.table; zone = setting.zone; window = window }
+schedule_over setting window = schedule_from setting.table setting.zone window
 
 -- a feed that arrives stands for these bytes under a setting
 abbrev pub StandsFor : Setting → Arriving → List ℕ → Type 0

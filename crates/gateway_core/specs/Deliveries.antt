@@ -2,14 +2,13 @@
 use Rattle.std.specs.Prelude.{List, Result}
 use Rattle.std.specs.List.{filter_map}
 use Rattle.std.specs.Result.{result_ok}
-use Rattle.journey_model.specs.Schedules.{Schedule}
+use Rattle.journey_model.specs.Schedules.{Schedule, schedule_from}
 use Rattle.journey_model.specs.declared.fault.Fault.{Fault}
-use Rattle.stop_schedule.specs.Seen.{seen}
 use Rattle.gateway_core.specs.declared.setting.Setting.{Setting}
 
 -- what journeys are read over
 abbrev pub schedule_in : Setting → Schedule
-schedule_in setting = record { table = seen setting.table; zone = setting.zone; window = setting.window }
+schedule_in setting = schedule_from setting.table setting.zone setting.window
 
 -- what is taken of verdicts
 abbrev pub taken : {A : Type 0} → List (Result A Fault) → List A

@@ -1,10 +1,10 @@
 -- What is answered to the bytes of a feed, over what journeys are read over (GTFS Realtime, FeedMessage).
 use Rattle.std.specs.Prelude.{◌≡◌, ℕ, ℤ, false, true, List, Result, Ok, Err, ⊤}
 use Rattle.gw_base.specs.declared.messages.Feed.{Feed}
-use Rattle.feed_messages.specs.Tables.{MeansFeed}
-use Rattle.feed_messages.specs.Faults.{HasFault}
-use Rattle.feed_messages.specs.declared.fault.FeedFault as faults
-use Rattle.feed_messages.specs.declared.fault.FeedFault.TheVariants as fault
+use Rattle.feed_reading.specs.Tables.{MeansFeed}
+use Rattle.feed_reading.specs.Faults.{HasFault}
+use Rattle.feed_reading.specs.declared.fault.FeedFault as faults
+use Rattle.feed_reading.specs.declared.fault.FeedFault.TheVariants as fault
 use Rattle.journey_model.specs.Schedules.{Schedule}
 use Rattle.journey_model.specs.declared.report.Report.{Report}
 use Rattle.reverse_calls.specs.Siri.{HasTooMany, IsSiri, is_differential}

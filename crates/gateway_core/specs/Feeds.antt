@@ -4,8 +4,8 @@ use Rattle.std.specs.Cmp.Lexicographic.{slice_cmp}
 use Rattle.std.specs.List.{flat_map, list_all}
 use Rattle.std.specs.Ordering.{int_eq, is_lt, nat_cmp}
 use Rattle.gw_base.specs.declared.messages.Entity.{Entity}
-use Rattle.feed_messages.specs.Tables.{MeansFeed, full_dataset}
-use Rattle.feed_messages.specs.Written.{written_feed}
+use Rattle.feed_reading.specs.Tables.{MeansFeed, full_dataset}
+use Rattle.feed_writing.specs.Written.{written_feed}
 use Rattle.journey_model.specs.Records.{Recorded}
 use Rattle.journey_model.specs.Schedules.{Schedule}
 use Rattle.journey_model.specs.declared.situation.Situation.{Situation}
@@ -13,7 +13,7 @@ use Rattle.latest_store.specs.Entities.{messages}
 use Rattle.latest_store.specs.Latest.{HasLatest, HasNewest, has_number, is_of}
 use Rattle.gateway_core.specs.Alerts.{alerts}
 
--- each comes before those behind it
+-- each comes before those after it
 abbrev pub are_ordered_by : {A : Type 0} → (A → A → Bool) → List A → Bool
 are_ordered_by comes_before [] = true
 are_ordered_by comes_before (one ∷ others) = list_all (comes_before one) others && are_ordered_by comes_before others
@@ -26,7 +26,7 @@ comes_before a b = int_lt a.day b.day || (int_eq a.day b.day && nat_lt a.trip b.
 abbrev pub has_lesser_number : Situation → Situation → Bool
 has_lesser_number a b = is_lt (slice_cmp nat_cmp a.number b.number)
 
--- the entities of a feed: those of journeys, and behind them the alerts of situations
+-- the entities of a feed: those of journeys, and after them the alerts of situations
 abbrev pub entities_of : Schedule → List Recorded → List Situation → List Entity
 entities_of schedule records situations =
     flat_map (messages schedule) records ++ flat_map (alerts schedule.table) situations

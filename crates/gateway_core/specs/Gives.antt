@@ -2,7 +2,7 @@
 -- FeedMessage).
 use Rattle.std.specs.Prelude.{◌≡◌, ℕ, ℤ, List, Option, option_map}
 use Rattle.gw_base.specs.declared.messages.Entity.{Entity}
-use Rattle.feed_messages.specs.Tables.{MeansFeed, full_dataset}
+use Rattle.feed_reading.specs.Tables.{MeansFeed, full_dataset}
 use Rattle.journey_model.specs.FeedReadings.{nothing_known, or_nothing, reads}
 use Rattle.journey_model.specs.Records.{Recorded}
 use Rattle.journey_model.specs.Schedules.{Schedule}

@@ -2,8 +2,8 @@
 -- GTFS Realtime, FeedMessage).
 use Rattle.std.specs.Prelude.{◌≡◌, ◌≤◌, ℕ, ℤ, pos, Bool, List, [], ◌∷◌, ◌++◌, filter}
 use Rattle.gw_base.specs.declared.messages.Feed as feeds
-use Rattle.feed_messages.specs.Tables.{MeansFeed, with_entity}
-use Rattle.feed_messages.specs.Written.{header, written}
+use Rattle.feed_reading.specs.Tables.{MeansFeed, with_entity}
+use Rattle.feed_writing.specs.Written.{header, written}
 use Rattle.journey_model.specs.Records.{Recorded}
 use Rattle.journey_model.specs.Schedules.{Schedule}
 use Rattle.journey_model.specs.declared.report.Report.{Report}
@@ -50,13 +50,13 @@ abbrev pub situation_entry : Table → Situation → SituationEntry
 situation_entry table one =
     record { key = one.number; value = (one.version, one.served); bytes = written (alert_message table one) }
 
--- the bytes of a record's entity mean its messages behind the bytes of any feed, and these say just its reading
+-- the bytes of a record's entity mean its messages after the bytes of any feed, and these say just its reading
 pub record IsServed (schedule : Schedule) (one : Recorded) : Type 0 where
   pub says : SaysItself schedule one
   pub means : (before : List ℕ) (given : feeds.Feed) → MeansFeed before given
       → MeansFeed (before ++ entity schedule one) (with_messages given (messages schedule one))
 
--- the bytes of a situation's alert mean it behind the bytes of any feed, and it isn't too long
+-- the bytes of a situation's alert mean it after the bytes of any feed, and it isn't too long
 pub record IsAlertServed (table : Table) (one : Situation) : Type 0 where
   pub means : (before : List ℕ) (given : feeds.Feed) → MeansFeed before given
       → MeansFeed (before ++ written (alert_message table one)) (with_entity given (alert_message table one))

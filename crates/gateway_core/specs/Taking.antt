@@ -4,8 +4,8 @@ use Rattle.std.specs.Prelude.{◌≡◌, ℕ, ℤ, Bool, false, true, nat_le, Li
 use Rattle.std.specs.List.{count_by}
 use Rattle.std.specs.Result.{result_err}
 use Rattle.gw_base.specs.declared.messages.Feed.{Feed}
-use Rattle.feed_messages.specs.Tables.{MeansFeed}
-use Rattle.feed_messages.specs.Faults.{HasFault}
+use Rattle.feed_reading.specs.Tables.{MeansFeed}
+use Rattle.feed_reading.specs.Faults.{HasFault}
 use Rattle.journey_model.specs.FaultTexts.{fault_text}
 use Rattle.journey_model.specs.Records.{Recorded}
 use Rattle.journey_model.specs.declared.fault.Fault.{Fault}
@@ -21,7 +21,7 @@ use Rattle.reverse_calls.specs.Siri.{HasTooMany, IsSiri}
 use Rattle.gateway_core.specs.Alerts.{alert_len, alert_limit}
 use Rattle.stop_schedule.specs.Table.{Table}
 use Rattle.service_day.specs.Windows.{DayStarts}
-use Rattle.feed_messages.specs.declared.fault.FeedFault.{FeedFault}
+use Rattle.feed_reading.specs.declared.fault.FeedFault.{FeedFault}
 use Rattle.reverse_calls.specs.Siri.{is_differential}
 use Rattle.gateway_core.specs.Arrivals.{Arrival, Given, admitted, admitted_situations, always, feed, has_room, is_same_journey, is_same_number, is_within, journeys, moments_of, most_journeys, most_numbers, schedule_at, situations, window_at}
 use Rattle.gateway_core.specs.Deliveries.{taken}
@@ -91,7 +91,7 @@ limited_verdicts table all = map (limited_verdict table) (map without_count all)
 
 -- ---- what is taken
 
--- a delivery of journeys arrives at a moment behind these arrivals: each item is judged over the window of that moment,
+-- a delivery of journeys arrives at a moment after these arrivals: each item is judged over the window of that moment,
 -- and one without room is set aside; it gives these records, and this is the report
 pub record TakesJourneys (setting : Setting) (arrivals : List Arrival) (moment : ℤ) (body : List ℕ) (report : Report)
     (records : List Recorded) : Type 0 where

@@ -3,7 +3,6 @@
 ghost use Rattle.std.specs.Prelude.{◌≡◌, ◌≤◌, drop, filter, length, map, List as Values, IfErr, IfOk};
 ghost use Rattle.feed_index.specs.Entries.{put_all};
 ghost use Rattle.journey_model.specs.Records.{Recorded};
-ghost use Rattle.journey_model.specs.Schedules.{schedule_of};
 ghost use Rattle.gateway_core.specs.Arrivals.{is_within};
 ghost use Rattle.gateway_core.specs.JourneySteps as spec;
 ghost use Rattle.gateway_core.specs.Standing.{KeepsJourneys, journey_seen};
@@ -28,7 +27,7 @@ pub(crate) struct Made {
     pub batch: Batch<JourneyKey, Instant>,
 }
 
-/// What a delivery makes, read over a context and put behind what is left of the entries of an index.
+/// What a delivery makes, read over a context and put after what is left of the entries of an index.
 pub(crate) fn made_of(
     alloc: Global,
     context: &Context<'_>,
@@ -39,13 +38,13 @@ pub(crate) fn made_of(
     requires within { gone ≤ length journeys.now.entries }
     ensures text { IfOk result (λ made. made.accepted.text ≡ taking.report_json made.accepted.report) }
     ensures makes { (before : Values Recorded)
-        → KeepsJourneys (schedule_of context.now)
-        (filter (is_within (schedule_of context.now).window) before)
+        → KeepsJourneys context.now
+        (filter (is_within context.now.window) before)
         (map journey_seen (drop gone journeys.now.entries))
-        → IfOk result (λ made. spec.MakesJourneys (schedule_of context.now) before body.now
+        → IfOk result (λ made. spec.MakesJourneys context.now before body.now
         made.accepted.report
         (map journey_seen (put_all spec.key_order (drop gone journeys.now.entries) made.batch))) }
-    ensures refuses { IfErr result (spec.RefusesJourneys (schedule_of context.now) body.now) }
+    ensures refuses { IfErr result (spec.RefusesJourneys context.now body.now) }
 {
     let delivery = match read_delivery(alloc, body, context) {
         Ok(delivery) => delivery,

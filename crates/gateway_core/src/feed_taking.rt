@@ -1,7 +1,7 @@
 //! A feed while it arrives, of which neither the bytes nor the entities are kept. The definitions are those of
 //! `specs/Arriving.antt`.
 ghost use Rattle.std.specs.Prelude.{◌≡◌, ◌≤◌, ◌<◌, ◌+◌, ◌++◌, ℕ, List, length, take, IfOk, OnOk};
-ghost use Rattle.journey_model.specs.Schedules.{schedule_of};
+ghost use Rattle.gw_base.specs.Limits.{body_limit};
 ghost use Rattle.gateway_core.specs.Arriving.{Reads, StandsFor};
 
 use crate::gateway::Gateway;
@@ -40,11 +40,11 @@ fn take_front(
     piece: &[u8],
 ) -> Result<usize, AllocError>
     requires some { 0 < length piece.now }
-    requires room { reader.old.taken + length piece.now ≤ 16777216 }
+    requires room { reader.old.taken + length piece.now ≤ body_limit }
     ensures used { IfOk result (λ used. (1 ≤ used) × (used ≤ length piece.now)) }
     ensures counted { IfOk result (λ used. reader.new.taken ≡ reader.old.taken + used) }
-    ensures takes { (bytes : List ℕ) → Reads (schedule_of context.now) reader.old fold.old bytes
-        → IfOk result (λ used. Reads (schedule_of context.now) reader.new fold.new (bytes ++ take used piece.now)) }
+    ensures takes { (bytes : List ℕ) → Reads context.now reader.old fold.old bytes
+        → IfOk result (λ used. Reads context.now reader.new fold.new (bytes ++ take used piece.now)) }
 {
     let (used, given) = reader.feed(piece)?;
     if let Some((index, entity)) = given {
@@ -60,10 +60,10 @@ fn take_all(
     fold: &mut ReadingFold,
     piece: &[u8],
 ) -> Result<(), AllocError>
-    requires room { reader.old.taken + length piece.now ≤ 16777216 }
+    requires room { reader.old.taken + length piece.now ≤ body_limit }
     ensures counted { OnOk result (reader.new.taken ≡ reader.old.taken + length piece.now) }
-    ensures takes { (bytes : List ℕ) → Reads (schedule_of context.now) reader.old fold.old bytes
-        → OnOk result (Reads (schedule_of context.now) reader.new fold.new (bytes ++ piece.now)) }
+    ensures takes { (bytes : List ℕ) → Reads context.now reader.old fold.old bytes
+        → OnOk result (Reads context.now reader.new fold.new (bytes ++ piece.now)) }
 {
     let mut done = 0;
     while done < piece.len() {
@@ -77,7 +77,7 @@ impl FeedTaking {
     /// Takes the next bytes of the feed, at the gateway at which it began to arrive. Err for want of memory, after
     /// which it may only be dropped.
     pub fn piece(&mut self, gate: &Gateway, piece: &[u8]) -> Result<(), AllocError>
-        requires room { self.old.reader.taken + length piece.now ≤ 16777216 }
+        requires room { self.old.reader.taken + length piece.now ≤ body_limit }
         ensures takes { (bytes : List ℕ) → StandsFor gate.now.setting self.old bytes
             → OnOk result (StandsFor gate.now.setting self.new (bytes ++ piece.now)) }
         ensures moment { self.new.moment ≡ self.old.moment }

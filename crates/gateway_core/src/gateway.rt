@@ -3,7 +3,6 @@ ghost use Rattle.std.specs.Prelude.{◌≡◌, [], List as Values, IfOk};
 ghost use Rattle.gateway_core.specs.Arrivals.{Arrival, moments_of, schedule_at};
 ghost use Rattle.gateway_core.specs.Settings.{IsWindowIn};
 ghost use Rattle.gateway_core.specs.Standing.{Stands};
-ghost use Rattle.journey_model.specs.Schedules.{schedule_of};
 
 use crate::keys::{Edition, JourneyKey};
 use crate::setting::Setting;
@@ -81,8 +80,8 @@ impl Gateway {
     /// What journeys are read over now, lent: the window is one of the context's zone.
     pub fn context(&self) -> Context<'_>
         ensures shows { (arrivals : Values Arrival) → Stands self.now arrivals
-            → schedule_of result ≡ schedule_at self.now.setting (moments_of arrivals) }
-        ensures own_window { IsWindowIn result.zone.now result.window.now }
+            → result ≡ schedule_at self.now.setting (moments_of arrivals) }
+        ensures own_window { IsWindowIn result.zone result.window }
     {
         Context {
             table: &self.setting.table,

@@ -1,7 +1,7 @@
 //! The items of a delivery of journeys, gone through over what is kept. The functions meet `specs/JourneySteps.antt`.
 ghost use Rattle.std.specs.Prelude.{◌≡◌, ◌≤◌, ◌++◌, filter, length, List as Values, IfOk, OnOk};
 ghost use Rattle.journey_model.specs.Records.{Recorded, recorded};
-ghost use Rattle.journey_model.specs.Schedules.{IsServable, schedule_of};
+ghost use Rattle.journey_model.specs.Schedules.{IsServable};
 ghost use Rattle.siri_calls.specs.Deliveries.{AreServable, CanServe};
 ghost use Rattle.gateway_core.specs.Arrivals.{is_within};
 ghost use Rattle.gateway_core.specs.JourneySteps as spec;
@@ -57,12 +57,12 @@ fn put_record(
     rec: JourneyRecord,
     draft: &mut JourneyDraft<'_>,
 ) -> Result<(), AllocError>
-    requires { IsServable (schedule_of context.now) rec.trip.0 rec.day rec.reading }
+    requires { IsServable context.now rec.trip.0 rec.day rec.reading }
     ensures same { draft.new.kept ≡ draft.old.kept }
     ensures entries { OnOk result (spec.seen_after draft.new
         ≡ with_journey (spec.seen_after draft.old)
-        (journey_entry (schedule_of context.now) (recorded rec))) }
-    ensures served { OnOk result (IsServed (schedule_of context.now) (recorded rec)) }
+        (journey_entry context.now (recorded rec))) }
+    ensures served { OnOk result (IsServed context.now (recorded rec)) }
 {
     let made = prepare_record(alloc, context, rec)?;
     let key = key_of(&made.rec);
@@ -77,15 +77,15 @@ fn take_record(
     rec: JourneyRecord,
     draft: &mut JourneyDraft<'_>,
 ) -> Result<Option<Fault>, AllocError>
-    requires { IsServable (schedule_of context.now) rec.trip.0 rec.day rec.reading }
+    requires { IsServable context.now rec.trip.0 rec.day rec.reading }
     ensures same { draft.new.kept ≡ draft.old.kept }
     ensures fault { IfOk result (λ fault. fault ≡ spec.verdict_fault
         (spec.journey_verdict (spec.seen_after draft.old) (recorded rec))) }
     ensures entries { OnOk result (spec.seen_after draft.new
-        ≡ spec.after_verdict (schedule_of context.now)
+        ≡ spec.after_verdict context.now
         (spec.seen_after draft.old) (recorded rec)
         (spec.journey_verdict (spec.seen_after draft.old) (recorded rec))) }
-    ensures put { OnOk result (spec.IsPut (schedule_of context.now) (recorded rec)
+    ensures put { OnOk result (spec.IsPut context.now (recorded rec)
         (spec.journey_verdict (spec.seen_after draft.old) (recorded rec))) }
 {
     match verdict(draft, &rec) {
@@ -105,14 +105,14 @@ fn take_item(
     item: Item,
     draft: &mut JourneyDraft<'_>,
 ) -> Result<Option<Fault>, AllocError>
-    requires { CanServe (schedule_of context.now) item }
+    requires { CanServe context.now item }
     ensures same { draft.new.kept ≡ draft.old.kept }
     ensures fault { IfOk result (λ fault. fault ≡ spec.item_fault
         (spec.seen_after draft.old) item) }
     ensures entries { OnOk result (spec.seen_after draft.new
-        ≡ spec.item_step (schedule_of context.now)
+        ≡ spec.item_step context.now
         (spec.seen_after draft.old) item) }
-    ensures put { OnOk result (spec.IsItemPut (schedule_of context.now)
+    ensures put { OnOk result (spec.IsItemPut context.now
         (spec.seen_after draft.old) item) }
 {
     match item {
@@ -142,14 +142,14 @@ fn take_items(
     items: List<Item>,
     draft: &mut JourneyDraft<'_>,
 ) -> Result<List<(u64, Fault)>, AllocError>
-    requires { AreServable (schedule_of context.now) items }
+    requires { AreServable context.now items }
     ensures same { draft.new.kept ≡ draft.old.kept }
     ensures few { IfOk result (λ aside. length aside ≤ length items) }
     ensures gathered { (before : Values Recorded)
-        → KeepsJourneys (schedule_of context.now)
-        (filter (is_within (schedule_of context.now).window) before)
+        → KeepsJourneys context.now
+        (filter (is_within context.now.window) before)
         (spec.seen_after draft.old)
-        → IfOk result (spec.GathersItems (schedule_of context.now) before items
+        → IfOk result (spec.GathersItems context.now before items
         (spec.seen_after draft.new)) }
 {
     let mut aside = List::new(alloc);
@@ -172,13 +172,13 @@ pub(crate) fn take_journeys(
     delivery: Delivery,
     draft: &mut JourneyDraft<'_>,
 ) -> Result<Report, AllocError>
-    requires { AreServable (schedule_of context.now) delivery.items }
+    requires { AreServable context.now delivery.items }
     ensures same { draft.new.kept ≡ draft.old.kept }
     ensures gathered { (before : Values Recorded)
-        → KeepsJourneys (schedule_of context.now)
-        (filter (is_within (schedule_of context.now).window) before)
+        → KeepsJourneys context.now
+        (filter (is_within context.now.window) before)
         (spec.seen_after draft.old)
-        → IfOk result (spec.GathersJourneys (schedule_of context.now) before delivery
+        → IfOk result (spec.GathersJourneys context.now before delivery
         (spec.seen_after draft.new)) }
 {
     let count = delivery.items.len() as u64;

@@ -23,7 +23,7 @@ fn add_aside(text: &mut Bytes, number: u64, fault: &Fault) -> Result<(), AllocEr
     text.extend(b"}")
 }
 
-// Adds items, each behind a comma.
+// Adds items, each after a comma.
 fn add_others(text: &mut Bytes, others: &[(u64, Fault)]) -> Result<(), AllocError>
     ensures { OnOk result (text.new ≡ text.old
         ++ flat_map (λ one. codes "," ++ spec.aside_json one) others.now) }

@@ -3,7 +3,7 @@ ghost use Rattle.std.specs.Prelude.{◌≡◌, ◌++◌, true, List, OnOk, IsErr
 ghost use Rattle.gw_base.specs.Count.{Counts, Rose, last_count};
 ghost use Rattle.gw_base.specs.Told.{PutsUnless, with_bytes};
 ghost use Rattle.feed_index.specs.Chosen.{chosen};
-ghost use Rattle.feed_messages.specs.Written.{header};
+ghost use Rattle.feed_writing.specs.Written.{header};
 ghost use Rattle.gateway_core.specs.Arrivals.{Arrival, moments_of, present, schedule_at};
 ghost use Rattle.gateway_core.specs.Gives.{GivesEach};
 ghost use Rattle.gateway_core.specs.Recording.{IsRebuiltOf};
@@ -40,7 +40,7 @@ impl Choice<Edition> for Served {
     }
 }
 
-// Writes the header, and behind it the entities of journeys and the alerts that are served.
+// Writes the header, and after it the entities of journeys and the alerts that are served.
 fn write_entities<S: Sink>(
     header: &[u8],
     journeys: &FeedIndex<JourneyKey, Instant>,

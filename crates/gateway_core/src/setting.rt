@@ -22,13 +22,12 @@ pub struct Setting {
 
 impl Setting {
     ghost use Rattle.std.specs.Prelude.{◌≡◌};
-    ghost use Rattle.journey_model.specs.Schedules.{schedule_of};
     ghost use Rattle.gateway_core.specs.Deliveries.{schedule_in};
 
     /// The same, lent: the window is one of the context's zone.
     pub fn context(&self) -> Context<'_>
-        ensures shows { schedule_of result ≡ schedule_in self.now }
-        ensures own_window { IsWindowIn result.zone.now result.window.now }
+        ensures shows { result ≡ schedule_in self.now }
+        ensures own_window { IsWindowIn result.zone result.window }
     {
         Context {
             table: &self.table,

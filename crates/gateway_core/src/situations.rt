@@ -1,7 +1,7 @@
 //! The items of a delivery of situations, gone through over what is kept. The functions meet
 //! `specs/SituationSteps.antt`.
 ghost use Rattle.std.specs.Prelude.{◌≡◌, ◌≤◌, Ok, Err, length, map, List as Values, IfOk, MatchResult, OnOk};
-ghost use Rattle.feed_messages.specs.Written.{written};
+ghost use Rattle.feed_writing.specs.Written.{written};
 ghost use Rattle.alert_map.specs.Alerts.{alert_message};
 ghost use Rattle.journey_model.specs.Situations.{AreKnown};
 ghost use Rattle.journey_model.specs.declared.situation.Situation as of_journeys;

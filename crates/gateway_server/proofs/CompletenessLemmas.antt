@@ -10,8 +10,8 @@ use Rattle.gw_base.specs.declared.door.Mark.{Mark}
 use Rattle.gw_base.specs.declared.door.Mark.TheVariants as mark
 use Rattle.gw_base.specs.declared.member.Member.{Member}
 use Rattle.gw_base.specs.declared.messages.Feed.{Feed}
-use Rattle.feed_messages.specs.Tables.{MeansFeed}
-use Rattle.feed_messages.specs.declared.fault.FeedFault.TheVariants as feed_fault
+use Rattle.feed_reading.specs.Tables.{MeansFeed}
+use Rattle.feed_reading.specs.declared.fault.FeedFault.TheVariants as feed_fault
 use Rattle.http_talk.proofs.OneRequest.{one_request}
 use Rattle.http_talk.specs.Asked.{is_post}
 use Rattle.http_talk.specs.Request.{Get, IsRequest, Post, Refused, headed, with_body}

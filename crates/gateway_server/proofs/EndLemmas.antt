@@ -20,13 +20,13 @@ use Rattle.gateway_core.specs.Standing.{Kept, Stands}
 use Rattle.gateway_core.specs.Taking.{report_json}
 use Rattle.gateway_core.specs.declared.setting.Setting.{Setting}
 use Rattle.gateway_server.specs.Answers as answers
-use Rattle.gateway_server.specs.Answers.{IsAnswered, answer_of, refused_with, status_of}
+use Rattle.gateway_server.specs.Answers.{answer_of, refused_with, status_of}
 use Rattle.gateway_server.specs.Log.{IsFront, IsLawful, IsPosted, answered, brought, is_taken, lost, no_clock, no_memory, nothing}
 use Rattle.gateway_server.specs.Serving.{AsksClock, IsFresh, IsLogged, Serves}
 use Rattle.gateway_server.specs.Steps as steps
 use Rattle.gateway_server.specs.Steps.{Answers, PutsShown, PutsTaken, entry_at}
 
--- what a front of an answer is, behind nothing
+-- what a front of an answer is, after nothing
 pub front_of : (P : Type 0) (before now : Option (List ℕ)) (text : List ℕ) → before ≡ Some [] → PutsUnless P before now text
     → (written : List ℕ) × (now ≡ Some written) × IsFront P written text
 front_of P before now text fresh puts =
@@ -55,7 +55,7 @@ is_posted input body target (headed count (Ok head) is_head is) = (count, head, 
         not_got : Post target body ≡ Get head.target → ⊥
         not_got is = cc
 
--- ---- behind the request
+-- ---- after the request
 
 -- a GET was answered
 pub answers_shown : (P : Type 0) (kept : Kept) (arrivals : List Arrival) (input : List ℕ) (moment : ℤ) (target : Target) (before now : Option (List ℕ))

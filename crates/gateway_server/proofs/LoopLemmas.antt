@@ -56,7 +56,7 @@ serves_none P gate arrivals told moments before now output beside tells stands =
     same None = refl
     same (Some list) = refl
 
--- a fault or an end that comes behind
+-- a fault or an end that comes after
 pub serves_end : (P Q : Type 0) (gate now : Kept) (arrivals : List Arrival) (told : Connections) (clock : Change (List ℤ)) (output last : Option (List ℕ)) (beside after : Beside) (count : ℕ)
     → (P → Q) → last ≡ output → after ≡ beside → ServesAll P gate arrivals told clock output beside now count
     → ServesAll Q gate arrivals told clock last after now count
@@ -74,7 +74,7 @@ serves_end P Q gate now arrivals told clock output last beside after count wider
   stands = so_far.stands;
 }
 
--- no connection is to come behind those that were served
+-- no connection is to come after those that were served
 pub is_end : (P : Type 0) (gate now : Kept) (arrivals : List Arrival) (told : Connections) (clock : Change (List ℤ)) (output : Option (List ℕ)) (beside after : Beside) (count : ℕ)
     → NoneComes beside after → ServesAll P gate arrivals told clock output beside now count → IsEnd after
 is_end P gate now arrivals told clock output beside after count none so_far =

@@ -1,6 +1,6 @@
 -- What a gateway's answers to posted bodies are.
 use Rattle.std.proofs.Common.{◌≡◌, ◌∷◌, ℕ, ℤ, List, Some, Result, Ok, Err, IfOk, OnErr, refl, subst, sym}
-use Rattle.feed_messages.specs.declared.fault.FeedFault.TheVariants as feed_fault
+use Rattle.feed_reading.specs.declared.fault.FeedFault.TheVariants as feed_fault
 use Rattle.http_talk.specs.declared.target.Target.{Target}
 use Rattle.http_talk.specs.declared.target.Target.TheVariants.{EtPost, RtPost, SxPost}
 use Rattle.siri_json.specs.declared.delivery.DeliveryFault.{DeliveryFault}

@@ -21,7 +21,7 @@ use Rattle.gateway_core.specs.Taking.{report_json}
 use Rattle.gateway_core.specs.declared.setting.Setting.{Setting}
 use Rattle.gateway_server.specs.Bodies.{Brings, RefusesBody}
 
--- an answer: its head, and behind it its body
+-- an answer: its head, and after it its body
 unfoldable pub answer_of : Answer → List ℕ → List ℕ
 answer_of kind body = answer_head kind (length body) ++ body
 

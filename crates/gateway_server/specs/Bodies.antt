@@ -2,10 +2,10 @@
 use Rattle.std.specs.Prelude.{◌≡◌, ℕ, ℤ, false, true, List, Some, None, Err}
 use Rattle.gw_base.specs.declared.member.Member.{Member}
 use Rattle.gw_base.specs.declared.messages.Feed.{Feed}
-use Rattle.feed_messages.specs.Faults.{HasFault}
-use Rattle.feed_messages.specs.Tables.{MeansFeed}
-use Rattle.feed_messages.specs.declared.fault.FeedFault.{FeedFault}
-use Rattle.feed_messages.specs.declared.fault.FeedFault.TheVariants as feed_fault
+use Rattle.feed_reading.specs.Faults.{HasFault}
+use Rattle.feed_reading.specs.Tables.{MeansFeed}
+use Rattle.feed_reading.specs.declared.fault.FeedFault.{FeedFault}
+use Rattle.feed_reading.specs.declared.fault.FeedFault.TheVariants as feed_fault
 use Rattle.journey_model.specs.Schedules.{Schedule}
 use Rattle.journey_model.specs.declared.report.Report.{Report}
 use Rattle.serde_json.specs.Data.{Data}
@@ -21,7 +21,7 @@ use Rattle.http_talk.specs.declared.refusal.BodyFault.TheVariants.{NotJson, NotD
 use Rattle.http_talk.specs.declared.target.Target.{Target}
 use Rattle.http_talk.specs.declared.target.Target.TheVariants.{EtPost, EtGet, SxPost, RtPost, RtGet}
 
--- a body that is posted to a target at a moment, behind these arrivals, is taken with this report and gives this
+-- a body that is posted to a target at a moment, after these arrivals, is taken with this report and gives this
 abbrev pub Brings : Setting → List Arrival → ℤ → Target → List ℕ → Report → Given → Type 0
 Brings setting arrivals moment target body report (journeys records) =
     (target ≡ EtPost) × TakesJourneys setting arrivals moment body report records

@@ -37,7 +37,7 @@ JourneysHaveRoom window before records =
 abbrev pub NumbersHaveRoom : List Situation → List Situation → Type 0
 NumbersHaveRoom before given = length (firsts is_same_number (before ++ given)) ≤ most_numbers
 
--- a body is a delivery of journeys of which none has a fault at a moment, behind what arrived: it is JSON in the frame
+-- a body is a delivery of journeys of which none has a fault at a moment, after what arrived: it is JSON in the frame
 -- of a delivery; each of its journeys gives a record, as its members have their forms, it names a trip on a day of the
 -- window on which that runs, its calls match the trip's stops, and its delays are in range; and there is room. These
 -- are the records, and so many calls are passed over

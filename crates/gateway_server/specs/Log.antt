@@ -24,7 +24,7 @@ IsFront Cause output bytes = (n : ℕ) × (n ≤ length bytes) × (output ≡ ta
 abbrev pub IsPosted : List ℕ → Type 0
 IsPosted input = (count : ℕ) × (head : Head) × IsHead input count (Ok head) × (is_post head.target ≡ true)
 
--- what a connection's entry may be behind what arrived before it: the clock failed and nothing was read; a read failed
+-- what a connection's entry may be after what arrived before it: the clock failed and nothing was read; a read failed
 -- and nothing was answered; there was no memory for what was posted; or the connection was answered. The output is a
 -- front of the answer, and shorter only for a cause, which is a fault of the door
 pub data IsLawful (Cause : Type 0) (setting : Setting) (arrivals : List Arrival) (entry : Entry) : Type 0 where
@@ -51,7 +51,7 @@ is_taken mark.Memory = false
 is_taken mark.ClockFault = false
 is_taken mark.Lost = false
 
--- what arrived by the end of a connection, behind what arrived before: what its body gives where that was taken, and
+-- what arrived by the end of a connection, after what arrived before: what its body gives where that was taken, and
 -- otherwise nothing more
 pub data Leaves (setting : Setting) (arrivals : List Arrival) (entry : Entry) (now : List Arrival) : Type 0 where
   brought : (moment : ℤ) (target : Target) (body : List ℕ) (report : Report) (given : Given)
@@ -61,7 +61,7 @@ pub data Leaves (setting : Setting) (arrivals : List Arrival) (entry : Entry) (n
       → Leaves setting arrivals entry now
   nothing : is_taken entry.mark ≡ false → now ≡ arrivals → Leaves setting arrivals entry now
 
--- connections one after the other, behind what had arrived before them: each entry is lawful behind what arrived before
+-- connections one after the other, after what had arrived before them: each entry is lawful after what arrived before
 -- it, and this is what arrived by the end
 abbrev pub IsLawfulLog : Type 0 → Setting → List Arrival → List Entry → List Arrival → Type 0
 IsLawfulLog Cause setting before [] now = now ≡ before

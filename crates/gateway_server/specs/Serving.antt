@@ -27,7 +27,7 @@ pub record IsLogged (told : Connections) (now : Beside) (entry : Entry) : Type 0
   pub input : entry.input ≡ told.input
   pub log : now.told ≡ Some (record { coming = told.coming; input = []; unread = []; log = told.log ++ entry ∷ [] })
 
--- a connection, after which the log has one entry more, which is lawful behind what arrived before; a gateway that
+-- a connection, after which the log has one entry more, which is lawful after what arrived before; a gateway that
 -- stood for these arrivals stands for what arrived by its end, and nothing is written to the next connection yet
 pub record Serves (Cause : Type 0) (before : Kept) (arrivals : List Arrival) (told : Connections)
     (clock : Change (List ℤ)) (output : Option (List ℕ)) (beside : Beside) (now : Kept) : Type 0 where
@@ -46,7 +46,7 @@ pub record Tells (output : Option (List ℕ)) (beside : Beside) (told : Connecti
   pub written : (held : List ℕ) × (output ≡ Some held)
 
 -- connections one after the other: the log got so many entries more, which are the next inputs of the door in order and
--- lawful behind what arrived before them; their moments are those that the clock gave, and there are fewer only where
+-- lawful after what arrived before them; their moments are those that the clock gave, and there are fewer only where
 -- its count rose; and a gateway that stood for these arrivals stands for what arrived by the end
 pub record ServesAll (Cause : Type 0) (before : Kept) (arrivals : List Arrival) (told : Connections)
     (clock : Change (List ℤ)) (output : Option (List ℕ)) (beside : Beside) (now : Kept) (count : ℕ) : Type 0 where

@@ -1,4 +1,4 @@
--- What a connection is behind its request, and behind its moment.
+-- What a connection is after its request, and after its moment.
 use Rattle.std.specs.Prelude.{◌≡◌, ℕ, ℤ, List, ◌∷◌, Option, Some}
 use Rattle.gw_base.specs.Told.{PutsUnless}
 use Rattle.gw_base.specs.declared.door.Entry.{Entry}

@@ -1,8 +1,8 @@
 -- What a gateway did with a posted body.
 use Rattle.std.specs.Prelude.{◌≡◌, ℕ, ℤ, List, ◌∷◌, Result, Ok, Err}
 use Rattle.gw_base.specs.declared.door.Mark.TheVariants as mark
-use Rattle.feed_messages.specs.declared.fault.FeedFault.{FeedFault}
-use Rattle.feed_messages.specs.declared.fault.FeedFault.TheVariants as feed_fault
+use Rattle.feed_reading.specs.declared.fault.FeedFault.{FeedFault}
+use Rattle.feed_reading.specs.declared.fault.FeedFault.TheVariants as feed_fault
 use Rattle.http_talk.specs.declared.refusal.BodyFault.TheVariants as body_fault
 use Rattle.http_talk.specs.declared.target.Target.{Target}
 use Rattle.journey_model.specs.declared.report.Report.{Report}

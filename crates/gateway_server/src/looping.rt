@@ -4,6 +4,7 @@ ghost use Rattle.gw_base.specs.Changes.{change};
 ghost use Rattle.gw_base.specs.Connections.{Connections};
 ghost use Rattle.gw_base.specs.Count.{Counts, Rose};
 ghost use Rattle.gw_base.specs.declared.door.Entry as entries;
+ghost use Rattle.gw_base.specs.Limits.{body_limit};
 ghost use Rattle.gateway_core.specs.Arrivals.{Arrival};
 ghost use Rattle.gateway_core.specs.Standing.{Stands};
 ghost use Rattle.gateway_server.specs.Serving.{CountsCauses, IsEnd, ServesAll, Tells, failures};
@@ -15,7 +16,7 @@ use http_talk::HeadReader;
 use std::alloc::Global;
 
 /// Serves connections until none is to come or so many were served; Failed is a fault of the door in `next`, which ends
-/// it. Where the door tells its connections, each has its entry in the log, which is lawful behind what arrived before
+/// it. Where the door tells its connections, each has its entry in the log, which is lawful after what arrived before
 /// it. The entries that are lost or cut short are, with that fault of the door, no more than the faults that the door
 /// counted, and those for which the clock failed no more than the clock counted. `body` holds at most 16,777,216 bytes,
 /// where it did before.
@@ -41,7 +42,7 @@ pub fn serve<D: Door, C: Clock>(
         → (logged : List entries.Entry) → left.log ≡ told.log ++ logged
         → CountsCauses gate.old.setting arrivals logged (failures result) (D.faults door.old) (D.faults door.new)
         (C.faults clock.old) (C.faults clock.new) }
-    ensures held { length body.old ≤ 16777216 → length body.new ≤ 16777216 }
+    ensures held { length body.old ≤ body_limit → length body.new ≤ body_limit }
     ensures absent { (D.beside door.new).present ≡ false }
     ensures setting { gate.new.setting ≡ gate.old.setting }
     ensures counts { Counts (IsErr result) (D.faults door.old) (D.faults door.new) }

@@ -1,5 +1,6 @@
 //! A body that is posted, while it arrives. The definitions are those of `specs/Posted.antt`.
 ghost use Rattle.std.specs.Prelude.{◌≡◌, ◌≤◌, ◌+◌, ◌++◌, ℕ, List, length, IfOk};
+ghost use Rattle.gw_base.specs.Limits.{body_limit};
 ghost use Rattle.gateway_core.specs.Arriving.{StandsFor};
 
 use door_talk::TakesBody;
@@ -30,7 +31,7 @@ impl Model for PostedBody {
 
 // The feed after its next bytes.
 fn read_on(feed: FeedTaking, gate: &Gateway, piece: &[u8]) -> Result<FeedTaking, AllocError>
-    requires room { feed.reader.taken + length piece.now ≤ 16777216 }
+    requires room { feed.reader.taken + length piece.now ≤ body_limit }
     ensures takes { (bytes : List ℕ) → StandsFor gate.now.setting feed bytes
         → IfOk result (λ after. StandsFor gate.now.setting after (bytes ++ piece.now)) }
     ensures moment { IfOk result (λ after. after.moment ≡ feed.moment) }

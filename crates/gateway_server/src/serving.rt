@@ -3,6 +3,7 @@ ghost use Rattle.std.specs.Prelude.{◌≡◌, ◌≤◌, true, false, ℕ, List
 ghost use Rattle.gw_base.specs.Changes.{change};
 ghost use Rattle.gw_base.specs.Connections.{Connections};
 ghost use Rattle.gw_base.specs.Count.{Rose};
+ghost use Rattle.gw_base.specs.Limits.{body_limit};
 ghost use Rattle.door_talk.specs.Requests.{HasRead, IsWithin};
 ghost use Rattle.http_talk.specs.Asked.{is_post};
 ghost use Rattle.gateway_core.specs.Arrivals.{Arrival};
@@ -90,7 +91,7 @@ fn answer<D: Door>(
         → Answers (Rose (D.faults door.old) (D.faults door.new)) gate.old.setting arrivals told.input moment result
         (D.told door.new) gate.new }
     ensures reads { (bytes : List ℕ) × HasRead (D.beside door.old) (D.beside door.new) bytes × IsWithin bytes }
-    ensures held { length body.old ≤ 16777216 → length body.new ≤ 16777216 }
+    ensures held { length body.old ≤ body_limit → length body.new ≤ body_limit }
     ensures setting { gate.new.setting ≡ gate.old.setting }
     ensures counts { D.faults door.old ≤ D.faults door.new }
 {
@@ -118,7 +119,7 @@ fn answer<D: Door>(
 
 /// Serves the present connection: the clock is asked once, the request is read, what is posted is taken and what is
 /// asked for is answered, and the connection is finished, whatever fails (RFC 9112). Where the door tells its
-/// connections, the log has one entry more, which is lawful behind what arrived before. `body` holds at most 16,777,216
+/// connections, the log has one entry more, which is lawful after what arrived before. `body` holds at most 16,777,216
 /// bytes, where it did before.
 pub fn serve_one<D: Door, C: Clock>(
     alloc: Global,
@@ -133,7 +134,7 @@ pub fn serve_one<D: Door, C: Clock>(
         → (arrivals : List Arrival) → Stands gate.old arrivals
         → Serves (Rose (D.faults door.old) (D.faults door.new)) gate.old arrivals told
         (change C.told C.faults clock.old clock.new) (D.told door.new) (D.beside door.new) gate.new }
-    ensures held { length body.old ≤ 16777216 → length body.new ≤ 16777216 }
+    ensures held { length body.old ≤ body_limit → length body.new ≤ body_limit }
     ensures ended { (D.beside door.new).present ≡ false }
     ensures setting { gate.new.setting ≡ gate.old.setting }
     ensures counts { D.faults door.old ≤ D.faults door.new }

@@ -1,7 +1,8 @@
--- What the words left say behind what arrived is what all words say.
+-- What the words left say after what arrived is what all words say.
 use Rattle.std.proofs.Common.{◌≡◌, ◌∙◌, ◌<◌, ◌++◌, ◌∷◌, [], ℕ, ℤ, List, length, Result, Ok, Err, Option, Some, None, IfSome, inl, inr, refl, subst, arith}
 use Rattle.gw_base.specs.Answers.{UnlessFree}
 use Rattle.gw_base.proofs.AnswerLemmas.{unless_free}
+use Rattle.gw_base.specs.Limits.{body_limit}
 use Rattle.journey_model.specs.declared.report.Report.{Report}
 use Rattle.gateway_core.specs.Arrivals.{Arrival}
 use Rattle.gateway_core.specs.Reports.{feed_report}
@@ -10,23 +11,23 @@ use Rattle.gateway_core.specs.declared.setting.Setting.{Setting}
 use Rattle.gateway_top.specs.Done.{Done}
 use Rattle.gateway_top.specs.Exits.{is_free}
 use Rattle.gateway_top.specs.Served.{Takes, TakesAll}
-use Rattle.gateway_top.specs.Work.{Arrived, Arrives, BodyGives, Conversion, Converted, Directory, FileGives, FurtherFile, body_limit, nothing}
+use Rattle.gateway_top.specs.Work.{Arrived, Arrives, GivesBody, IsConversion, IsConverted, Directory, GivesFile, IsFurtherFile, nothing}
 use Rattle.gateway_top.specs.declared.exit.Exit.{Exit}
 
 -- the file was read, and its body taken or refused
 pub file_read : (told : Option Directory) (setting : Setting) (at : ℤ) (flag name body : List ℕ) (before now : Kept) (answer : Result Report Exit)
-    → IfSome told (λ files. FurtherFile body_limit name files (Ok body))
-    → ((arrivals : List Arrival) → Stands before arrivals → UnlessFree is_free answer (Takes (BodyGives setting at flag name body arrivals) at arrivals now))
-    → IfSome told (λ files. (arrivals : List Arrival) → Stands before arrivals → UnlessFree is_free answer (Takes (FileGives setting at flag name files arrivals) at arrivals now))
+    → IfSome told (λ files. IsFurtherFile body_limit name files (Ok body))
+    → ((arrivals : List Arrival) → Stands before arrivals → UnlessFree is_free answer (Takes (GivesBody setting at flag name body arrivals) at arrivals now))
+    → IfSome told (λ files. (arrivals : List Arrival) → Stands before arrivals → UnlessFree is_free answer (Takes (GivesFile setting at flag name files arrivals) at arrivals now))
 file_read None setting at flag name body before now answer read took = tt
 file_read (Some files) setting at flag name body before now (Ok report) read took =
     λ arrivals stands. let got = took arrivals stands in (got.0, (body, read, got.1), got.2)
 file_read (Some files) setting at flag name body before now (Err end) read took =
     λ arrivals stands.
-    unless_free is_free end (Takes (BodyGives setting at flag name body arrivals) at arrivals now) (Takes (FileGives setting at flag name files arrivals) at arrivals now)
+    unless_free is_free end (Takes (GivesBody setting at flag name body arrivals) at arrivals now) (Takes (GivesFile setting at flag name files arrivals) at arrivals now)
     (λ h. inr (body, read, h)) (took arrivals stands)
 
--- what arrived so far stands, and what the words left say behind it is what all words say
+-- what arrived so far stands, and what the words left say after it is what all words say
 pub record HasArrived (setting : Setting) (at : ℤ) (files : Directory) (words rest : List (List ℕ)) (now : Kept) (reports : List ℕ) : Type 0 where
   pub arrivals : List Arrival
   pub stands : Stands now arrivals
@@ -42,18 +43,18 @@ none_yet (Some files) setting at words now stands = record { arrivals = []; stan
 pub ends_with : (told : Option Directory) (setting own : Setting) (at : ℤ) (words rest behind : List (List ℕ)) (flag name : List ℕ) (before now : Kept) (reports : List ℕ) (end : Exit)
     → own ≡ setting → rest ≡ flag ∷ name ∷ behind
     → IfSome told (λ files. HasArrived setting at files words rest before reports)
-    → IfSome told (λ files. (arrivals : List Arrival) → Stands before arrivals → UnlessFree {T = Report} is_free (Err end) (Takes (FileGives own at flag name files arrivals) at arrivals now))
+    → IfSome told (λ files. (arrivals : List Arrival) → Stands before arrivals → UnlessFree {T = Report} is_free (Err end) (Takes (GivesFile own at flag name files arrivals) at arrivals now))
     → IfSome told (λ files. UnlessFree {T = List ℕ} is_free (Err end) (TakesAll (Arrives setting at files words nothing) now))
 ends_with None setting own at words rest behind flag name before now reports end stays same held took = tt
 ends_with (Some files) setting own at words rest behind flag name before now reports end stays same held took =
-    unless_free is_free end (Takes (FileGives own at flag name files held.arrivals) at held.arrivals now) (TakesAll (Arrives setting at files words nothing) now)
-    (λ h. held.back (Err end) (rw same (inl (subst (λ (s : Setting). FileGives s at flag name files held.arrivals (Err end)) stays h)))) (took held.arrivals held.stands)
+    unless_free is_free end (Takes (GivesFile own at flag name files held.arrivals) at held.arrivals now) (TakesAll (Arrives setting at files words nothing) now)
+    (λ h. held.back (Err end) (rw same (inl (subst (λ (s : Setting). GivesFile s at flag name files held.arrivals (Err end)) stays h)))) (took held.arrivals held.stands)
 
 -- the next file was taken
 pub goes_on : (told : Option Directory) (setting own : Setting) (at : ℤ) (words rest behind : List (List ℕ)) (flag name : List ℕ) (before now : Kept) (reports more : List ℕ) (report : Report)
     → own ≡ setting → rest ≡ flag ∷ name ∷ behind → more ≡ reports ++ feed_report name report
     → IfSome told (λ files. HasArrived setting at files words rest before reports)
-    → IfSome told (λ files. (arrivals : List Arrival) → Stands before arrivals → Takes (FileGives own at flag name files arrivals) at arrivals now (Ok report))
+    → IfSome told (λ files. (arrivals : List Arrival) → Stands before arrivals → Takes (GivesFile own at flag name files arrivals) at arrivals now (Ok report))
     → IfSome told (λ files. HasArrived setting at files words behind now more)
 goes_on None setting own at words rest behind flag name before now reports more report stays same longer held took = tt
 goes_on (Some files) setting own at words rest behind flag name before now reports more report stays same longer held took =
@@ -63,11 +64,11 @@ goes_on (Some files) setting own at words rest behind flag name before now repor
       back = by;
     }
   where
-    got : Takes (FileGives own at flag name files held.arrivals) at held.arrivals now (Ok report)
+    got : Takes (GivesFile own at flag name files held.arrivals) at held.arrivals now (Ok report)
     got = took held.arrivals held.stands
 
-    gives : FileGives setting at flag name files held.arrivals (Ok (got.0, report))
-    gives = subst (λ (s : Setting). FileGives s at flag name files held.arrivals (Ok (got.0, report))) stays got.1
+    gives : GivesFile setting at flag name files held.arrivals (Ok (got.0, report))
+    gives = subst (λ (s : Setting). GivesFile s at flag name files held.arrivals (Ok (got.0, report))) stays got.1
 
     after : List ℕ → Arrived
     after lines = record { arrivals = record { moment = at; gives = got.0 } ∷ held.arrivals; reports = lines }
@@ -91,20 +92,20 @@ none_left (Some files) setting at words (flag ∷ name ∷ rest) now reports few
 pub converted : (told : Option Directory) (setting first last : Setting) (at : ℤ) (words : List (List ℕ)) (now : Kept) (reports : List ℕ) (done : Done)
     → first ≡ setting → last ≡ first
     → IfSome told (λ files. TakesAll (Arrives first at files words nothing) now (Ok reports))
-    → ((arrivals : List Arrival) → Stands now arrivals → Converted at last (record { arrivals = arrivals; reports = reports }) (Ok done))
-    → IfSome told (λ files. Conversion at setting words files (Ok done))
+    → ((arrivals : List Arrival) → Stands now arrivals → IsConverted at last (record { arrivals = arrivals; reports = reports }) (Ok done))
+    → IfSome told (λ files. IsConversion at setting words files (Ok done))
 converted None setting first last at words now reports done begins stays took serves = tt
 converted (Some files) setting first last at words now reports done begins stays (arrivals, arrived, stands) serves = (
   record { arrivals = arrivals; reports = reports },
   subst (λ (s : Setting). Arrives s at files words nothing (Ok (record { arrivals = arrivals; reports = reports }))) begins arrived,
-  subst (λ (s : Setting). Converted at s (record { arrivals = arrivals; reports = reports }) (Ok done)) (stays ∙ begins) (serves arrivals stands),
+  subst (λ (s : Setting). IsConverted at s (record { arrivals = arrivals; reports = reports }) (Ok done)) (stays ∙ begins) (serves arrivals stands),
 )
 
 -- an end of the deliveries is the end of the conversion
 pub not_converted : (told : Option Directory) (setting first : Setting) (at : ℤ) (words : List (List ℕ)) (now : Kept) (end : Exit) → first ≡ setting
     → IfSome told (λ files. UnlessFree {T = List ℕ} is_free (Err end) (TakesAll (Arrives first at files words nothing) now))
-    → IfSome told (λ files. UnlessFree {T = Done} is_free (Err end) (Conversion at setting words files))
+    → IfSome told (λ files. UnlessFree {T = Done} is_free (Err end) (IsConversion at setting words files))
 not_converted None setting first at words now end begins took = tt
 not_converted (Some files) setting first at words now end begins took =
-    unless_free is_free end (TakesAll (Arrives first at files words nothing) now) (Conversion at setting words files)
+    unless_free is_free end (TakesAll (Arrives first at files words nothing) now) (IsConversion at setting words files)
     (λ h. inl (subst (λ (s : Setting). Arrives s at files words nothing (Err end)) begins h)) took

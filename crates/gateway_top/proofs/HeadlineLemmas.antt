@@ -16,7 +16,7 @@ use Rattle.gateway_top.specs.Exits.{is_free, status_of}
 use Rattle.gateway_top.specs.Headline.{HasArrived, Headline, ServesFeed, ServesText, Shows}
 use Rattle.gateway_top.specs.Runs.{Doorway, EndsServer, HasFailed, RunsServer}
 use Rattle.gateway_top.specs.Serving.{Served}
-use Rattle.gateway_top.specs.Work.{Directory, SettingOf}
+use Rattle.gateway_top.specs.Work.{Directory, IsSettingOf}
 use Rattle.gateway_top.specs.Words.{IsJob, Serve, serve_job}
 use Rattle.gateway_top.proofs.PublishedLemmas.{is_setting}
 use Rattle.gateway_top.specs.declared.exit.Exit.{Exit}
@@ -57,7 +57,7 @@ entry_shows Cause setting arrivals entry (lost moment ends at output cause) show
 entry_shows Cause setting arrivals entry (no_memory moment ends at posted front) shown = absurd cc
 entry_shows Cause setting arrivals entry (answered moment bytes at is front) shown = answer_shows Cause setting arrivals entry moment bytes at is front shown
 
--- each entry of a lawful log is lawful behind what arrived of the entries before it
+-- each entry of a lawful log is lawful after what arrived of the entries before it
 log_shows : (Cause : Type 0) (setting : Setting) (before now : List Arrival) (earlier : List Entry) (entry : Entry) (later : List Entry)
     → IsLawfulLog Cause setting before (earlier ++ entry ∷ later) now → entry.mark ≡ mark.Shown
     → (arrivals : List Arrival) × HasArrived setting before earlier arrivals × (ServesFeed Cause setting arrivals entry ⊎ ServesText Cause setting arrivals entry)
@@ -75,7 +75,7 @@ shows Cause setting entries now lawful earlier entry later is shown =
 
 -- connections that were served over the setting of the words show as told
 pub headline : (Cause End : Type 0) (words : List (List ℕ)) (files : Directory) (command : Serve) (setting : Setting) (told : Connections) (clock : Change (List ℤ)) (now : Beside)
-    → IsJob words (serve_job command) → SettingOf command.over (Some command.keep) files (Ok setting)
+    → IsJob words (serve_job command) → IsSettingOf command.over (Some command.keep) files (Ok setting)
     → Served Cause End command.connections setting told clock now
     → Headline Cause words files told now
 headline Cause End words files command setting told clock now accepted over served = record {
@@ -119,7 +119,7 @@ pub of_run : (words : List (List ℕ)) (command : Serve) (ended : ℕ) (files : 
 of_run words command ended files err doorway accepted runs = by files.before runs.answer runs.work runs.ends
   where
     by : (before : Option Directory) (answer : Result Setting Exit)
-        → IfSome before (λ folder. UnlessFree is_free answer (SettingOf command.over (Some command.keep) folder)) → EndsServer command answer ended err doorway
+        → IfSome before (λ folder. UnlessFree is_free answer (IsSettingOf command.over (Some command.keep) folder)) → EndsServer command answer ended err doorway
         → IfSome before (λ folder. (told : Connections) → Tells doorway.output.before doorway.before told → Headline (HasFailed doorway.output) words folder told doorway.now)
     by None answer work ends = tt
     by (Some folder) (Ok setting) work ends = λ told tells.

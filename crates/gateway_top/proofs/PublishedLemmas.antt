@@ -7,6 +7,7 @@ use Rattle.std.proofs.lemmas.Bool.Decides.{Decides-int_eq}
 use Rattle.gw_base.specs.Directory.{bytes_of}
 use Rattle.gw_base.specs.Told.{with_bytes}
 use Rattle.gw_base.specs.declared.messages.Feed.{Feed}
+use Rattle.gw_base.specs.Limits.{body_limit}
 use Rattle.service_day.specs.Windows.{IsWindow}
 use Rattle.service_day.specs.declared.zones.Rules.{Rules}
 use Rattle.stop_schedule.specs.Seen.{seen}
@@ -14,12 +15,12 @@ use Rattle.stop_schedule.specs.Table.{Table}
 use Rattle.stop_schedule.specs.Timetable.{timetable}
 use Rattle.stop_schedule.specs.declared.timetable.Timetable.{Timetable}
 use Rattle.stop_schedule.specs.declared.table_fault.TableFault.{TableFault}
-use Rattle.feed_messages.specs.Tables.{MeansFeed}
+use Rattle.feed_reading.specs.Tables.{MeansFeed}
 use Rattle.gateway_top.specs.Bodies.{differential_end}
 use Rattle.gateway_top.specs.Done.{Done}
 use Rattle.gateway_top.specs.Published.{IsFullFeed, IsSetting, IsZone, Publishes, PublishesCounts, PublishesFeed, PublishesLines, PublishesSiri, PublishesSituations, PublishesTask}
 use Rattle.gateway_top.specs.Words.{IsJob, Make, NamedZone, Scope, Serve, Show, Task, ToGtfsrt, ToSiri, by_rule, by_file, gtfsrt_task, make_task, serve_job, show_task, siri_task, sx_task, task_job}
-use Rattle.gateway_top.specs.Work.{Directory, FileFeed, MakeWork, OverFiles, SettingOf, ShowWork, TaskWork, ToGtfsrtWork, ToSiriSxWork, ToSiriWork, Zone, body_limit, folder, full, further, zone_limit}
+use Rattle.gateway_top.specs.Work.{Directory, IsFileFeed, IsMakeWork, OverFiles, IsSettingOf, IsShowWork, IsTaskWork, IsToGtfsrtWork, IsToSiriSxWork, IsToSiriWork, IsNamedZone, folder, full, further, zone_limit}
 use Rattle.gateway_top.specs.declared.exit.Exit.{Exit}
 use Rattle.gateway_top.specs.declared.exit.Exit.TheVariants.{Refused}
 use Rattle.gateway_core.specs.declared.setting.Setting.{Setting}
@@ -41,11 +42,11 @@ found_body limit name (Some bytes) body e = by (nat_le (length bytes) limit) e
     by true e = let same : body ≡ bytes = cc in ap Some (sym same)
     by false e = absurd cc
 
-found_zone : (named : NamedZone) (files : Directory) (zone : Rules) → Zone named files (Ok zone) → IsZone named files zone
+found_zone : (named : NamedZone) (files : Directory) (zone : Rules) → IsNamedZone named files (Ok zone) → IsZone named files zone
 found_zone (by_rule text) files zone is = is
 found_zone (by_file path) files zone (bytes, read, is) = (bytes, found_body zone_limit path (bytes_of files path) bytes read, is)
 
-pub is_setting : (over : Scope) (keep : Option ℕ) (files : Directory) (setting : Setting) → SettingOf over keep files (Ok setting) → IsSetting over keep files setting
+pub is_setting : (over : Scope) (keep : Option ℕ) (files : Directory) (setting : Setting) → IsSettingOf over keep files (Ok setting) → IsSetting over keep files setting
 is_setting over keep files setting (table, folder_is, (zone, zone_is, (table_same, zone_same, window_is, keeps))) = record {
   folder = subst (λ (t : Timetable). timetable files over.gtfs ≡ Ok (seen t)) (sym table_same) (found_table over.gtfs (timetable files over.gtfs) (seen table) folder_is);
   zone = subst (λ (z : Rules). IsZone over.zone files z) (sym zone_same) (found_zone over.zone files zone zone_is);
@@ -65,7 +66,7 @@ found_full name read feed e = by (int_eq read.incrementality (pos 1)) refl e
         false_test : int_eq read.incrementality (pos 1) ≡ false → read.incrementality ≡ pos 1 → ⊥
         false_test e same = true≢false (sym ((Decides-int_eq read.incrementality (pos 1)).1 same) ∙ e)
 
-is_full_feed : (name : List ℕ) (files : Directory) (feed : Feed) → FileFeed name files (Ok feed) → IsFullFeed name files feed
+is_full_feed : (name : List ℕ) (files : Directory) (feed : Feed) → IsFileFeed name files (Ok feed) → IsFullFeed name files feed
 is_full_feed name files feed (body, held, (read, means, full_is)) =
     let same = found_full name read feed full_is in
     record {
@@ -77,7 +78,7 @@ is_full_feed name files feed (body, held, (read, means, full_is)) =
 
 -- the feed of what arrived gives just the readings of the latest records
 feed_published : (files : Directory) (command : ToGtfsrt) (done : Done) (before now : Option (List ℕ))
-    → ToGtfsrtWork command files (Ok done) → now ≡ with_bytes before done.out → PublishesFeed command files before now
+    → IsToGtfsrtWork command files (Ok done) → now ≡ with_bytes before done.out → PublishesFeed command files before now
 feed_published files command done before now (setting, setting_is, (arrived, read, converted)) written =
     record {
       setting = setting;
@@ -92,7 +93,7 @@ feed_published files command done before now (setting, setting_is, (arrived, rea
 
 -- the delivery of the feed that was read says what it says
 siri_published : (files : Directory) (command : ToSiri) (done : Done) (before now : Option (List ℕ))
-    → ToSiriWork command files (Ok done) → now ≡ with_bytes before done.out → PublishesSiri command files before now
+    → IsToSiriWork command files (Ok done) → now ≡ with_bytes before done.out → PublishesSiri command files before now
 siri_published files command done before now (setting, setting_is, (feed, read, (report, says, reported))) written =
     record {
       setting = setting;
@@ -107,7 +108,7 @@ siri_published files command done before now (setting, setting_is, (feed, read, 
 
 -- and so do its situations
 situations_published : (files : Directory) (command : ToSiri) (done : Done) (before now : Option (List ℕ))
-    → ToSiriSxWork command files (Ok done) → now ≡ with_bytes before done.out → PublishesSituations command files before now
+    → IsToSiriSxWork command files (Ok done) → now ≡ with_bytes before done.out → PublishesSituations command files before now
 situations_published files command done before now (setting, setting_is, (feed, read, (report, says, reported))) written =
     record {
       setting = setting;
@@ -122,7 +123,7 @@ situations_published files command done before now (setting, setting_is, (feed, 
 
 -- and so do its lines
 lines_published : (files : Directory) (command : Show) (done : Done) (before now : Option (List ℕ))
-    → ShowWork command files (Ok done) → now ≡ with_bytes before done.out → PublishesLines command files before now
+    → IsShowWork command files (Ok done) → now ≡ with_bytes before done.out → PublishesLines command files before now
 lines_published files command done before now (setting, setting_is, (feed, read, (reading, is_reading, lines, none))) written =
     record {
       setting = setting;
@@ -135,13 +136,13 @@ lines_published files command done before now (setting, setting_is, (feed, read,
     }
 
 -- and the line of a sample its counts
-counts_published : (command : Make) (done : Done) (before now : Option (List ℕ)) → MakeWork command (Ok done) → now ≡ with_bytes before done.out
+counts_published : (command : Make) (done : Done) (before now : Option (List ℕ)) → IsMakeWork command (Ok done) → now ≡ with_bytes before done.out
     → PublishesCounts command before now
 counts_published command done before now (counts, counted, line, none) written =
     record { counts = counts; counted = counted; written = written ∙ ap (with_bytes before) line }
 
 -- what is done publishes
-pub publishes_task : (files : Directory) (task : Task) (done : Done) (before now : Option (List ℕ)) → TaskWork task files (Ok done) → now ≡ with_bytes before done.out
+pub publishes_task : (files : Directory) (task : Task) (done : Done) (before now : Option (List ℕ)) → IsTaskWork task files (Ok done) → now ≡ with_bytes before done.out
     → PublishesTask task files before now
 publishes_task files (gtfsrt_task command) done before now work written = feed_published files command done before now work written
 publishes_task files (siri_task command) done before now work written = siri_published files command done before now work written
@@ -150,13 +151,13 @@ publishes_task files (show_task command) done before now work written = lines_pu
 publishes_task files (make_task command) done before now work written = counts_published command done before now work written
 
 told_published : (files : Option Directory) (task : Task) (done : Done) (before now : Option (List ℕ))
-    → IfSome files (λ told. TaskWork task told (Ok done)) → now ≡ with_bytes before done.out
+    → IfSome files (λ told. IsTaskWork task told (Ok done)) → now ≡ with_bytes before done.out
     → IfSome files (λ told. PublishesTask task told before now)
 told_published None task done before now work written = tt
 told_published (Some told) task done before now work written = publishes_task told task done before now work written
 
 pub publishes : (files : Option Directory) (task : Task) (done : Done) (before now : Option (List ℕ))
-    → OverFiles task files (λ told. TaskWork task told (Ok done)) → now ≡ with_bytes before done.out
+    → OverFiles task files (λ told. IsTaskWork task told (Ok done)) → now ≡ with_bytes before done.out
     → OverFiles task files (λ told. PublishesTask task told before now)
 publishes files (gtfsrt_task command) done before now work written = told_published files (gtfsrt_task command) done before now work written
 publishes files (siri_task command) done before now work written = told_published files (siri_task command) done before now work written

@@ -73,7 +73,7 @@ completed command met (suc n) k before h =
 can_end : (command : Command) → IsSatisfiable command → (k : ℕ) (before : List ℕ) → IsStart (ArePairs command k before) []
 can_end command met k before = completed command met (length command.pairs) k before (omega arith)
 
--- where lists stop: at the first word, or behind it
+-- where lists stop: at the first word, or after it
 
 stops_here : (Accepted : Words → Type 0) (words : Words) → IsStart Accepted []
     → ((other : Words) → Accepted other → slice_get other 0 ≢ slice_get words 0) → StopsAt Accepted words 0
@@ -98,7 +98,7 @@ stops_behind Accepted Left word words n to from stops = record {
     longest zero within start = omega arith
     longest (suc k) within start = let le : k ≤ n = stops.longest k (omega arith) (start.0, from _ start.1) in omega arith
 
--- behind that many words, the words that are left decide on all of the words behind a command's name
+-- after that many words, the words that are left decide on all of the words after a command's name
 pub record Leads (command : Command) (name : List ℕ) (words : Words) (number : ℕ) (before : List ℕ) (left : Words) : Type 0 where
   pub at : ℕ
   pub counted : at + length left ≡ length words
@@ -172,7 +172,7 @@ wrong_at command number before (flag ∷ left) bad met more h = by (is_flag (pai
         rw h.1 (stops_behind (ArePairs command number before) Flagged flag left 0 (λ ws h. h) (λ ws h. h)
         (stops_here Flagged left (value.0 ∷ rest.0, (e, value.1, rest.1)) (no_value command number before flag left h.0)))
 
--- a list of words is refused at its name, or behind it
+-- a list of words is refused at its name, or after it
 
 pub no_name : (commands : List Command) (words : Words) → AreSatisfiable commands
     → ((name : List ℕ) → slice_get words 0 ≡ Some name → with_name commands name ≡ None) → StopsAt (IsAccepted commands) words 0

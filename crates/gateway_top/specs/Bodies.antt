@@ -2,8 +2,8 @@
 use Rattle.std.specs.Prelude.{ℕ, List, ◌++◌, codes, decimal}
 use Rattle.gw_base.specs.Member.{member_name}
 use Rattle.gw_base.specs.Required.{required_name}
-use Rattle.feed_messages.specs.declared.fault.FeedFault.{FeedFault}
-use Rattle.feed_messages.specs.declared.fault.FeedFault.TheVariants as feeds
+use Rattle.feed_reading.specs.declared.fault.FeedFault.{FeedFault}
+use Rattle.feed_reading.specs.declared.fault.FeedFault.TheVariants as feeds
 use Rattle.http_talk.specs.Texts.{kind_name}
 use Rattle.siri_json.specs.declared.delivery.DeliveryFault.{DeliveryFault}
 use Rattle.siri_json.specs.declared.delivery.DeliveryFault.TheVariants.{NotJson, NotDelivery, Memory}

@@ -9,7 +9,7 @@ use Rattle.gateway_top.specs.Exits.{missing}
 use Rattle.gateway_top.specs.declared.exit.Exit.{Exit}
 use Rattle.gateway_top.specs.declared.exit.Exit.TheVariants as exit
 
--- a number behind a space, and a column's name
+-- a number after a space, and a column's name
 abbrev pub row_text : ℕ → List ℕ
 row_text row = codes " " ++ decimal row
 

@@ -19,7 +19,7 @@ use Rattle.gateway_top.specs.Serving.{HasLogged}
 use Rattle.gateway_top.specs.Work.{Directory}
 use Rattle.gateway_top.specs.Words.{IsJob, Serve, serve_job}
 
--- what arrived of connections, one after the other, behind what had arrived before them
+-- what arrived of connections, one after the other, after what had arrived before them
 abbrev pub HasArrived : Setting → List Arrival → List Entry → List Arrival → Type 0
 HasArrived setting before [] now = now ≡ before
 HasArrived setting before (entry ∷ later) now =

@@ -1,4 +1,4 @@
--- Where a list of words that is to begin with a pair goes wrong: at its flag, or at the value behind it.
+-- Where a list of words that is to begin with a pair goes wrong: at its flag, or at the value after it.
 use Rattle.std.specs.Prelude.{◌≡◌, ℕ, false, MatchBool, List, [], ◌∷◌}
 use Rattle.gateway_top.specs.Tables.{Form, Pair, is_flag}
 

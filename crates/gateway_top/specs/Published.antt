@@ -9,7 +9,7 @@ use Rattle.service_day.specs.Zones.{IsRuleZone, IsTableZone}
 use Rattle.service_day.specs.declared.zones.Rules.{Rules}
 use Rattle.stop_schedule.specs.Seen.{seen}
 use Rattle.stop_schedule.specs.Timetable.{timetable}
-use Rattle.feed_messages.specs.Tables.{MeansFeed}
+use Rattle.feed_reading.specs.Tables.{MeansFeed}
 use Rattle.journey_model.specs.declared.report.Report.{Report}
 use Rattle.propagation.specs.Feeds.{IsReading}
 use Rattle.propagation.specs.declared.feeds.FeedReading.{FeedReading}
@@ -24,7 +24,7 @@ use Rattle.gateway_top.specs.Words.{IsJob, Job, Make, NamedZone, Scope, Show, Ta
 use Rattle.gateway_top.specs.Work.{Arrived, Arrives, Directory, OverFiles, nothing}
 use Rattle.gateway_core.specs.declared.setting.Setting.{Setting}
 use Rattle.sample_run.specs.Counts.{counts_text}
-use Rattle.sample_run.specs.Sample.{Sample}
+use Rattle.sample_run.specs.Sample.{IsCountOfSample}
 use Rattle.sample_run.specs.declared.counts.SampleCounts.{SampleCounts}
 
 -- a zone is the one that is named: of a rule, or of the bytes of a file
@@ -40,7 +40,7 @@ pub record IsSetting (over : Scope) (keep : Option ℕ) (files : Directory) (set
   pub window : IsWindow setting.zone over.from over.days setting.window
   pub keeps : setting.keep ≡ keep
 
--- standard output got the feed that is rebuilt of what arrived of the files' deliveries, in order, each taken behind
+-- standard output got the feed that is rebuilt of what arrived of the files' deliveries, in order, each taken after
 -- those before. Read as protobuf, its bytes mean a full dataset of version 2.0, made at the moment of the command; and
 -- this feed, propagated by GTFS Realtime's rules, gives every stop of every journey exactly the time, skip or absence
 -- of the last-recorded SIRI journey
@@ -98,10 +98,10 @@ pub record PublishesLines (command : Show) (files : Directory) (before now : Opt
   pub written : now ≡ with_bytes before (shown (schedule_in setting) reading)
 
 -- standard output got the line of what is counted of a sample: its made deliveries are taken over its made folder, each
--- behind those before, and of the feed that is rebuilt of them the line says how it reads at each stop of each trip
+-- after those before, and of the feed that is rebuilt of them the line says how it reads at each stop of each trip
 pub record PublishesCounts (command : Make) (before now : Option (List ℕ)) : Type 0 where
   pub counts : SampleCounts
-  pub counted : Sample command.seed command.trips command.stops (Ok counts)
+  pub counted : IsCountOfSample command.seed command.trips command.stops (Ok counts)
   pub written : now ≡ with_bytes before (counts_text command.trips command.stops counts)
 
 abbrev pub PublishesTask : Task → Directory → Option (List ℕ) → Option (List ℕ) → Type 0

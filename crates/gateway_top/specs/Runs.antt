@@ -9,7 +9,7 @@ use Rattle.gw_base.specs.Told.{with_bytes, PutsUnless}
 use Rattle.gateway_top.specs.Done.{Done}
 use Rattle.gateway_top.specs.Exits.{is_free, status_of, text_of}
 use Rattle.gateway_top.specs.Serving.{HasCounted, Served}
-use Rattle.gateway_top.specs.Work.{Directory, OverFiles, SettingOf, TaskWork}
+use Rattle.gateway_top.specs.Work.{Directory, OverFiles, IsSettingOf, IsTaskWork}
 use Rattle.gateway_top.specs.Words.{IsJob, IsRefusedAt, Serve, Task, serve_job, task_job}
 use Rattle.gateway_top.specs.declared.exit.Exit.{Exit}
 use Rattle.gateway_top.specs.declared.exit.Exit.TheVariants.{Failed}
@@ -93,7 +93,7 @@ Ends (Err exit) ended out err = EndsEarly (status_of exit) (text_of exit) ended 
 -- only where the files failed, or for want of memory; the work of `make` comes out whatever is told
 pub record RunsTask (task : Task) (ended : ℕ) (files : Change Directory) (out err : Change (List ℕ)) : Type 0 where
   pub answer : Result Done Exit
-  pub work : OverFiles task files.before (λ told. UnlessFree is_free answer (TaskWork task told))
+  pub work : OverFiles task files.before (λ told. UnlessFree is_free answer (IsTaskWork task told))
   pub cause : answer ≡ Err Failed → HasFailed files
   pub ends : Ends answer ended out err
 
@@ -125,7 +125,7 @@ EndsServing setting ended err doorway =
     ((ended ≡ 0) × GotNothing err × CountsFaults setting 0 doorway)
     ⊎ (HasFailed doorway.output × TellsEnd 74 (codes "failed") ended err × CountsFaults setting 1 doorway)
 
--- a server ends as what it is to work over comes out: early, before its first connection, or behind its connections;
+-- a server ends as what it is to work over comes out: early, before its first connection, or after its connections;
 -- and it served what came to a door that tells its connections
 abbrev pub EndsServer : Serve → Result Setting Exit → ℕ → Change (List ℕ) → Doorway → Type 0
 EndsServer command (Err exit) ended err doorway =
@@ -140,7 +140,7 @@ EndsServer command (Ok setting) ended err doorway =
 pub record RunsServer (command : Serve) (ended : ℕ) (files : Change Directory) (err : Change (List ℕ))
     (doorway : Doorway) : Type 0 where
   pub answer : Result Setting Exit
-  pub work : IfSome files.before (λ told. UnlessFree is_free answer (SettingOf command.over (Some command.keep) told))
+  pub work : IfSome files.before (λ told. UnlessFree is_free answer (IsSettingOf command.over (Some command.keep) told))
   pub cause : answer ≡ Err Failed → HasFailed files
   pub ends : EndsServer command answer ended err doorway
 

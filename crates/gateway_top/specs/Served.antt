@@ -6,12 +6,12 @@ use Rattle.gateway_core.specs.Standing.{Kept, Stands}
 use Rattle.gateway_top.specs.Work.{Arrived}
 use Rattle.gateway_top.specs.declared.exit.Exit.{Exit}
 
--- the first two words, a flag and a path, and the words behind
+-- the first two words, a flag and a path, and the words after
 abbrev pub IsNext : List (List ℕ) → Option (List ℕ × List ℕ × List (List ℕ)) → Type 0
 IsNext words None = length words < 2
 IsNext words (Some next) = words ≡ next.0 ∷ next.1 ∷ next.2
 
--- a step gives this report and something more, and a gateway stands for that behind what it stood for; or the step ends
+-- a step gives this report and something more, and a gateway stands for that after what it stood for; or the step ends
 abbrev pub Takes : (Result (Given × Report) Exit → Type 0) → ℤ → List Arrival → Kept → Result Report Exit → Type 0
 Takes Step at arrivals now (Ok report) =
     (given : Given) × Step (Ok (given, report)) × Stands now (record { moment = at; gives = given } ∷ arrivals)

@@ -16,7 +16,7 @@ pub record HasLogged (told : Connections) (now : Beside) (entries : List Entry) 
 
 -- the connections that were served: their entries are the door's next inputs in order, at most so many, and where that
 -- came to its end so many or all that were to come; their moments are those that the clock gave, fewer only where its
--- count rose; and each is lawful behind what arrived of those before it
+-- count rose; and each is lawful after what arrived of those before it
 pub record Served (Cause End : Type 0) (most : ℕ) (setting : Setting) (told : Connections) (clock : Change (List ℤ))
     (now : Beside) : Type 0 where
   pub entries : List Entry

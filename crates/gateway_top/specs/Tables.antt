@@ -9,12 +9,12 @@ use Rattle.std.specs.Cmp.Lexicographic.{pointwise}
 abbrev pub Form : Type 0
 Form = List ℕ → List ℕ → Bool
 
--- a pair of words: one of these flags, and behind it a value of this form
+-- a pair of words: one of these flags, and after it a value of this form
 pub record Pair : Type 0 where
   pub flags : List (List ℕ)
   pub form : Form
 
--- a command: its name, its pairs, and the pair that may be repeated behind them (none where that has no flag)
+-- a command: its name, its pairs, and the pair that may be repeated after them (none where that has no flag)
 pub record Command : Type 0 where
   pub name : List ℕ
   pub pairs : List Pair
@@ -23,11 +23,11 @@ pub record Command : Type 0 where
 abbrev pub is_flag : Pair → List ℕ → Bool
 is_flag pair word = list_any (λ flag. pointwise nat_eq flag word) pair.flags
 
--- the pair of that number: behind the last one, the repeated one
+-- the pair of that number: after the last one, the repeated one
 abbrev pub pair_at : Command → ℕ → Pair
 pair_at command number = get_or command.pairs number command.repeated
 
--- the words are the pairs of the command from that number on, behind the value before: each of its pairs once, in their
+-- the words are the pairs of the command from that number on, after the value before: each of its pairs once, in their
 -- order, and then any number of repeated ones
 abbrev pub ArePairs : Command → ℕ → List ℕ → List (List ℕ) → Type 0
 ArePairs command number before [] = length command.pairs ≤ number

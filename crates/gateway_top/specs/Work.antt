@@ -7,9 +7,10 @@ use Rattle.std.specs.Str.{bytes_eq}
 use Rattle.gw_base.specs.Directory.{bytes_of}
 use Rattle.gw_base.specs.Steps.{◌>>=◌}
 use Rattle.gw_base.specs.declared.messages.Feed.{Feed}
-use Rattle.feed_messages.specs.Faults.{HasFault, IsTold}
-use Rattle.feed_messages.specs.Tables.{MeansFeed}
-use Rattle.feed_messages.specs.declared.fault.FeedFault.{FeedFault}
+use Rattle.gw_base.specs.Limits.{body_limit}
+use Rattle.feed_reading.specs.Faults.{HasFault, IsTold}
+use Rattle.feed_reading.specs.Tables.{MeansFeed}
+use Rattle.feed_reading.specs.declared.fault.FeedFault.{FeedFault}
 use Rattle.journey_model.specs.declared.report.Report.{Report}
 use Rattle.propagation.specs.Feeds.{IsReading}
 use Rattle.propagation.specs.declared.feeds.FeedReading.{FeedReading}
@@ -34,7 +35,7 @@ use Rattle.gateway_core.specs.Reports.{feed_report}
 use Rattle.gateway_core.specs.Taking.{TakesJourneys, TakesSituations}
 use Rattle.gateway_core.specs.declared.setting.Setting.{Setting}
 use Rattle.sample_run.specs.Counts.{counts_text}
-use Rattle.sample_run.specs.Sample.{Sample}
+use Rattle.sample_run.specs.Sample.{IsCountOfSample}
 use Rattle.sample_run.specs.declared.counts.SampleCounts.{SampleCounts}
 use Rattle.sample_run.specs.declared.fault.SampleFault.{SampleFault}
 use Rattle.journey_model.specs.Records.{Recorded}
@@ -63,91 +64,88 @@ abbrev pub shown : Result Timetable Exit → Result Table Exit
 shown (Ok table) = Ok (seen table)
 shown (Err end) = Err end
 
-abbrev pub Folder : List ℕ → Directory → Result Timetable Exit → Type 0
-Folder dir files answer = shown answer ≡ folder dir (timetable files dir)
+abbrev pub IsFolder : List ℕ → Directory → Result Timetable Exit → Type 0
+IsFolder dir files answer = shown answer ≡ folder dir (timetable files dir)
 
--- the most bytes of a zone file, and of a delivery or a feed
+-- the most bytes of a zone file
 abbrev pub zone_limit : ℕ
 zone_limit = 1048576
-
-abbrev pub body_limit : ℕ
-body_limit = 16777216
 
 -- the bytes of a further file, which may be missing or too long
 abbrev pub further : ℕ → List ℕ → Option (List ℕ) → Result (List ℕ) Exit
 further limit name None = Err (missing name)
 further limit name (Some bytes) = if nat_le (length bytes) limit then Ok bytes else Err (too_long name)
 
-abbrev pub FurtherFile : ℕ → List ℕ → Directory → Result (List ℕ) Exit → Type 0
-FurtherFile limit name files answer = answer ≡ further limit name (bytes_of files name)
+abbrev pub IsFurtherFile : ℕ → List ℕ → Directory → Result (List ℕ) Exit → Type 0
+IsFurtherFile limit name files answer = answer ≡ further limit name (bytes_of files name)
 
 -- the zone of a POSIX rule
-abbrev pub RuleZone : List ℕ → Result Rules Exit → Type 0
-RuleZone text (Ok zone) = IsRuleZone text zone
-RuleZone text (Err end) = IsBadRule text × (end ≡ Refused (codes "zone refused"))
+abbrev pub IsZoneOfRule : List ℕ → Result Rules Exit → Type 0
+IsZoneOfRule text (Ok zone) = IsRuleZone text zone
+IsZoneOfRule text (Err end) = IsBadRule text × (end ≡ Refused (codes "zone refused"))
 
 -- the zone of the bytes of a TZif file
-abbrev pub TableZone : List ℕ → Result Rules Exit → Type 0
-TableZone bytes (Ok zone) = IsTableZone bytes zone
-TableZone bytes (Err end) = IsBadTable bytes × (end ≡ Refused (codes "zone refused"))
+abbrev pub IsZoneOfTable : List ℕ → Result Rules Exit → Type 0
+IsZoneOfTable bytes (Ok zone) = IsTableZone bytes zone
+IsZoneOfTable bytes (Err end) = IsBadTable bytes × (end ≡ Refused (codes "zone refused"))
 
 -- the zone that is named
-abbrev pub Zone : NamedZone → Directory → Result Rules Exit → Type 0
-Zone (by_rule text) files = RuleZone text
-Zone (by_file path) files = do
-  bytes ← FurtherFile zone_limit path files
-  TableZone bytes
+abbrev pub IsNamedZone : NamedZone → Directory → Result Rules Exit → Type 0
+IsNamedZone (by_rule text) files = IsZoneOfRule text
+IsNamedZone (by_file path) files = do
+  bytes ← IsFurtherFile zone_limit path files
+  IsZoneOfTable bytes
 
 -- a step that finds this
-abbrev pub Found : {A : Type 0} → A → Result A Exit → Type 0
-Found found answer = answer ≡ Ok found
+abbrev pub IsFound : {A : Type 0} → A → Result A Exit → Type 0
+IsFound found answer = answer ≡ Ok found
 
 -- the timetable and the zone, with the window of so many days from the first on in that zone, and how many days are
 -- kept of it as it rolls: without a number it stays
-abbrev pub Windowed : Timetable → Rules → ℤ → ℕ → Option ℕ → Result Setting Exit → Type 0
-Windowed table zone first days keep (Ok setting) =
+abbrev pub IsWindowed : Timetable → Rules → ℤ → ℕ → Option ℕ → Result Setting Exit → Type 0
+IsWindowed table zone first days keep (Ok setting) =
     (setting.table ≡ table) × (setting.zone ≡ zone) × IsWindow zone first days setting.window × (setting.keep ≡ keep)
-Windowed table zone first days keep (Err end) = ⊥
+IsWindowed table zone first days keep (Err end) = ⊥
 
--- the zone and the window behind a timetable
-abbrev pub Over : Timetable → NamedZone → ℤ → ℕ → Option ℕ → Directory → Result Setting Exit → Type 0
-Over table named first days keep files = do
-  zone ← Zone named files
-  Windowed table zone first days keep
+-- the zone and the window after a timetable
+abbrev pub IsSettingOver : Timetable → NamedZone → ℤ → ℕ → Option ℕ → Directory → Result Setting Exit → Type 0
+IsSettingOver table named first days keep files = do
+  zone ← IsNamedZone named files
+  IsWindowed table zone first days keep
 
 -- what a command works over, and how many days it keeps
-abbrev pub SettingOf : Scope → Option ℕ → Directory → Result Setting Exit → Type 0
-SettingOf over keep files = do
-  table ← Folder over.gtfs files
-  Over table over.zone over.from over.days keep files
+abbrev pub IsSettingOf : Scope → Option ℕ → Directory → Result Setting Exit → Type 0
+IsSettingOf over keep files = do
+  table ← IsFolder over.gtfs files
+  IsSettingOver table over.zone over.from over.days keep files
 
--- what a delivery's body gives at that moment behind some arrivals, with the report on it; or the end that its fault is
-abbrev pub JourneysGiven : Setting → ℤ → List ℕ → List ℕ → List Arrival → Result (Given × Report) Exit → Type 0
-JourneysGiven setting at name body arrivals (Ok found) =
+-- what a delivery's body gives at that moment after some arrivals, with the report on it; or the end that its fault is
+abbrev pub GivesJourneys : Setting → ℤ → List ℕ → List ℕ → List Arrival → Result (Given × Report) Exit → Type 0
+GivesJourneys setting at name body arrivals (Ok found) =
     (records : List Recorded) × (found.0 ≡ journeys records) × TakesJourneys setting arrivals at body found.1 records
-JourneysGiven setting at name body arrivals (Err end) =
+GivesJourneys setting at name body arrivals (Err end) =
     (fault : DeliveryFault) × ReadsBody (schedule_at setting (at ∷ moments_of arrivals)) body (Err fault)
     × (end ≡ body_end name fault)
 
 -- the same of one of situations
-abbrev pub SituationsGiven : Setting → ℤ → List ℕ → List ℕ → List Arrival → Result (Given × Report) Exit → Type 0
-SituationsGiven setting at name body arrivals (Ok found) =
+abbrev pub GivesSituations : Setting → ℤ → List ℕ → List ℕ → List Arrival → Result (Given × Report) Exit → Type 0
+GivesSituations setting at name body arrivals (Ok found) =
     (all : List Situation) × (found.0 ≡ situations all) × TakesSituations setting arrivals at body found.1 all
-SituationsGiven setting at name body arrivals (Err end) =
+GivesSituations setting at name body arrivals (Err end) =
     (fault : DeliveryFault) × ReadsSituations (schedule_at setting (at ∷ moments_of arrivals)) body (Err fault)
     × (end ≡ body_end name fault)
 
--- what a body gives: behind the flag `--sx` situations, and behind `--et` journeys
-abbrev pub BodyGives : Setting → ℤ → List ℕ → List ℕ → List ℕ → List Arrival → Result (Given × Report) Exit → Type 0
-BodyGives setting at flag name body arrivals answer =
+-- what a body gives: after the flag `--sx` situations, and after `--et` journeys
+abbrev pub GivesBody : Setting → ℤ → List ℕ → List ℕ → List ℕ → List Arrival → Result (Given × Report) Exit → Type 0
+GivesBody setting at flag name body arrivals answer =
     MatchBool (bytes_eq flag (codes "--sx"))
-    (SituationsGiven setting at name body arrivals answer) (JourneysGiven setting at name body arrivals answer)
+    (GivesSituations setting at name body arrivals answer) (GivesJourneys setting at name body arrivals answer)
 
 -- what a file gives
-abbrev pub FileGives : Setting → ℤ → List ℕ → List ℕ → Directory → List Arrival → Result (Given × Report) Exit → Type 0
-FileGives setting at flag name files arrivals = do
-  body ← FurtherFile body_limit name files
-  BodyGives setting at flag name body arrivals
+abbrev pub GivesFile : Setting → ℤ → List ℕ → List ℕ → Directory → List Arrival → Result (Given × Report) Exit → Type 0
+GivesFile setting at flag name files arrivals = do
+  body ← IsFurtherFile body_limit name files
+  GivesBody setting at flag name body arrivals
 
 -- what arrived of some files, the newest first, and the reports on them, in order
 pub record Arrived : Type 0 where
@@ -164,126 +162,127 @@ with_file at name before found = record {
   reports = before.reports ++ feed_report name found.1;
 }
 
--- what arrives at that moment of the files that words name, a flag before each, behind what arrived before
+-- what arrives at that moment of the files that words name, a flag before each, after what arrived before
 abbrev pub Arrives : Setting → ℤ → Directory → List (List ℕ) → Arrived → Result Arrived Exit → Type 0
-Arrives setting at files [] before = Found before
-Arrives setting at files (flag ∷ []) before = Found before
+Arrives setting at files [] before = IsFound before
+Arrives setting at files (flag ∷ []) before = IsFound before
 Arrives setting at files (flag ∷ name ∷ words) before = do
-  found ← FileGives setting at flag name files before.arrivals
+  found ← GivesFile setting at flag name files before.arrivals
   Arrives setting at files words (with_file at name before found)
 
 -- the feed that is rebuilt of what arrived, made at that moment, which gives each journey its latest reading, and the
 -- reports
-abbrev pub Converted : ℤ → Setting → Arrived → Result Done Exit → Type 0
-Converted at setting arrived (Ok done) =
+abbrev pub IsConverted : ℤ → Setting → Arrived → Result Done Exit → Type 0
+IsConverted at setting arrived (Ok done) =
     IsRebuiltOf setting at arrived.arrivals done.out
     × GivesEach at (schedule_at setting (moments_of arrived.arrivals)) (present setting arrived.arrivals) done.out
     × (done.err ≡ arrived.reports)
-Converted at setting arrived (Err end) = ⊥
+IsConverted at setting arrived (Err end) = ⊥
 
 -- the conversion of the files' deliveries
-abbrev pub Conversion : ℤ → Setting → List (List ℕ) → Directory → Result Done Exit → Type 0
-Conversion at setting words files = do
+abbrev pub IsConversion : ℤ → Setting → List (List ℕ) → Directory → Result Done Exit → Type 0
+IsConversion at setting words files = do
   arrived ← Arrives setting at files words nothing
-  Converted at setting arrived
+  IsConverted at setting arrived
 
 -- the work of `to-gtfsrt`
-abbrev pub ToGtfsrtWork : ToGtfsrt → Directory → Result Done Exit → Type 0
-ToGtfsrtWork command files = do
-  setting ← SettingOf command.over None files
-  Conversion command.at setting command.more files
+abbrev pub IsToGtfsrtWork : ToGtfsrt → Directory → Result Done Exit → Type 0
+IsToGtfsrtWork command files = do
+  setting ← IsSettingOf command.over None files
+  IsConversion command.at setting command.more files
 
 -- the feed that bytes mean, or the end that their fault is
-abbrev pub FeedOf : List ℕ → List ℕ → Result Feed Exit → Type 0
-FeedOf name body (Ok feed) = MeansFeed body feed × ((fault : FeedFault) → ¬ HasFault body fault)
-FeedOf name body (Err end) = (fault : FeedFault) × IsTold body fault × (end ≡ feed_end name fault)
+abbrev pub IsFeedIn : List ℕ → List ℕ → Result Feed Exit → Type 0
+IsFeedIn name body (Ok feed) = MeansFeed body feed × ((fault : FeedFault) → ¬ HasFault body fault)
+IsFeedIn name body (Err end) = (fault : FeedFault) × IsTold body fault × (end ≡ feed_end name fault)
 
 -- the feed, which is a full dataset: one that only tells what changed is refused
 abbrev pub full : List ℕ → Feed → Result Feed Exit
 full name feed = if int_eq feed.incrementality (pos 1) then Err (differential_end name) else Ok feed
 
-abbrev pub FullDataset : List ℕ → Feed → Result Feed Exit → Type 0
-FullDataset name feed answer = answer ≡ full name feed
+abbrev pub IsFullDataset : List ℕ → Feed → Result Feed Exit → Type 0
+IsFullDataset name feed answer = answer ≡ full name feed
 
 -- the feed of a body, and of a file
-abbrev pub BodyFeed : List ℕ → List ℕ → Result Feed Exit → Type 0
-BodyFeed name body = do
-  feed ← FeedOf name body
-  FullDataset name feed
+abbrev pub IsBodyFeed : List ℕ → List ℕ → Result Feed Exit → Type 0
+IsBodyFeed name body = do
+  feed ← IsFeedIn name body
+  IsFullDataset name feed
 
-abbrev pub FileFeed : List ℕ → Directory → Result Feed Exit → Type 0
-FileFeed name files = do
-  body ← FurtherFile body_limit name files
-  BodyFeed name body
+abbrev pub IsFileFeed : List ℕ → Directory → Result Feed Exit → Type 0
+IsFileFeed name files = do
+  body ← IsFurtherFile body_limit name files
+  IsBodyFeed name body
 
 -- the delivery that says what a feed says, and the report on its entities; or that its journeys have too many calls
-abbrev pub SiriOf : ℤ → Setting → List ℕ → Feed → Result Done Exit → Type 0
-SiriOf at setting name feed (Ok done) =
+abbrev pub IsSiriOf : ℤ → Setting → List ℕ → Feed → Result Done Exit → Type 0
+IsSiriOf at setting name feed (Ok done) =
     (report : Report) × IsSiri (schedule_in setting) feed at done.out report × (done.err ≡ feed_report name report)
-SiriOf at setting name feed (Err end) =
+IsSiriOf at setting name feed (Err end) =
     (count : ℕ) × HasTooMany (schedule_in setting) feed count × (end ≡ many_calls_end name count)
 
-abbrev pub SiriOfFile : ℤ → Setting → List ℕ → Directory → Result Done Exit → Type 0
-SiriOfFile at setting name files = do
-  feed ← FileFeed name files
-  SiriOf at setting name feed
+abbrev pub IsSiriOfFile : ℤ → Setting → List ℕ → Directory → Result Done Exit → Type 0
+IsSiriOfFile at setting name files = do
+  feed ← IsFileFeed name files
+  IsSiriOf at setting name feed
 
 -- the work of `to-siri`
-abbrev pub ToSiriWork : ToSiri → Directory → Result Done Exit → Type 0
-ToSiriWork command files = do
-  setting ← SettingOf command.over None files
-  SiriOfFile command.at setting command.feed files
+abbrev pub IsToSiriWork : ToSiri → Directory → Result Done Exit → Type 0
+IsToSiriWork command files = do
+  setting ← IsSettingOf command.over None files
+  IsSiriOfFile command.at setting command.feed files
 
 -- the delivery of the situations that a feed's alerts are, and the report on its entities
-abbrev pub SxOf : ℤ → Setting → List ℕ → Feed → Result Done Exit → Type 0
-SxOf at setting name feed (Ok done) =
+abbrev pub IsSxOf : ℤ → Setting → List ℕ → Feed → Result Done Exit → Type 0
+IsSxOf at setting name feed (Ok done) =
     (report : Report) × IsSx (schedule_in setting) feed at done.out report × (done.err ≡ feed_report name report)
-SxOf at setting name feed (Err end) = ⊥
+IsSxOf at setting name feed (Err end) = ⊥
 
-abbrev pub SxOfFile : ℤ → Setting → List ℕ → Directory → Result Done Exit → Type 0
-SxOfFile at setting name files = do
-  feed ← FileFeed name files
-  SxOf at setting name feed
+abbrev pub IsSxOfFile : ℤ → Setting → List ℕ → Directory → Result Done Exit → Type 0
+IsSxOfFile at setting name files = do
+  feed ← IsFileFeed name files
+  IsSxOf at setting name feed
 
 -- the work of `to-siri-sx`
-abbrev pub ToSiriSxWork : ToSiri → Directory → Result Done Exit → Type 0
-ToSiriSxWork command files = do
-  setting ← SettingOf command.over None files
-  SxOfFile command.at setting command.feed files
+abbrev pub IsToSiriSxWork : ToSiri → Directory → Result Done Exit → Type 0
+IsToSiriSxWork command files = do
+  setting ← IsSettingOf command.over None files
+  IsSxOfFile command.at setting command.feed files
 
 -- the lines of what a feed says
-abbrev pub LinesOf : Setting → Feed → Result Done Exit → Type 0
-LinesOf setting feed (Ok done) =
+abbrev pub IsLinesOf : Setting → Feed → Result Done Exit → Type 0
+IsLinesOf setting feed (Ok done) =
     (reading : FeedReading) × IsReading (schedule_in setting) feed reading
     × (done.out ≡ shown_lines (schedule_in setting) reading) × (done.err ≡ [])
-LinesOf setting feed (Err end) = ⊥
+IsLinesOf setting feed (Err end) = ⊥
 
-abbrev pub LinesOfFile : Setting → List ℕ → Directory → Result Done Exit → Type 0
-LinesOfFile setting name files = do
-  feed ← FileFeed name files
-  LinesOf setting feed
+abbrev pub IsLinesOfFile : Setting → List ℕ → Directory → Result Done Exit → Type 0
+IsLinesOfFile setting name files = do
+  feed ← IsFileFeed name files
+  IsLinesOf setting feed
 
 -- the work of `show`
-abbrev pub ShowWork : Show → Directory → Result Done Exit → Type 0
-ShowWork command files = do
-  setting ← SettingOf command.over None files
-  LinesOfFile setting command.feed files
+abbrev pub IsShowWork : Show → Directory → Result Done Exit → Type 0
+IsShowWork command files = do
+  setting ← IsSettingOf command.over None files
+  IsLinesOfFile setting command.feed files
 
 -- the work of `make`, which reads no files: the line of the sample's counts
-abbrev pub MakeWork : Make → Result Done Exit → Type 0
-MakeWork command (Ok done) =
-    (counts : SampleCounts) × Sample command.seed command.trips command.stops (Ok counts)
+abbrev pub IsMakeWork : Make → Result Done Exit → Type 0
+IsMakeWork command (Ok done) =
+    (counts : SampleCounts) × IsCountOfSample command.seed command.trips command.stops (Ok counts)
     × (done.out ≡ counts_text command.trips command.stops counts) × (done.err ≡ [])
-MakeWork command (Err end) =
-    (fault : SampleFault) × Sample command.seed command.trips command.stops (Err fault) × (end ≡ sample_end fault)
+IsMakeWork command (Err end) =
+    (fault : SampleFault) × IsCountOfSample command.seed command.trips command.stops (Err fault)
+    × (end ≡ sample_end fault)
 
 -- the work of a command
-abbrev pub TaskWork : Task → Directory → Result Done Exit → Type 0
-TaskWork (gtfsrt_task command) = ToGtfsrtWork command
-TaskWork (siri_task command) = ToSiriWork command
-TaskWork (sx_task command) = ToSiriSxWork command
-TaskWork (show_task command) = ShowWork command
-TaskWork (make_task command) = λ files. MakeWork command
+abbrev pub IsTaskWork : Task → Directory → Result Done Exit → Type 0
+IsTaskWork (gtfsrt_task command) = IsToGtfsrtWork command
+IsTaskWork (siri_task command) = IsToSiriWork command
+IsTaskWork (sx_task command) = IsToSiriSxWork command
+IsTaskWork (show_task command) = IsShowWork command
+IsTaskWork (make_task command) = λ files. IsMakeWork command
 
 -- what is said of a command over the files that are told: `make` reads none, so that it holds of it whatever is told
 abbrev pub OverFiles : Task → Option Directory → (Directory → Type 0) → Type 0

@@ -12,9 +12,9 @@ ghost use Rattle.gateway_core.specs.Reports as reports;
 ghost use Rattle.gateway_core.specs.Standing.{Stands};
 
 use crate::exit::Exit;
-use crate::reading::{BODY_LIMIT, further_file, joined};
+use crate::reading::{further_file, joined};
 use gateway_core::{Gateway, feed_report};
-use gw_base::{Bytes, Files, Moment, Text};
+use gw_base::{BODY_LIMIT, Bytes, Files, Moment, Text};
 use journey_model::Report;
 use siri_calls::DeliveryFault;
 use std::alloc::{AllocError, Global};
@@ -46,7 +46,7 @@ fn journeys_taken(
     name: &str,
 ) -> Result<Report, Exit>
     ensures told { (arrivals : List Arrival) → Stands gate.old arrivals → UnlessFree is_free result
-        (Takes (steps.JourneysGiven gate.old.setting at name.now body.now arrivals) at arrivals gate.new) }
+        (Takes (steps.GivesJourneys gate.old.setting at name.now body.now arrivals) at arrivals gate.new) }
     ensures calm { ¬ IsErrOf result Exit.Failed }
     ensures setting { gate.new.setting ≡ gate.old.setting }
 {
@@ -65,7 +65,7 @@ fn situations_taken(
     name: &str,
 ) -> Result<Report, Exit>
     ensures told { (arrivals : List Arrival) → Stands gate.old arrivals → UnlessFree is_free result
-        (Takes (steps.SituationsGiven gate.old.setting at name.now body.now arrivals) at arrivals gate.new) }
+        (Takes (steps.GivesSituations gate.old.setting at name.now body.now arrivals) at arrivals gate.new) }
     ensures calm { ¬ IsErrOf result Exit.Failed }
     ensures setting { gate.new.setting ≡ gate.old.setting }
 {
@@ -85,7 +85,7 @@ fn body_taken(
     name: &str,
 ) -> Result<Report, Exit>
     ensures told { (arrivals : List Arrival) → Stands gate.old arrivals → UnlessFree is_free result
-        (Takes (steps.BodyGives gate.old.setting at flag.now name.now body.now arrivals) at arrivals gate.new) }
+        (Takes (steps.GivesBody gate.old.setting at flag.now name.now body.now arrivals) at arrivals gate.new) }
     ensures calm { ¬ IsErrOf result Exit.Failed }
     ensures setting { gate.new.setting ≡ gate.old.setting }
 {
@@ -107,7 +107,7 @@ fn file_taken<F: Files>(
 ) -> Result<Report, Exit>
     ensures told { IfSome (F.told files.old) (λ told. (arrivals : List Arrival)
         → Stands gate.old arrivals → UnlessFree is_free result
-        (Takes (steps.FileGives gate.old.setting at flag.now name.now told arrivals) at arrivals gate.new)) }
+        (Takes (steps.GivesFile gate.old.setting at flag.now name.now told arrivals) at arrivals gate.new)) }
     ensures counts { Counts (IsErrOf result Exit.Failed) (F.faults files.old) (F.faults files.new) }
     ensures same { F.told files.new ≡ F.told files.old }
     ensures setting { gate.new.setting ≡ gate.old.setting }
@@ -116,7 +116,7 @@ fn file_taken<F: Files>(
     body_taken(alloc, gate, at, flag, body.as_slice(), name)
 }
 
-// The first two words, a flag and a path, and the words behind them.
+// The first two words, a flag and a path, and the words after them.
 fn next_file(words: &[Text]) -> Option<(&Text, &Text, &[Text])>
     ensures { IsNext words.now (option_map (λ next. (next.0.now, next.1.now, next.2.now)) result) }
 {

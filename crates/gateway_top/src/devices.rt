@@ -9,7 +9,7 @@ use std::fs::File;
 use std::io::{self, ErrorKind, Read, Write};
 use std::marker::Model;
 
-// Reads what a reader has left, or its first `limit` bytes and one more, straight behind what is there.
+// Reads what a reader has left, or its first `limit` bytes and one more, straight after what is there.
 fn read_front<B: Read + Drop>(reader: B, limit: u64, into: &mut Bytes) -> io::Result<usize>
     ensures behind { (bytes : List ℕ) × (into.new ≡ into.old ++ bytes) }
     ensures count { IfOk result (λ n. length into.new ≡ length into.old + n) }
@@ -42,7 +42,7 @@ impl<'a, R: std::rt::Files> DirFiles<'a, R> {
         DirFiles { rt, faults: 0 }
     }
 
-    // Reads the file's bytes, or its first `limit` bytes and one more, straight behind what is there.
+    // Reads the file's bytes, or its first `limit` bytes and one more, straight after what is there.
     fn read_behind(&self, name: &str, limit: u64, into: &mut Bytes) -> io::Result<usize>
         ensures behind { (bytes : List ℕ) × (into.new ≡ into.old ++ bytes) }
         ensures count { IfOk result (λ n. length into.new ≡ length into.old + n) }
@@ -119,7 +119,7 @@ impl<W: Write + Drop> Sink for StdSink<W> {
     fn write(&mut self, piece: &[u8]) -> Result<usize, Failed>
         requires { 0 < length piece.now }
         ensures some { IfOk result (λ n. (0 < n) × (n ≤ length piece.now)) }
-        // Behind what the stream held stand just the bytes of the piece that are counted, and after a failure none.
+        // After what the stream held stand just the bytes of the piece that are counted, and after a failure none.
         ensures held { WriteAppends self.old.held self.new.held result piece.now }
         ensures counts { Counts (IsErr result) self.old.faults self.new.faults }
     {

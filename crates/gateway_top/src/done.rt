@@ -4,7 +4,7 @@ ghost use Rattle.gw_base.specs.Count.{Counts, Rose};
 ghost use Rattle.gw_base.specs.Told.{PutsUnless, with_bytes};
 ghost use Rattle.gateway_core.specs.Arrivals.{Arrival};
 ghost use Rattle.gateway_core.specs.Standing.{Stands};
-ghost use Rattle.gateway_top.specs.Work.{Converted};
+ghost use Rattle.gateway_top.specs.Work.{IsConverted};
 
 use gateway_core::{Gateway, serves_what_arrived};
 use gw_base::{Bytes, Failed, Moment, Sink, put_all};
@@ -49,7 +49,7 @@ impl Done {
     /// The feed that the gateway serves at that moment, and the reports. The feed isn't copied.
     pub fn feed(gate: Gateway, at: Moment, reports: Bytes) -> Done
         ensures { (arrivals : List Arrival) → Stands gate arrivals
-            → Converted at gate.setting (record { arrivals = arrivals; reports = reports }) (Ok result) }
+            → IsConverted at gate.setting (record { arrivals = arrivals; reports = reports }) (Ok result) }
     {
         serves_what_arrived(&gate, at);
         Done {

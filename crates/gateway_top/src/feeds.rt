@@ -8,11 +8,11 @@ ghost use Rattle.gateway_top.specs.Work as steps;
 
 use crate::done::Done;
 use crate::exit::Exit;
-use crate::reading::{BODY_LIMIT, further_file, joined};
+use crate::reading::{further_file, joined};
 use feed_messages::{FeedFault, read_feed};
 use gateway_core::{Setting, feed_report};
 use gw_base::incrementality::DIFFERENTIAL;
-use gw_base::{Bytes, Feed, Files, Moment, Text};
+use gw_base::{BODY_LIMIT, Bytes, Feed, Files, Moment, Text};
 use http_talk::kind_name;
 use itoa::Buffer;
 use propagation::readings_of;
@@ -68,7 +68,7 @@ pub fn feed_end(alloc: Global, name: &str, fault: FeedFault) -> Result<Exit, All
 
 // The feed that a body means.
 fn feed_of(alloc: Global, name: &str, body: &[u8]) -> Result<Feed, Exit>
-    ensures told { UnlessFree is_free result (steps.FeedOf name.now body.now) }
+    ensures told { UnlessFree is_free result (steps.IsFeedIn name.now body.now) }
     ensures calm { ¬ IsErrOf result Exit.Failed }
 {
     match read_feed(alloc, body) {
@@ -79,7 +79,7 @@ fn feed_of(alloc: Global, name: &str, body: &[u8]) -> Result<Feed, Exit>
 
 // The feed, which is a full dataset.
 fn full(alloc: Global, name: &str, feed: Feed) -> Result<Feed, Exit>
-    ensures told { UnlessFree is_free result (steps.FullDataset name.now feed) }
+    ensures told { UnlessFree is_free result (steps.IsFullDataset name.now feed) }
     ensures full { IfOk result (λ feed. feed.incrementality ≢ pos 1) }
     ensures calm { ¬ IsErrOf result Exit.Failed }
 {
@@ -91,7 +91,7 @@ fn full(alloc: Global, name: &str, feed: Feed) -> Result<Feed, Exit>
 
 // The feed of a body, which is a full dataset.
 fn body_feed(alloc: Global, name: &str, body: &[u8]) -> Result<Feed, Exit>
-    ensures told { UnlessFree is_free result (steps.BodyFeed name.now body.now) }
+    ensures told { UnlessFree is_free result (steps.IsBodyFeed name.now body.now) }
     ensures full { IfOk result (λ feed. feed.incrementality ≢ pos 1) }
     ensures calm { ¬ IsErrOf result Exit.Failed }
 {
@@ -101,7 +101,7 @@ fn body_feed(alloc: Global, name: &str, body: &[u8]) -> Result<Feed, Exit>
 
 /// The feed of a file, which is a full dataset.
 pub fn feed_file<F: Files>(alloc: Global, files: &mut F, name: &str) -> Result<Feed, Exit>
-    ensures told { IfSome (F.told files.old) (λ told. UnlessFree is_free result (steps.FileFeed name.now told)) }
+    ensures told { IfSome (F.told files.old) (λ told. UnlessFree is_free result (steps.IsFileFeed name.now told)) }
     ensures full { IfOk result (λ feed. feed.incrementality ≢ pos 1) }
     ensures counts { Counts (IsErrOf result Exit.Failed) (F.faults files.old) (F.faults files.new) }
     ensures same { F.told files.new ≡ F.told files.old }
@@ -119,7 +119,7 @@ pub fn siri_of(
     feed: &Feed,
 ) -> Result<Done, Exit>
     requires { feed.now.incrementality ≢ pos 1 }
-    ensures told { UnlessFree is_free result (steps.SiriOf at setting.now name.now feed.now) }
+    ensures told { UnlessFree is_free result (steps.IsSiriOf at setting.now name.now feed.now) }
     ensures calm { ¬ IsErrOf result Exit.Failed }
 {
     match reverse_calls::siri_of(alloc, feed, &setting.context(), at) {
@@ -144,7 +144,7 @@ pub fn sx_of(
     feed: &Feed,
 ) -> Result<Done, Exit>
     requires { feed.now.incrementality ≢ pos 1 }
-    ensures told { UnlessFree is_free result (steps.SxOf at setting.now name.now feed.now) }
+    ensures told { UnlessFree is_free result (steps.IsSxOf at setting.now name.now feed.now) }
     ensures calm { ¬ IsErrOf result Exit.Failed }
 {
     match reverse_alerts::sx_of(alloc, feed, &setting.context(), at) {
@@ -159,7 +159,7 @@ pub fn sx_of(
 
 /// The lines of what a feed says.
 pub fn lines_of(alloc: Global, setting: &Setting, feed: &Feed) -> Result<Done, AllocError>
-    ensures { IfOk result (λ done. steps.LinesOf setting.now feed.now (Ok done)) }
+    ensures { IfOk result (λ done. steps.IsLinesOf setting.now feed.now (Ok done)) }
 {
     let reading = readings_of(alloc, feed, &setting.context())?;
     let out = show_lines(alloc, &setting.context(), &reading)?;

@@ -9,13 +9,10 @@ use crate::exit::Exit;
 use gw_base::{Bytes, FileFault, Files, Got, Text};
 use std::alloc::{AllocError, Global};
 
-/// The most bytes that a delivery or a feed may have.
-pub const BODY_LIMIT: u64 = 16_777_216;
-
 /// The most bytes that a zone file may have.
 pub const ZONE_LIMIT: u64 = 1_048_576;
 
-/// Two texts, one behind the other.
+/// Two texts, one after the other.
 pub fn joined(alloc: Global, first: &str, second: &str) -> Result<Text, AllocError>
     ensures { IfOk result (λ text. text ≡ first.now ++ second.now) }
 {
@@ -32,7 +29,7 @@ pub fn further_file<F: Files>(
     limit: u64,
 ) -> Result<Bytes, Exit>
     ensures told { IfSome (F.told files.old) (λ told. UnlessFree is_free result
-        (steps.FurtherFile limit name.now told)) }
+        (steps.IsFurtherFile limit name.now told)) }
     ensures counts { Counts (IsErrOf result Exit.Failed) (F.faults files.old) (F.faults files.new) }
     ensures same { F.told files.new ≡ F.told files.old }
 {

@@ -36,7 +36,7 @@ fn sample_end(alloc: Global, fault: SampleFault) -> Result<Exit, AllocError>
 pub fn made_line(alloc: Global, seed: u32, trips: u32, stops: u32) -> Result<Done, Exit>
     requires { IsSample seed trips stops }
     ensures told { UnlessFree is_free result
-        (steps.MakeWork (record { seed = seed; trips = trips; stops = stops })) }
+        (steps.IsMakeWork (record { seed = seed; trips = trips; stops = stops })) }
     ensures calm { ¬ IsErrOf result Exit.Failed }
 {
     match run_sample(alloc, seed, trips, stops) {

@@ -25,7 +25,7 @@ use stop_schedule::{Timetable, read_timetable};
 
 // The timetable of a folder.
 fn folder<F: Files>(alloc: Global, files: &mut F, dir: &str) -> Result<Timetable, Exit>
-    ensures told { IfSome (F.told files.old) (λ told. UnlessFree is_free result (steps.Folder dir.now told)) }
+    ensures told { IfSome (F.told files.old) (λ told. UnlessFree is_free result (steps.IsFolder dir.now told)) }
     ensures counts { Counts (IsErrOf result Exit.Failed) (F.faults files.old) (F.faults files.new) }
     ensures same { F.told files.new ≡ F.told files.old }
 {
@@ -37,7 +37,7 @@ fn folder<F: Files>(alloc: Global, files: &mut F, dir: &str) -> Result<Timetable
 
 // The zone of a POSIX rule.
 fn rule_zone(alloc: Global, rule: &str) -> Result<Zone, Exit>
-    ensures told { UnlessFree is_free result (steps.RuleZone rule.now) }
+    ensures told { UnlessFree is_free result (steps.IsZoneOfRule rule.now) }
     ensures calm { ¬ IsErrOf result Exit.Failed }
 {
     match Zone::from_rule(rule) {
@@ -49,7 +49,7 @@ fn rule_zone(alloc: Global, rule: &str) -> Result<Zone, Exit>
 
 // The zone of the bytes of a TZif file.
 fn table_zone(alloc: Global, bytes: &[u8]) -> Result<Zone, Exit>
-    ensures told { UnlessFree is_free result (steps.TableZone bytes.now) }
+    ensures told { UnlessFree is_free result (steps.IsZoneOfTable bytes.now) }
     ensures calm { ¬ IsErrOf result Exit.Failed }
 {
     match Zone::from_file(alloc, bytes) {
@@ -61,7 +61,8 @@ fn table_zone(alloc: Global, bytes: &[u8]) -> Result<Zone, Exit>
 
 // The zone of a TZif file.
 fn file_zone<F: Files>(alloc: Global, files: &mut F, path: &str) -> Result<Zone, Exit>
-    ensures told { IfSome (F.told files.old) (λ told. UnlessFree is_free result (steps.Zone (by_file path.now) told)) }
+    ensures told { IfSome (F.told files.old) (λ told. UnlessFree is_free result
+        (steps.IsNamedZone (by_file path.now) told)) }
     ensures counts { Counts (IsErrOf result Exit.Failed) (F.faults files.old) (F.faults files.new) }
     ensures same { F.told files.new ≡ F.told files.old }
 {
@@ -71,7 +72,8 @@ fn file_zone<F: Files>(alloc: Global, files: &mut F, path: &str) -> Result<Zone,
 
 // The zone that the words name.
 fn zone<F: Files>(alloc: Global, files: &mut F, word: &ZoneWord<'_>) -> Result<Zone, Exit>
-    ensures told { IfSome (F.told files.old) (λ told. UnlessFree is_free result (steps.Zone (zone_of word.now) told)) }
+    ensures told { IfSome (F.told files.old) (λ told. UnlessFree is_free result
+        (steps.IsNamedZone (zone_of word.now) told)) }
     ensures counts { Counts (IsErrOf result Exit.Failed) (F.faults files.old) (F.faults files.new) }
     ensures same { F.told files.new ≡ F.told files.old }
 {
@@ -81,7 +83,7 @@ fn zone<F: Files>(alloc: Global, files: &mut F, word: &ZoneWord<'_>) -> Result<Z
     }
 }
 
-// The zone and the window behind a timetable.
+// The zone and the window after a timetable.
 fn over<F: Files>(
     alloc: Global,
     files: &mut F,
@@ -91,7 +93,7 @@ fn over<F: Files>(
 ) -> Result<Setting, Exit>
     requires { HasWindow scope.now.from scope.now.days }
     ensures told { IfSome (F.told files.old) (λ told. UnlessFree is_free result
-        (steps.Over table (zone_of scope.now.zone) scope.now.from scope.now.days keep told)) }
+        (steps.IsSettingOver table (zone_of scope.now.zone) scope.now.from scope.now.days keep told)) }
     ensures counts { Counts (IsErrOf result Exit.Failed) (F.faults files.old) (F.faults files.new) }
     ensures same { F.told files.new ≡ F.told files.old }
 {
@@ -114,7 +116,7 @@ pub fn setting<F: Files>(
 ) -> Result<Setting, Exit>
     requires { HasWindow scope.now.from scope.now.days }
     ensures told { IfSome (F.told files.old) (λ told. UnlessFree is_free result
-        (steps.SettingOf (scope_of scope.now) keep told)) }
+        (steps.IsSettingOf (scope_of scope.now) keep told)) }
     ensures counts { Counts (IsErrOf result Exit.Failed) (F.faults files.old) (F.faults files.new) }
     ensures same { F.told files.new ≡ F.told files.old }
 {
@@ -133,7 +135,7 @@ fn conversion<F: Files>(
     words: &[Text],
 ) -> Result<Done, Exit>
     ensures told { IfSome (F.told files.old) (λ told. UnlessFree is_free result
-        (steps.Conversion at setting words.now told)) }
+        (steps.IsConversion at setting words.now told)) }
     ensures counts { Counts (IsErrOf result Exit.Failed) (F.faults files.old) (F.faults files.new) }
     ensures same { F.told files.new ≡ F.told files.old }
 {
@@ -154,7 +156,7 @@ fn to_gtfsrt<F: Files>(
 ) -> Result<Done, Exit>
     requires { HasWindow scope.now.from scope.now.days }
     ensures told { IfSome (F.told files.old) (λ told. UnlessFree is_free result
-        (steps.ToGtfsrtWork
+        (steps.IsToGtfsrtWork
         (record { over = scope_of scope.now; at = at; more = more.now }) told)) }
     ensures counts { Counts (IsErrOf result Exit.Failed) (F.faults files.old) (F.faults files.new) }
     ensures same { F.told files.new ≡ F.told files.old }
@@ -174,7 +176,7 @@ fn siri_of_file<F: Files>(
     name: &str,
 ) -> Result<Done, Exit>
     ensures told { IfSome (F.told files.old) (λ told. UnlessFree is_free result
-        (steps.SiriOfFile at setting.now name.now told)) }
+        (steps.IsSiriOfFile at setting.now name.now told)) }
     ensures counts { Counts (IsErrOf result Exit.Failed) (F.faults files.old) (F.faults files.new) }
     ensures same { F.told files.new ≡ F.told files.old }
 {
@@ -194,7 +196,7 @@ fn to_siri<F: Files>(
 ) -> Result<Done, Exit>
     requires { HasWindow scope.now.from scope.now.days }
     ensures told { IfSome (F.told files.old) (λ told. UnlessFree is_free result
-        (steps.ToSiriWork
+        (steps.IsToSiriWork
         (record { over = scope_of scope.now; at = at; feed = feed.now }) told)) }
     ensures counts { Counts (IsErrOf result Exit.Failed) (F.faults files.old) (F.faults files.new) }
     ensures same { F.told files.new ≡ F.told files.old }
@@ -214,7 +216,7 @@ fn sx_of_file<F: Files>(
     name: &str,
 ) -> Result<Done, Exit>
     ensures told { IfSome (F.told files.old) (λ told. UnlessFree is_free result
-        (steps.SxOfFile at setting.now name.now told)) }
+        (steps.IsSxOfFile at setting.now name.now told)) }
     ensures counts { Counts (IsErrOf result Exit.Failed) (F.faults files.old) (F.faults files.new) }
     ensures same { F.told files.new ≡ F.told files.old }
 {
@@ -234,7 +236,7 @@ fn to_siri_sx<F: Files>(
 ) -> Result<Done, Exit>
     requires { HasWindow scope.now.from scope.now.days }
     ensures told { IfSome (F.told files.old) (λ told. UnlessFree is_free result
-        (steps.ToSiriSxWork
+        (steps.IsToSiriSxWork
         (record { over = scope_of scope.now; at = at; feed = feed.now }) told)) }
     ensures counts { Counts (IsErrOf result Exit.Failed) (F.faults files.old) (F.faults files.new) }
     ensures same { F.told files.new ≡ F.told files.old }
@@ -253,7 +255,7 @@ fn lines_of_file<F: Files>(
     name: &str,
 ) -> Result<Done, Exit>
     ensures told { IfSome (F.told files.old) (λ told. UnlessFree is_free result
-        (steps.LinesOfFile setting.now name.now told)) }
+        (steps.IsLinesOfFile setting.now name.now told)) }
     ensures counts { Counts (IsErrOf result Exit.Failed) (F.faults files.old) (F.faults files.new) }
     ensures same { F.told files.new ≡ F.told files.old }
 {
@@ -267,7 +269,7 @@ fn lines_of_file<F: Files>(
 fn show<F: Files>(alloc: Global, files: &mut F, scope: &Scope<'_>, feed: &str) -> Result<Done, Exit>
     requires { HasWindow scope.now.from scope.now.days }
     ensures told { IfSome (F.told files.old) (λ told. UnlessFree is_free result
-        (steps.ShowWork (record { over = scope_of scope.now; feed = feed.now }) told)) }
+        (steps.IsShowWork (record { over = scope_of scope.now; feed = feed.now }) told)) }
     ensures counts { Counts (IsErrOf result Exit.Failed) (F.faults files.old) (F.faults files.new) }
     ensures same { F.told files.new ≡ F.told files.old }
 {
@@ -281,7 +283,7 @@ fn show<F: Files>(alloc: Global, files: &mut F, scope: &Scope<'_>, feed: &str) -
 pub fn carried_out<F: Files>(alloc: Global, task: &Task<'_>, files: &mut F) -> Result<Done, Exit>
     requires { CanRun (task_of task.now) }
     ensures told { steps.OverFiles (task_of task.now) (F.told files.old) (λ told. UnlessFree is_free result
-        (steps.TaskWork (task_of task.now) told)) }
+        (steps.IsTaskWork (task_of task.now) told)) }
     ensures counts { Counts (IsErrOf result Exit.Failed) (F.faults files.old) (F.faults files.new) }
     ensures same { F.told files.new ≡ F.told files.old }
     ensures unread { steps.reads_files (task_of task.now) ≡ false → files.new ≡ files.old }

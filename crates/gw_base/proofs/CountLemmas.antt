@@ -11,7 +11,7 @@ pub rose-after : (a b c : ℕ) → a ≤ b → Rose b c → Rose a c
 rose-after a b c le (inl lt) = inl (omega arith)
 rose-after a b c le (inr last) = inr last
 
--- a call behind calls in which the count didn't fall
+-- a call after calls in which the count didn't fall
 pub counts-behind : (P : Type 0) (a b c : ℕ) → a ≤ b → Counts P b c → Counts P a c
 counts-behind P a b c le counts =
     let falls : b ≤ c = counts.never_falls in

@@ -68,7 +68,7 @@ impl Connection {
         count
     }
 
-    // Writes bytes behind those that are written.
+    // Writes bytes after those that are written.
     pub fn write(&mut self, bytes: &[u8])
         requires { length bytes.now ≤ self.old.spare }
         ensures { self.new ≡ with_written self.old bytes.now }

@@ -33,7 +33,7 @@ pub trait Files {
     /// How many faults were met. The count never falls, and stands still at the last value of a u64.
     ghost faults: { Self → ℕ };
 
-    /// Reads the file of that name, of at most `limit` bytes, behind what is in `into`. On every other
+    /// Reads the file of that name, of at most `limit` bytes, after what is in `into`. On every other
     /// answer `into` stays as it was. No call changes the files.
     fn read_file(&mut self, name: &str, limit: u64, into: &mut Bytes) -> Result<Got, FileFault>
         ensures appended { result ≡ Ok Got.Whole → (bytes : List ℕ) × (length bytes ≤ limit)

@@ -114,7 +114,7 @@ impl List<u8> {
         self.items.truncate(count);
     }
 
-    /// Reads to the end of what the reader gives, behind the bytes that are there: after a fault too they
+    /// Reads to the end of what the reader gives, after the bytes that are there: after a fault too they
     /// are still there. Answers how many bytes came. What has come is what the reader no longer has.
     pub fn read_to_end<R: Read>(&mut self, reader: &mut R) -> io::Result<usize>
         ensures behind { (bytes : Values ℕ) × (self.new ≡ self.old ++ bytes) }

@@ -35,7 +35,7 @@ whole_piece held piece seen room is fewer =
     all : length seen ≡ min room (length piece) → min room (length piece) ≡ length piece
     all e = omega arith
 
--- the piece is the bytes seen and those behind them
+-- the piece is the bytes seen and those after them
 seen_first : (held piece seen : List ℕ) (room : ℕ) → IsSeen held piece seen room
     → piece ≡ seen ++ drop (min room (length piece)) piece
 seen_first held piece seen room is =

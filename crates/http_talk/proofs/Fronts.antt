@@ -1,4 +1,4 @@
--- The fronts of an input that comes in pieces: bytes held, bytes seen behind them, and what follows.
+-- The fronts of an input that comes in pieces: bytes held, bytes seen after them, and what follows.
 use Rattle.std.proofs.Common.{◌≡◌, ℕ, ◌+◌, ◌-◌, ◌<◌, ◌≤◌, true, false, List, ◌++◌, length, take, drop, ap, sym, ◌∙◌, subst, arith, inl, inr, length-append}
 use Rattle.std.proofs.Math.Seq.{take-append-add, take-length}
 use Rattle.std.proofs.lemmas.List.{take-append-le, take-append-drop, length-take-le}

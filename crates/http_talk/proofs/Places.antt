@@ -11,7 +11,7 @@ is_blank [] = true
 is_blank (byte ∷ []) = if byte == 10 then false else byte == 13
 is_blank (byte ∷ next ∷ bytes) = false
 
--- bytes without empty lines at their front, with a byte behind them, without what is then an empty line
+-- bytes without empty lines at their front, with a byte after them, without what is then an empty line
 abbrev pub with_byte : List ℕ → ℕ → List ℕ
 with_byte bytes byte = if byte == 10 && is_blank bytes then [] else bytes ++ byte ∷ []
 

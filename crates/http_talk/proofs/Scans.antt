@@ -8,7 +8,7 @@ use Rattle.http_talk.specs.Ends.{skip_empty, ends_head}
 use Rattle.http_talk.specs.Places.{place_of, after, scanned, ScanMeans}
 use Rattle.http_talk.proofs.Places.{GoesOn, next_means}
 
--- nothing behind the bytes
+-- nothing after the bytes
 at_none : (before : List ℕ) → ends_head before ≡ false → ends_head (before ++ []) ≡ false
 at_none before calm = subst (λ v. ends_head v ≡ false) (sym (append-nil before)) calm
 
@@ -23,7 +23,7 @@ none_before : (before bytes : List ℕ) → ends_head before ≡ false → (fron
 none_before before bytes calm zero below = at_none before calm
 none_before before bytes calm (suc front) below = absurd (omega arith)
 
--- the first byte stands before the others or behind those before it
+-- the first byte stands before the others or after those before it
 moved : (before : List ℕ) (byte : ℕ) (bytes : List ℕ) → (before ++ byte ∷ []) ++ bytes ≡ before ++ byte ∷ bytes
 moved before byte bytes = append_assoc before (byte ∷ []) bytes
 

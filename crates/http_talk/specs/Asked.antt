@@ -4,6 +4,7 @@ use Rattle.std.specs.List.{list_all, list_any, before_first}
 use Rattle.std.specs.Str.{bytes_eq, str_eq_ignore_ascii_case}
 use Rattle.std.specs.Str.Parse.{digits_value}
 use Rattle.std.specs.Char.{is_ascii_digit}
+use Rattle.gw_base.specs.Limits.{body_limit}
 use Rattle.httparse.specs.Grammar.{RequestHead, ReadsRequest}
 use Rattle.httparse.specs.Spans.{name_and_value}
 use Rattle.http_talk.specs.declared.target.Target.{Target}
@@ -50,7 +51,7 @@ is_number text = not (length text == 0) && list_all is_ascii_digit text
 
 -- a body's length, which is at most 16,777,216 bytes
 abbrev pub limited : ℕ → Result ℕ Refusal
-limited size = if nat_le size 16777216 then Ok size else Err refusal.TooLarge
+limited size = if nat_le size body_limit then Ok size else Err refusal.TooLarge
 
 -- the length that the values give: each is the same text of digits
 abbrev pub length_said : List (List ℕ) → Result ℕ Refusal

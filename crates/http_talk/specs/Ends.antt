@@ -16,7 +16,7 @@ abbrev pub skip_empty : List ℕ → List ℕ
 skip_empty [] = []
 skip_empty (byte ∷ bytes) = if begins_empty (byte ∷ bytes) then skip_empty bytes else byte ∷ bytes
 
--- bytes, read from the last one back, that end with an empty line behind another line
+-- bytes, read from the last one back, that end with an empty line after another line
 abbrev pub is_end : List ℕ → Bool
 is_end [] = false
 is_end (byte ∷ bytes) = byte == 10 && begins_empty bytes

@@ -6,21 +6,21 @@ use Rattle.http_talk.specs.declared.place.Scan.{Scan}
 use Rattle.http_talk.specs.declared.place.Scan.TheVariants.{Open, Ended}
 use Rattle.http_talk.specs.Ends.{skip_empty, ends_head}
 
--- the place behind a CR, before which stand these bytes, read from the last one back
+-- the place after a CR, before which stand these bytes, read from the last one back
 abbrev pub return_place : List ℕ → Place
 return_place [] = BlankReturn
 return_place (byte ∷ bytes) = if byte == 10 then StartReturn else Inside
 
--- the place behind these bytes, read from the last one back
+-- the place after these bytes, read from the last one back
 abbrev pub place_behind : List ℕ → Place
 place_behind [] = Blank
 place_behind (byte ∷ bytes) = if byte == 10 then Start else (if byte == 13 then return_place bytes else Inside)
 
--- the place behind all bytes so far: empty lines at the front say nothing
+-- the place after all bytes so far: empty lines at the front say nothing
 abbrev pub place_of : List ℕ → Place
 place_of bytes = place_behind (reverse (skip_empty bytes))
 
--- the place behind LF, where the head goes on
+-- the place after LF, where the head goes on
 abbrev pub after_feed : Place → Option Place
 after_feed Blank = Some Blank
 after_feed BlankReturn = Some Blank
@@ -28,7 +28,7 @@ after_feed Inside = Some Start
 after_feed Start = None
 after_feed StartReturn = None
 
--- the place behind CR
+-- the place after CR
 abbrev pub after_return : Place → Place
 after_return Blank = BlankReturn
 after_return BlankReturn = Inside
@@ -36,18 +36,18 @@ after_return Inside = Inside
 after_return Start = StartReturn
 after_return StartReturn = Inside
 
--- the place behind a byte, where the head goes on
+-- the place after a byte, where the head goes on
 abbrev pub after : Place → ℕ → Option Place
 after place byte =
     if byte == 10 then after_feed place else (if byte == 13 then Some (after_return place) else Some Inside)
 
--- what bytes come to behind a place and so many bytes
+-- what bytes come to after a place and so many bytes
 abbrev pub scanned : Place → ℕ → List ℕ → Scan
 scanned place count [] = Open place
 scanned place count (byte ∷ bytes) =
     elim (after place byte) as (λ _. Scan) [ None ↦ Ended (count + 1) | Some next ↦ scanned next (count + 1) bytes ]
 
--- what that means: no front of the bytes, behind those before, ends a head but the one that is told
+-- what that means: no front of the bytes, after those before, ends a head but the one that is told
 abbrev pub ScanMeans : List ℕ → ℕ → List ℕ → Scan → Type 0
 ScanMeans before count bytes (Open place) =
     ((front : ℕ) → ends_head (before ++ take front bytes) ≡ false) × (place_of (before ++ bytes) ≡ place)

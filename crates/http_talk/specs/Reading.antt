@@ -10,13 +10,13 @@ use Rattle.http_talk.specs.Ends.{IsOpen}
 use Rattle.http_talk.specs.Places.{place_of}
 use Rattle.http_talk.specs.Request.{IsHead, IsRefused}
 
--- the bytes held are no whole head and may become one, the place is the one behind them, and a whole head has room
+-- the bytes held are no whole head and may become one, the place is the one after them, and a whole head has room
 pub record IsReader (held : List ℕ) (room : ℕ) (place : Place) : Type 0 where
   pub opens : IsOpen held
   pub place_is : place_of held ≡ place
   pub room_is : 16384 ≤ room
 
--- the answer to a piece behind the bytes held: `More` exactly where no head ends in fewer than 16,384 bytes, else what
+-- the answer to a piece after the bytes held: `More` exactly where no head ends in fewer than 16,384 bytes, else what
 -- each input has that begins with them
 abbrev pub Feeds : List ℕ → List ℕ → Fed → Type 0
 Feeds held piece More = IsOpen (held ++ piece)
@@ -30,7 +30,7 @@ held_after held piece More = held ++ piece
 held_after held piece (Whole used head) = []
 held_after held piece (Refused why) = []
 
--- the answer where the head ends behind so many bytes of the piece
+-- the answer where the head ends after so many bytes of the piece
 abbrev pub fed_of : ℕ → Result Head Refusal → Fed
 fed_of used (Ok head) = Whole used head
 fed_of used (Err why) = Refused why

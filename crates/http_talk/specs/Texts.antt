@@ -1,4 +1,4 @@
--- The texts of refusals: the status, the refusal's name, and its arguments, each behind a space, numbers in decimal.
+-- The texts of refusals: the status, the refusal's name, and its arguments, each after a space, numbers in decimal.
 use Rattle.std.specs.Prelude.{ℕ, List, [], ◌∷◌, ◌++◌, codes, decimal}
 use Rattle.gw_base.specs.Member.{member_name}
 use Rattle.gw_base.specs.Required.{required_name}

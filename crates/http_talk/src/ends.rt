@@ -54,7 +54,7 @@ fn ends_feed(bytes: &[u8]) -> bool
     }
 }
 
-// Whether LF stands at the end, or CR behind LF.
+// Whether LF stands at the end, or CR after LF.
 fn ends_line(bytes: &[u8]) -> bool
     ensures { result ≡ ends.begins_empty (reverse bytes.now) }
 {
@@ -64,7 +64,7 @@ fn ends_line(bytes: &[u8]) -> bool
     }
 }
 
-// Whether an empty line stands at the end, behind another line.
+// Whether an empty line stands at the end, after another line.
 fn is_end(bytes: &[u8]) -> bool
     ensures { result ≡ ends.is_end (reverse bytes.now) }
 {

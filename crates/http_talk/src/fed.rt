@@ -7,7 +7,7 @@ use crate::target::Head;
 pub enum Fed {
     /// The head isn't whole yet.
     More,
-    /// The head ends behind `used` bytes of the piece. The others begin the body.
+    /// The head ends after `used` bytes of the piece. The others begin the body.
     Whole { used: usize, head: Head },
     /// The request is refused.
     Refused(Refusal),

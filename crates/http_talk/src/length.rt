@@ -4,14 +4,13 @@ ghost use Rattle.std.specs.Char.{is_ascii_digit, digit_value};
 ghost use Rattle.std.specs.List.{list_all, list_any};
 ghost use Rattle.std.specs.Str.{bytes_eq};
 ghost use Rattle.std.specs.Str.Parse.{digits_value};
+ghost use Rattle.gw_base.specs.Limits.{body_limit};
 ghost use Rattle.httparse.specs.Spans.{IsHeaderWithin, header_bytes};
 ghost use Rattle.http_talk.specs.Asked as asked;
 
 use crate::refusal::Refusal;
+use gw_base::BODY_LIMIT;
 use httparse::spans::HeaderSpan;
-
-/// The most bytes that a body may have.
-const BODY_LIMIT: u64 = 16_777_216;
 
 // The header lines that say how long the body is.
 const CONTENT_LENGTH: &[u8] = b"content-length";
@@ -70,9 +69,9 @@ fn is_number(text: &[u8]) -> bool
     !text.is_empty() && are_digits(text)
 }
 
-// A number with a digit behind it.
+// A number with a digit after it.
 fn with_digit(size: u64, digit: u8) -> u64
-    requires small { size ≤ 16777216 }
+    requires small { size ≤ body_limit }
     requires digit { is_ascii_digit digit ≡ true }
     ensures { result ≡ size * 10 + digit_value digit }
 {

@@ -7,15 +7,15 @@ ghost use Rattle.http_talk.specs.Places as places;
 /// Where the bytes so far end, which are no whole head.
 #[derive(Clone, Copy, Debug, PartialEq, Eq)]
 pub(crate) enum Place {
-    /// Behind empty lines alone, or before any byte.
+    /// After empty lines alone, or before any byte.
     Blank,
-    /// There behind a CR.
+    /// There after a CR.
     BlankReturn,
     /// Inside a line.
     Inside,
-    /// At the start of a line behind others.
+    /// At the start of a line after others.
     Start,
-    /// There behind a CR.
+    /// There after a CR.
     StartReturn,
 }
 
@@ -24,11 +24,11 @@ pub(crate) enum Place {
 pub(crate) enum Scan {
     /// The head goes on.
     Open(Place),
-    /// The head ends behind so many of the bytes.
+    /// The head ends after so many of the bytes.
     Ended(usize),
 }
 
-// The place behind LF; there is none where the head ends.
+// The place after LF; there is none where the head ends.
 fn after_feed(place: Place) -> Option<Place>
     ensures { result ≡ places.after_feed place }
 {
@@ -39,7 +39,7 @@ fn after_feed(place: Place) -> Option<Place>
     }
 }
 
-// The place behind CR.
+// The place after CR.
 fn after_return(place: Place) -> Place
     ensures { result ≡ places.after_return place }
 {
@@ -50,7 +50,7 @@ fn after_return(place: Place) -> Place
     }
 }
 
-// The place behind a byte; there is none where the head ends.
+// The place after a byte; there is none where the head ends.
 fn after(place: Place, byte: u8) -> Option<Place>
     ensures { result ≡ places.after place byte }
 {
@@ -61,7 +61,7 @@ fn after(place: Place, byte: u8) -> Option<Place>
     }
 }
 
-// What the bytes behind a place come to. Each is looked at once, up to the head's end.
+// What the bytes after a place come to. Each is looked at once, up to the head's end.
 fn moved(place: Place, bytes: &[u8]) -> Scan
     ensures { result ≡ places.scanned place 0 bytes.now }
 {

@@ -67,7 +67,7 @@ fn ended(held: &mut Vec<u8>, front: &[u8]) -> Result<Head, Refusal>
     answer
 }
 
-// The answer where the head ends behind so many bytes of a piece.
+// The answer where the head ends after so many bytes of a piece.
 fn fed_of(used: usize, answer: Result<Head, Refusal>) -> Fed
     ensures { result ≡ reading.fed_of used answer }
 {

@@ -12,7 +12,7 @@ use std::marker::Model;
 // Room for the longest text of a body's fault: a name, a number of 64 bits and a field's name.
 const FAULT_ROOM: usize = 96;
 
-// Room for that, for the status before it and for the LF behind it.
+// Room for that, for the status before it and for the LF after it.
 const TEXT_ROOM: usize = 112;
 
 /// The text of a body's fault. A contract sees its bytes.
@@ -39,7 +39,7 @@ impl BodyFaultText {
     }
 }
 
-/// The text of a refusal, with the LF behind it. A contract sees its bytes.
+/// The text of a refusal, with the LF after it. A contract sees its bytes.
 #[derive(Debug, Drop)]
 pub struct RefusalText {
     text: ArrayString<TEXT_ROOM>,
@@ -86,7 +86,7 @@ fn named(name: &str) -> BodyFaultText
     BodyFaultText { text }
 }
 
-// A name with a member behind it.
+// A name with a member after it.
 fn of_member(name: &str, member: Member) -> BodyFaultText
     requires { length name.now ≤ 16 }
     ensures { result ≡ name.now ++ member_name member }
@@ -97,7 +97,7 @@ fn of_member(name: &str, member: Member) -> BodyFaultText
     BodyFaultText { text }
 }
 
-// A name with a number behind it.
+// A name with a number after it.
 fn of_number(name: &str, number: u64) -> BodyFaultText
     requires { length name.now ≤ 16 }
     ensures { result ≡ name.now ++ decimal number }
@@ -109,7 +109,7 @@ fn of_number(name: &str, number: u64) -> BodyFaultText
     BodyFaultText { text }
 }
 
-// A name with a number and a further name behind it.
+// A name with a number and a further name after it.
 fn of_place(name: &str, number: u64, what: &str) -> BodyFaultText
     requires name { length name.now ≤ 16 }
     requires what { length what.now ≤ 32 }
@@ -124,7 +124,7 @@ fn of_place(name: &str, number: u64, what: &str) -> BodyFaultText
     BodyFaultText { text }
 }
 
-/// The text of a body's fault: its name, then its arguments, each behind a space, numbers in decimal. Takes no memory.
+/// The text of a body's fault: its name, then its arguments, each after a space, numbers in decimal. Takes no memory.
 pub fn body_fault_text(fault: &BodyFault) -> BodyFaultText
     ensures { result ≡ texts.fault_text fault.now }
 {

@@ -1,5 +1,5 @@
 -- The texts of the faults for which an item, an update or a situation is set aside: the fault's name, then its
--- arguments in order, each behind a space.
+-- arguments in order, each after a space.
 use Rattle.std.specs.Prelude.{ℕ, List, ◌++◌, codes, decimal}
 use Rattle.std.specs.Fmt.{signed_decimal}
 use Rattle.gw_base.specs.Member.{member_name}

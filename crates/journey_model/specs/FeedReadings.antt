@@ -137,7 +137,7 @@ last_reading trip day [] = None
 last_reading trip day (one ∷ others) =
     option_or (last_reading trip day others) (if is_of trip day one then Some one.reading else None)
 
--- of the readings of one journey the last one: behind it there is none of its trip on its day
+-- of the readings of one journey the last one: after it there is none of its trip on its day
 abbrev pub is_last : DatedReading → List DatedReading → Bool
 is_last one others = is_none (last_reading one.trip.0 one.day others)
 

@@ -1,7 +1,7 @@
-pub mod Chains
 pub mod Dated
 pub mod FaultTexts
 pub mod FeedReadings
+pub mod Ids
 pub mod Matching
 pub mod Propagation
 pub mod Readings
@@ -9,5 +9,6 @@ pub mod Records
 pub mod Runs
 pub mod Schedules
 pub mod Situations
+pub mod StoredSchedules
 pub mod Times
 pub mod Updates

@@ -8,7 +8,7 @@ use Rattle.journey_model.specs.declared.matching.NamedStop.TheVariants.{Missing,
 use Rattle.journey_model.specs.declared.matching.MatchFault.{MatchFault}
 use Rattle.journey_model.specs.declared.matching.MatchFault.TheVariants.{UnknownStop, StopMismatch, OutOfOrder}
 
--- the place from which on a stop lies behind the one before, if there was one
+-- the place from which on a stop lies after the one before, if there was one
 abbrev pub place_behind : Option ℕ → ℕ
 place_behind None = 0
 place_behind (Some place) = place + 1
@@ -33,8 +33,8 @@ abbrev pub fits_order : ℕ → ℕ → ℕ → List StopRow → Bool
 fits_order stop from order stops =
     nat_le 1 order && (nat_le from (order - 1) && stands_at (is_of_stop stop) (order - 1) stops)
 
--- the place of a call behind the one before (SIRI 2.0, EstimatedCall: StopPointRef, Order): by its order where the
--- stop of that order is its stop and lies behind, else the first place of its stop behind
+-- the place of a call after the one before (SIRI 2.0, EstimatedCall: StopPointRef, Order): by its order where the
+-- stop of that order is its stop and lies after, else the first place of its stop after
 abbrev pub call_place : List StopRow → Option ℕ → ℕ → Option ℕ → Option ℕ
 call_place stops after stop None = first_place stop (place_behind after) stops
 call_place stops after stop (Some order) =
@@ -64,7 +64,7 @@ place_by_stop stops from Unknown = Err UnknownStop
 place_by_stop stops from (Known stop) =
     if list_any (is_of_stop stop.0) stops then ok_or (first_place stop.0 from stops) OutOfOrder else Err UnknownStop
 
--- the place of an update behind the one before (GTFS Realtime reference, StopTimeUpdate: stop_sequence, stop_id), or
+-- the place of an update after the one before (GTFS Realtime reference, StopTimeUpdate: stop_sequence, stop_id), or
 -- why it has none
 abbrev pub update_place : List StopRow → Option ℕ → Option ℕ → NamedStop → Result ℕ MatchFault
 update_place stops after None named = place_by_stop stops (place_behind after) named

@@ -1,5 +1,5 @@
 -- What a list of updates says of each stop (GTFS Realtime reference, StopTimeUpdate: a delay is propagated to the stops
--- behind; SKIPPED; NO_DATA).
+-- after; SKIPPED; NO_DATA).
 use Rattle.std.specs.Prelude.{◌==◌, ◌&&◌, ℕ, ℤ, ◌+ℤ◌, ◌-ℤ◌, nat_le, Bool, not, List, [], ◌∷◌, length, map, Option, Some, None, if◌then◌else◌}
 use Rattle.std.specs.List.{list_any, range_with_len, zip}
 use Rattle.gw_base.specs.declared.messages.StopUpdate.{StopUpdate}
@@ -40,8 +40,8 @@ abbrev pub carried : ℤ × ℤ → ℤ × ℤ → Option (ℤ × ℤ) → StopR
 carried planned before None = Absent
 carried planned before (Some both) = later_by planned (both.1 -ℤ before.1)
 
--- what the update at a place supplies to a stop at or behind it: nothing for NO_DATA; its own times at its place;
--- behind it the planned times and the delay of its departure
+-- what the update at a place supplies to a stop at or after it: nothing for NO_DATA; its own times at its place;
+-- after it the planned times and the delay of its departure
 abbrev pub supplied : Run → ℕ → Option (ℕ × StopUpdate) → StopReading
 supplied run place None = Absent
 supplied run place (Some one) =

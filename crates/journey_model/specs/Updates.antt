@@ -5,7 +5,7 @@ use Rattle.std.specs.Ordering.{int_eq}
 use Rattle.std.specs.Str.{bytes_eq}
 use Rattle.gw_base.specs.declared.messages.Event.{Event}
 use Rattle.gw_base.specs.declared.messages.StopUpdate.{StopUpdate}
-use Rattle.journey_model.specs.Chains.{◌>>=◌}
+use Rattle.gw_base.specs.Chains.{◌>>=◌}
 use Rattle.journey_model.specs.Matching.{update_place}
 use Rattle.journey_model.specs.Runs.{Run, planned_at}
 use Rattle.journey_model.specs.Times.{both_times, delay_fault}
@@ -84,14 +84,14 @@ abbrev pub place_timed : Run → ℕ → StopUpdate → Result ℕ MatchFault �
 place_timed run number update (Err fault) = Err (match_fault number fault)
 place_timed run number update (Ok place) = place_unless (times_fault number (planned_at run place) update) place
 
--- the place of the update of that number behind the one before, or its first fault
+-- the place of the update of that number after the one before, or its first fault
 abbrev pub place_of : Run → ℕ → Option ℕ → StopUpdate → Result ℕ Fault
 place_of run number after update =
     if is_scheduled update || (is_skipped update || is_no_data update)
     then place_timed run number update (update_place run.stops after update.sequence (named_stop run.ids update))
     else Err (OtherRelation update.relation)
 
--- the places of updates numbered from that number on, behind the place before, or the fault of the first that has one
+-- the places of updates numbered from that number on, after the place before, or the fault of the first that has one
 abbrev pub places_from : Run → ℕ → Option ℕ → List StopUpdate → Result (List ℕ) Fault
 places_from run number after [] = Ok []
 places_from run number after (update ∷ updates) = do

@@ -6,11 +6,12 @@ ghost use Rattle.stop_schedule.specs.Limits.{stop_limit};
 ghost use Rattle.stop_schedule.specs.Stops.{are_rising, are_timed};
 
 use service_day::{Day, Window, Zone};
+use std::marker::Model;
 use stop_schedule::{StopRow, Timetable, TripNo};
 
-/// What journeys are read over: a timetable, the zone of its times, and a window. That the window is one of the zone
-/// is kept by whoever lends the three.
-#[derive(Clone, Copy)]
+/// What journeys are read over: a timetable, the zone of its times, and a window. A contract sees the `Schedule` of the
+/// three. That the window is one of the zone is kept by whoever lends them.
+#[derive(Drop)]
 pub struct Context<'a> {
     /// What the GTFS Schedule folder says.
     pub table: &'a Timetable,
@@ -18,6 +19,17 @@ pub struct Context<'a> {
     pub zone: &'a Zone,
     /// The service days, with their starts in the zone.
     pub window: &'a Window,
+}
+
+impl<'a> Model for Context<'a> {
+    ghost use Rattle.journey_model.specs.Schedules.{Schedule, schedule_from};
+    ghost use Rattle.journey_model.specs.StoredSchedules.{schedule_code};
+
+    ghost Value = { Schedule };
+
+    ghost coded = { schedule_code };
+
+    ghost view = { λ lent. schedule_from lent.table.now lent.zone.now lent.window.now };
 }
 
 /// A trip on a day.
@@ -39,13 +51,13 @@ pub struct DatedTrip<'a> {
 }
 
 impl<'a> Context<'a> {
-    ghost use Rattle.journey_model.specs.Schedules.{run_on, schedule_of};
+    ghost use Rattle.journey_model.specs.Schedules.{run_on};
     ghost use Rattle.journey_model.specs.Dated.{run_of};
 
     /// A trip on a day; None exactly where the day isn't in the window.
     pub fn dated(&self, trip: TripNo, day: Day) -> Option<DatedTrip<'a>>
-        requires { trip.0 < length self.now.table.now.trips }
-        ensures value { option_map (run_of self.now.table.now.stops) result ≡ run_on (schedule_of self.now) trip.0 day }
+        requires { trip.0 < length self.now.table.trips }
+        ensures value { option_map (run_of self.now.table.stops) result ≡ run_on self.now trip.0 day }
         ensures names { IfSome result (λ dated. (dated.trip ≡ trip) × (dated.day ≡ day)) }
     {
         match self.window.start_of(day) {

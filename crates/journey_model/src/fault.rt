@@ -24,7 +24,7 @@ pub enum Fault {
     NotRunning,
     /// The call or update of this number is of a stop that the trip doesn't have.
     UnknownStop(u64),
-    /// The call or update of this number is of no stop behind the one before.
+    /// The call or update of this number is of no stop after the one before.
     OutOfOrder(u64),
     /// The call or update of this number has a delay, in seconds, of over a week.
     DelayRange(u64, i128),
@@ -82,7 +82,7 @@ fn named(name: &str) -> FaultText
     FaultText { text }
 }
 
-// A name with a member behind it.
+// A name with a member after it.
 fn of_member(name: &str, member: Member) -> FaultText
     requires { length name.now ≤ 32 }
     ensures { result ≡ name.now ++ member_name member }
@@ -93,7 +93,7 @@ fn of_member(name: &str, member: Member) -> FaultText
     FaultText { text }
 }
 
-// A name with a number behind it.
+// A name with a number after it.
 fn of_number(name: &str, number: u64) -> FaultText
     requires { length name.now ≤ 32 }
     ensures { result ≡ name.now ++ decimal number }
@@ -105,7 +105,7 @@ fn of_number(name: &str, number: u64) -> FaultText
     FaultText { text }
 }
 
-// A name with a number behind it that may be negative.
+// A name with a number after it that may be negative.
 fn of_signed(name: &str, number: i32) -> FaultText
     requires { length name.now ≤ 32 }
     ensures { result ≡ name.now ++ signed_decimal number }
@@ -130,7 +130,7 @@ fn of_delay(number: u64, delay: i128) -> FaultText
     FaultText { text }
 }
 
-/// The text of a fault: its name, then its arguments, each behind a space, numbers in decimal.
+/// The text of a fault: its name, then its arguments, each after a space, numbers in decimal.
 pub fn fault_text(fault: &Fault) -> FaultText
     ensures { result ≡ texts.fault_text fault.now }
 {

@@ -24,11 +24,11 @@ pub enum MatchFault {
     UnknownStop,
     /// The stop of the sequence has another id.
     StopMismatch,
-    /// The stop isn't behind the one before.
+    /// The stop isn't after the one before.
     OutOfOrder,
 }
 
-// The place from which on a stop lies behind the one before.
+// The place from which on a stop lies after the one before.
 fn place_behind(after: Option<u32>) -> usize
     ensures { result ≡ spec.place_behind after }
 {
@@ -79,9 +79,9 @@ fn fits_order(stops: &[StopRow], from: usize, order: u64, stop: StopNo) -> bool
     1 <= order && from as u64 <= order - 1 && is_stop_at(stops, (order - 1) as usize, stop)
 }
 
-/// The place of the stop that a call is of, behind the one of the call before (SIRI 2.0, EstimatedCall with
-/// StopPointRef and Order): by its order, counted from 1, where the stop of that order is its stop and lies behind;
-/// else the first place of its stop behind. Places count from 0. None exactly where there is none.
+/// The place of the stop that a call is of, after the one of the call before (SIRI 2.0, EstimatedCall with
+/// StopPointRef and Order): by its order, counted from 1, where the stop of that order is its stop and lies after;
+/// else the first place of its stop after. Places count from 0. None exactly where there is none.
 pub fn match_call(
     dated: &DatedTrip<'_>,
     after: Option<u32>,
@@ -172,9 +172,9 @@ fn place_by_stop(stops: &[StopRow], from: usize, named: NamedStop) -> Result<usi
     }
 }
 
-/// The place of the stop that an update is of, behind the one of the update before (GTFS Realtime reference,
+/// The place of the stop that an update is of, after the one of the update before (GTFS Realtime reference,
 /// StopTimeUpdate with stop_sequence and stop_id): by its sequence, where the stop that it names agrees; without a
-/// sequence the first place of its stop behind. Places count from 0.
+/// sequence the first place of its stop after. Places count from 0.
 pub fn match_update(
     dated: &DatedTrip<'_>,
     after: Option<u32>,

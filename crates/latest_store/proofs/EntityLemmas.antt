@@ -6,14 +6,15 @@ use Rattle.std.specs.Prelude.{IfOk, slice_get}
 use Rattle.std.specs.List.{flat_map}
 use Rattle.gw_base.specs.declared.messages.Entity.{Entity}
 use Rattle.gw_base.specs.declared.messages.Feed.{Feed}
-use Rattle.feed_messages.specs.Tables.{MeansFeed, MeansEntity}
-use Rattle.feed_messages.specs.Written.{written}
-use Rattle.feed_messages.proofs.Building.{means_more}
+use Rattle.feed_reading.specs.Tables.{MeansFeed, MeansEntity}
+use Rattle.feed_writing.specs.Written.{written}
+use Rattle.feed_reading.proofs.Building.{means_more}
+use Rattle.journey_model.specs.Ids.{id_of}
 use Rattle.journey_model.specs.Records.{Recorded}
 use Rattle.journey_model.specs.Runs.{Run}
 use Rattle.journey_model.specs.Schedules.{Schedule, run_on}
 use Rattle.latest_store.specs.Entities as spec
-use Rattle.latest_store.specs.Entities.{id_of, is_silent, message, messages}
+use Rattle.latest_store.specs.Entities.{is_silent, message, messages}
 use Rattle.latest_store.specs.Reads.{with_messages}
 
 -- a record has no message where nothing is known, and else one

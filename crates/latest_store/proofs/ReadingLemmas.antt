@@ -8,6 +8,7 @@ use Rattle.gw_base.specs.declared.messages.Feed.{Feed}
 use Rattle.service_day.specs.DayTexts.{compact_text, day_of}
 use Rattle.gw_base.specs.Moments.{IsMoment}
 use Rattle.service_day.specs.declared.days.DayForm.TheVariants.{Compact}
+use Rattle.journey_model.specs.Ids.{id_of}
 use Rattle.journey_model.specs.FeedReadings.{entity_said, moment_in}
 use Rattle.journey_model.specs.Records.{Recorded}
 use Rattle.journey_model.specs.Runs.{Run}
@@ -18,7 +19,7 @@ use Rattle.journey_model.specs.declared.readings.JourneyReading.TheVariants.{Can
 use Rattle.journey_model.specs.declared.readings.StopReading.{StopReading}
 use Rattle.sparse_planner.specs.Means.{Says, SaysStops}
 use Rattle.sparse_planner.specs.Shortest.{shortest}
-use Rattle.latest_store.specs.Entities.{id_of, is_silent, message, messages}
+use Rattle.latest_store.specs.Entities.{is_silent, message, messages}
 use Rattle.latest_store.specs.Reads.{SaysItself, dated_reading}
 use Rattle.latest_store.proofs.EntityLemmas.{messages_none, messages_one}
 

@@ -1,11 +1,12 @@
 -- The entity of a record (GTFS Realtime reference, FeedEntity, TripUpdate, TripDescriptor).
-use Rattle.std.specs.Prelude.{ℕ, ℤ, pos, Bool, true, false, List, [], ◌∷◌, ◌++◌, codes, slice_index_or, unsigned_abs, Option, Some, None, if◌then◌else◌}
+use Rattle.std.specs.Prelude.{ℕ, ℤ, pos, Bool, true, false, List, [], ◌∷◌, ◌++◌, codes, unsigned_abs, Option, Some, None, if◌then◌else◌}
 use Rattle.std.specs.List.{flat_map, list_all}
 use Rattle.gw_base.specs.declared.messages.Entity.{Entity}
 use Rattle.gw_base.specs.declared.messages.TripDescriptor.{TripDescriptor}
 use Rattle.service_day.specs.DayTexts.{compact_text}
-use Rattle.feed_messages.specs.Written.{written}
+use Rattle.feed_writing.specs.Written.{written}
 use Rattle.sparse_planner.specs.Shortest.{shortest}
+use Rattle.journey_model.specs.Ids.{id_of}
 use Rattle.journey_model.specs.Records.{Recorded}
 use Rattle.journey_model.specs.Runs.{Run}
 use Rattle.journey_model.specs.Schedules.{Schedule, run_on}
@@ -13,10 +14,6 @@ use Rattle.journey_model.specs.declared.readings.JourneyReading.{JourneyReading}
 use Rattle.journey_model.specs.declared.readings.JourneyReading.TheVariants.{Cancelled, Stops}
 use Rattle.journey_model.specs.declared.readings.StopReading.{StopReading}
 use Rattle.journey_model.specs.declared.readings.StopReading.TheVariants.{Absent, Skipped, Timed}
-
--- the id of a trip
-abbrev pub id_of : List (List ℕ) → ℕ → List ℕ
-id_of trips trip = slice_index_or trips trip []
 
 -- the id of a journey's entity: the service day and the trip, joined by a colon
 abbrev pub journey_id : List ℕ → List ℕ → List ℕ

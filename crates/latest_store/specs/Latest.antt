@@ -7,7 +7,7 @@ use Rattle.std.specs.Str.{bytes_eq}
 use Rattle.journey_model.specs.Records.{Recorded}
 use Rattle.journey_model.specs.declared.situation.Situation.{Situation}
 
--- of those that pass a test one counts: none that stands before it is later, and each that stands behind it is earlier
+-- of those that pass a test one counts: none that stands before it is later, and each that stands after it is earlier
 pub record IsLatestOf {A : Type 0} (is_its : A → Bool) (is_later : A → A → Bool) (all : List A) (one : A) : Type 0 where
   pub before : List A
   pub behind : List A

@@ -19,7 +19,7 @@ SaysItself schedule one =
     (feed : Feed) → map (entity_said schedule feed) (messages schedule one)
     ≡ map (λ entity. Some (Ok (dated_reading one))) (messages schedule one)
 
--- a feed with these entities behind its own
+-- a feed with these entities after its own
 abbrev pub with_messages : Feed → List Entity → Feed
 with_messages feed entities =
     record {

@@ -3,11 +3,10 @@ ghost use Rattle.std.specs.Prelude.{◌≡◌, ◌<◌, ◌++◌, ℕ, Some, Lis
 ghost use Rattle.gw_base.specs.declared.messages.Feed.{Feed};
 ghost use Rattle.service_day.specs.DayTexts.{compact_text, day_of};
 ghost use Rattle.service_day.specs.declared.days.DayForm.TheVariants.{Compact};
-ghost use Rattle.feed_messages.specs.Tables.{MeansFeed};
+ghost use Rattle.feed_reading.specs.Tables.{MeansFeed};
 ghost use Rattle.journey_model.specs.Readings.{fits_trip};
 ghost use Rattle.journey_model.specs.Records.{recorded};
-ghost use Rattle.journey_model.specs.Schedules.{IsServable, run_on, schedule_of};
-ghost use Rattle.stop_schedule.specs.Seen.{seen};
+ghost use Rattle.journey_model.specs.Schedules.{IsServable, run_on};
 ghost use Rattle.journey_model.specs.Dated.{run_of};
 ghost use Rattle.sparse_planner.specs.Means.{Says};
 ghost use Rattle.sparse_planner.specs.Shortest.{shortest};
@@ -63,15 +62,15 @@ fn entity_of(
     rec: &JourneyRecord,
 ) -> Result<Bytes, AllocError>
     requires fits { fits_trip dated.now.start dated.now.stops.now rec.now.reading ≡ true }
-    requires trip { rec.now.trip.0 < length context.now.table.now.trips }
-    requires on_day { run_on (schedule_of context.now) rec.now.trip.0 rec.now.day
-        ≡ Some (run_of context.now.table.now.stops dated.now) }
-    requires runs { (seen context.now.table.now).runs rec.now.trip.0 rec.now.day ≡ true }
-    ensures bytes { IfOk result (λ bytes. bytes ≡ spec.entity (schedule_of context.now) (recorded rec.now)) }
+    requires trip { rec.now.trip.0 < length context.now.table.trips }
+    requires on_day { run_on context.now rec.now.trip.0 rec.now.day
+        ≡ Some (run_of context.now.table.stops dated.now) }
+    requires runs { context.now.table.runs rec.now.trip.0 rec.now.day ≡ true }
+    ensures bytes { IfOk result (λ bytes. bytes ≡ spec.entity context.now (recorded rec.now)) }
     ensures means { IfOk result (λ bytes. (before : List ℕ) (feed : Feed) → MeansFeed before feed
         → MeansFeed (before ++ bytes) (with_messages feed
-        (spec.messages (schedule_of context.now) (recorded rec.now)))) }
-    ensures says { IfOk result (λ _. SaysItself (schedule_of context.now) (recorded rec.now)) }
+        (spec.messages context.now (recorded rec.now)))) }
+    ensures says { IfOk result (λ _. SaysItself context.now (recorded rec.now)) }
 {
     if is_silent(&rec.reading) {
         return Ok(Bytes::new(alloc));
@@ -97,12 +96,12 @@ pub fn record_entity(
     context: &Context<'_>,
     rec: &JourneyRecord,
 ) -> Result<Bytes, AllocError>
-    requires { IsServable (schedule_of context.now) rec.now.trip.0 rec.now.day rec.now.reading }
-    ensures bytes { IfOk result (λ bytes. bytes ≡ spec.entity (schedule_of context.now) (recorded rec.now)) }
+    requires { IsServable context.now rec.now.trip.0 rec.now.day rec.now.reading }
+    ensures bytes { IfOk result (λ bytes. bytes ≡ spec.entity context.now (recorded rec.now)) }
     ensures means { IfOk result (λ bytes. (before : List ℕ) (feed : Feed) → MeansFeed before feed
         → MeansFeed (before ++ bytes) (with_messages feed
-        (spec.messages (schedule_of context.now) (recorded rec.now)))) }
-    ensures says { IfOk result (λ _. SaysItself (schedule_of context.now) (recorded rec.now)) }
+        (spec.messages context.now (recorded rec.now)))) }
+    ensures says { IfOk result (λ _. SaysItself context.now (recorded rec.now)) }
 {
     let Some(dated) = context.dated(rec.trip, rec.day) else {
         unreachable!();
@@ -116,13 +115,13 @@ pub fn prepare_record(
     context: &Context<'_>,
     rec: JourneyRecord,
 ) -> Result<Prepared, AllocError>
-    requires { IsServable (schedule_of context.now) rec.trip.0 rec.day rec.reading }
+    requires { IsServable context.now rec.trip.0 rec.day rec.reading }
     ensures rec { IfOk result (λ made. made.rec ≡ rec) }
-    ensures bytes { IfOk result (λ made. made.entity ≡ spec.entity (schedule_of context.now) (recorded rec)) }
+    ensures bytes { IfOk result (λ made. made.entity ≡ spec.entity context.now (recorded rec)) }
     ensures means { IfOk result (λ made. (before : List ℕ) (feed : Feed) → MeansFeed before feed
         → MeansFeed (before ++ made.entity) (with_messages feed
-        (spec.messages (schedule_of context.now) (recorded rec)))) }
-    ensures says { IfOk result (λ _. SaysItself (schedule_of context.now) (recorded rec)) }
+        (spec.messages context.now (recorded rec)))) }
+    ensures says { IfOk result (λ _. SaysItself context.now (recorded rec)) }
 {
     let entity = record_entity(alloc, context, &rec)?;
     Ok(Prepared { rec, entity })

@@ -142,7 +142,7 @@ of-trip trip day one e = eqb-true one.trip.0 trip (and-left (one.trip.0 == trip)
 of-day : (trip : ℕ) (day : ℤ) (one : DatedReading) → is_of trip day one ≡ true → one.day ≡ day
 of-day trip day one e = (signed_Decides one.day day).0 (and-right (one.trip.0 == trip) (int_eq one.day day) e)
 
--- so readings of one journey have the same behind them
+-- so readings of one journey have the same after them
 pub same-behind : (trip : ℕ) (day : ℤ) (one : DatedReading) (others : List DatedReading) → is_of trip day one ≡ true
     → last_reading trip day others ≡ last_reading one.trip.0 one.day others
 same-behind trip day one others e = rw (of-trip trip day one e, of-day trip day one e) refl

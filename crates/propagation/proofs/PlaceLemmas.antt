@@ -7,7 +7,7 @@ use Rattle.std.specs.List.{list_any, zip}
 use Rattle.std.specs.Option.{ok_or}
 use Rattle.std.specs.Ordering.{int_eq}
 use Rattle.gw_base.specs.declared.messages.StopUpdate.{StopUpdate}
-use Rattle.journey_model.specs.Chains.{◌>>=◌}
+use Rattle.gw_base.specs.Chains.{◌>>=◌}
 use Rattle.journey_model.specs.Matching.{first_place, has_sequence, in_order, is_of_stop, place_behind, place_by_sequence, place_by_stop, stands_at, agrees, update_place}
 use Rattle.journey_model.specs.Runs.{Run, planned_at}
 use Rattle.journey_model.specs.Times.{delay_fault}
@@ -94,7 +94,7 @@ pub is_fault : (run : Run) (update : StopUpdate) (said : Result ℕ Fault) (faul
 is_fault run update (Ok place) fault e = cc
 is_fault run update (Err other) fault e = cc
 
--- places behind others
+-- places after others
 abbrev pub prefixed : List ℕ → Result (List ℕ) Fault → Result (List ℕ) Fault
 prefixed front (Ok others) = Ok (front ++ others)
 prefixed front (Err fault) = Err fault
@@ -190,7 +190,7 @@ placed_all-done run updates number after all h e =
     let none : drop number updates ≡ [] = drop_all number updates (omega arith) in
     rw (h.so_far, none, append-nil (places_of all)) (ap (λ l. Ok l) (sym h.are_at))
 
--- the place of an update lies behind the one before
+-- the place of an update lies after the one before
 ordered : (from place found : ℕ) → in_order from place ≡ Ok found → nat_le from found ≡ true
 ordered from place found e = by (nat_le from place) refl e
   where
@@ -234,7 +234,7 @@ place-behind stops after None named found e = stop-behind stops (place_behind af
 place-behind stops after (Some sequence) named found e =
     sequence-behind stops (place_behind after) named (position (has_sequence sequence) stops) found e
 
--- an update at its place has no fault there, and lies behind the one before
+-- an update at its place has no fault there, and lies after the one before
 pub record Fits (run : Run) (number : ℕ) (after : Option ℕ) (update : StopUpdate) (place : ℕ) : Type 0 where
   pub read : is_read update ≡ true
   pub behind : nat_le (place_behind after) place ≡ true

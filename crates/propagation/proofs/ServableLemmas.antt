@@ -18,7 +18,7 @@ use Rattle.gw_base.specs.declared.messages.TripUpdate.{TripUpdate}
 use Rattle.service_day.specs.Windows.{start_in}
 use Rattle.stop_schedule.specs.Planned.{planned}
 use Rattle.stop_schedule.specs.declared.stop_times.StopRow.{StopRow}
-use Rattle.journey_model.specs.Chains.{◌>>=◌}
+use Rattle.gw_base.specs.Chains.{◌>>=◌}
 use Rattle.journey_model.specs.FeedReadings as feeds
 use Rattle.journey_model.specs.FeedReadings.{day_named, entity_said, given_all, is_last, last_of_each, reading_said, readings, recorded_in, said_of_day, said_of_trip, said_on, stops_said, trip_named, update_said, with_reading}
 use Rattle.journey_model.specs.Propagation.{carried, greater, later_by, prop, propagated, skips_at, supplied, supplier, supplies, timed}
@@ -233,11 +233,13 @@ reading-servable : (schedule : Schedule) (trip : ℕ) (day start : ℤ) (recorde
 reading-servable schedule trip day start recorded update one known runs in_window (Ok found) is same =
     let made : record { trip = record { 0 = trip }; day = day; recorded = recorded; reading = found } ≡ one = cc in
     rw (← made) (record {
-      trip_in = known;
+      fits_schedule = record {
+        trip_in = known;
+        run = run_from schedule.table trip start;
+        on_day = ap (option_map (run_from schedule.table trip)) in_window;
+        fits = reading-fits (run_from schedule.table trip start) update found is;
+      };
       runs = runs;
-      run = run_from schedule.table trip start;
-      on_day = ap (option_map (run_from schedule.table trip)) in_window;
-      fits = reading-fits (run_from schedule.table trip start) update found is;
     })
 reading-servable schedule trip day start recorded update one known runs in_window (Err fault) is same = cc
 

@@ -92,7 +92,7 @@ rises from (one ∷ others) e = (
   rises (one.0 + 1) others (and-right (nat_le from one.0) (are_rising_from (one.0 + 1) others) e),
 )
 
--- updates behind a place neither skip nor supply it
+-- updates after a place neither skip nor supply it
 rising-lower : (from low : ℕ) (updates : List (ℕ × StopUpdate)) → nat_le low from ≡ true
     → are_rising_from from updates ≡ true → are_rising_from low updates ≡ true
 rising-lower from low [] le e = refl
@@ -145,7 +145,7 @@ last_supply-push [] one = sym (option_or-none (unless_skipped one))
 last_supply-push (x ∷ xs) one =
     rw (last_supply-push xs one) (option_or-assoc (unless_skipped one) (last_supply xs) (unless_skipped x))
 
--- how a stop behind the last update reads
+-- how a stop after the last update reads
 supplied-later : (run : Run) (place : ℕ) (before : List (ℕ × StopUpdate)) → all_before place before ≡ true
     → supplied run place (last_supply before) ≡ later (planned_at run place) (delay_of run (last_supply before))
 supplied-later run place [] e = refl
@@ -274,7 +274,7 @@ carried-behind run place update before = rw (last_supply-push before (place, upd
     skips true e = rw e refl
     skips false e = rw e (no_data (is_no_data update) refl (times (planned_at run place) update) refl)
 
--- how the stop at a place reads, and what is carried behind it
+-- how the stop at a place reads, and what is carried after it
 pub record Step (run : Run) (updates : List (ℕ × StopUpdate)) (place : ℕ) (delay : Option ℤ)
     (rest : List Placed) : Type 0 where
   pub reads : prop run updates place ≡ reading_at (planned_at run place) delay (first_at rest place)

@@ -3,7 +3,6 @@
 ghost use Rattle.std.specs.Prelude.{◌≡◌, ◌<◌, ◌<ℤ◌, negsuc, pos, None, length, option_map, IfSome};
 ghost use Rattle.std.specs.Option.{option_or};
 ghost use Rattle.journey_model.specs.FeedReadings as spec;
-ghost use Rattle.journey_model.specs.Schedules.{schedule_of};
 ghost use Rattle.service_day.specs.Utc.{moment_if};
 ghost use Rattle.propagation.specs.Folding.{bare_feed, is_dated};
 
@@ -53,8 +52,8 @@ pub(crate) fn recorded_in(timestamp: Option<u64>, update: &TripUpdate) -> Option
 /// The trip that an update names (GTFS Realtime reference, TripDescriptor: trip_id).
 pub(crate) fn trip_named(context: &Context<'_>, update: &TripUpdate) -> Option<TripNo>
     ensures named { option_map (λ trip. trip.0) result
-        ≡ spec.trip_named (schedule_of context.now) update.now }
-    ensures within { IfSome result (λ trip. trip.0 < length context.now.table.now.trips) }
+        ≡ spec.trip_named context.now update.now }
+    ensures within { IfSome result (λ trip. trip.0 < length context.now.table.trips) }
 {
     match filled_text(&update.trip.trip_id) {
         Some(id) => context.table.find_trip(id),
@@ -64,9 +63,9 @@ pub(crate) fn trip_named(context: &Context<'_>, update: &TripUpdate) -> Option<T
 
 // The day on which a trip runs: this one, else the one before.
 fn running_day(context: &Context<'_>, trip: TripNo, day: Day) -> Option<Day>
-    requires known { trip.0 < length context.now.table.now.trips }
+    requires known { trip.0 < length context.now.table.trips }
     requires late { negsuc 719161 <ℤ day }
-    ensures { result ≡ spec.running_day (schedule_of context.now) trip.0 day }
+    ensures { result ≡ spec.running_day context.now trip.0 day }
 {
     if context.table.runs(trip, day) {
         return Some(day);
@@ -79,8 +78,8 @@ fn running_day(context: &Context<'_>, trip: TripNo, day: Day) -> Option<Day>
 
 // The day of an update without a start_date, in a feed that was made at that moment.
 fn day_made(context: &Context<'_>, trip: TripNo, made: Option<Moment>) -> Option<Day>
-    requires { trip.0 < length context.now.table.now.trips }
-    ensures { result ≡ spec.day_by (schedule_of context.now) trip.0 made None }
+    requires { trip.0 < length context.now.table.trips }
+    ensures { result ≡ spec.day_by context.now trip.0 made None }
 {
     let Some(made) = made else {
         return None;
@@ -106,8 +105,8 @@ pub(crate) fn day_named(
     trip: TripNo,
     update: &TripUpdate,
 ) -> Option<Day>
-    requires { trip.0 < length context.now.table.now.trips }
-    ensures { result ≡ spec.day_named (schedule_of context.now) (bare_feed timestamp) trip.0 update.now }
+    requires { trip.0 < length context.now.table.trips }
+    ensures { result ≡ spec.day_named context.now (bare_feed timestamp) trip.0 update.now }
 {
     match filled_text(&update.trip.start_date) {
         Some(date) => read_day(date, DayForm::Compact),

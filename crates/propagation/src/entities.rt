@@ -2,7 +2,7 @@
 ghost use Rattle.std.specs.Prelude.{◌≡◌, ◌<◌, length, IfOk};
 ghost use Rattle.journey_model.specs.Dated.{run_of};
 ghost use Rattle.journey_model.specs.FeedReadings as spec;
-ghost use Rattle.journey_model.specs.Schedules.{run_on, schedule_of};
+ghost use Rattle.journey_model.specs.Schedules.{run_on};
 ghost use Rattle.propagation.specs.Answers.{Propagates};
 ghost use Rattle.propagation.specs.Folding.{bare_feed, entity_early, late_said, update_early};
 
@@ -25,7 +25,7 @@ fn read_dated(
     update: &TripUpdate,
     dated: &DatedTrip<'_>,
 ) -> Result<DatedReading, UpdateFault>
-    ensures { let run = run_of context.now.table.now.stops dated.now in
+    ensures { let run = run_of context.now.table.stops dated.now in
         let recorded = spec.recorded_in (bare_feed timestamp) update.now in
         let said = spec.reading_said run update.now in
         Propagates (spec.with_reading dated.now.trip.0 dated.now.day recorded said) result }
@@ -48,10 +48,9 @@ fn read_on(
     trip: TripNo,
     day: Day,
 ) -> Result<DatedReading, UpdateFault>
-    requires { trip.0 < length context.now.table.now.trips }
-    ensures { let schedule = schedule_of context.now in
-        let run = run_on schedule trip.0 day in
-        Propagates (spec.said_on schedule (bare_feed timestamp) update.now trip.0 day run) result }
+    requires { trip.0 < length context.now.table.trips }
+    ensures { let run = run_on context.now trip.0 day in
+        Propagates (spec.said_on context.now (bare_feed timestamp) update.now trip.0 day run) result }
 {
     let Some(dated) = context.dated(trip, day) else {
         return Err(UpdateFault::Fault(Fault::OutOfWindow));
@@ -70,9 +69,8 @@ fn read_trip(
     timestamp: Option<u64>,
     update: &TripUpdate,
 ) -> Result<DatedReading, UpdateFault>
-    ensures { let schedule = schedule_of context.now in
-        let trip = spec.trip_named schedule update.now in
-        Propagates (spec.said_of_trip schedule (bare_feed timestamp) update.now trip) result }
+    ensures { let trip = spec.trip_named context.now update.now in
+        Propagates (spec.said_of_trip context.now (bare_feed timestamp) update.now trip) result }
 {
     let Some(trip) = trip_named(context, update) else {
         return Err(UpdateFault::Fault(Fault::UnknownJourney));
@@ -90,7 +88,7 @@ fn read_update(
     timestamp: Option<u64>,
     update: &TripUpdate,
 ) -> Result<DatedReading, UpdateFault>
-    ensures { Propagates (spec.update_said (schedule_of context.now) (bare_feed timestamp) update.now) result }
+    ensures { Propagates (spec.update_said context.now (bare_feed timestamp) update.now) result }
 {
     match update.trip.relation {
         SCHEDULED | CANCELED => read_trip(alloc, context, timestamp, update),
@@ -105,8 +103,8 @@ fn said_of(
     timestamp: Option<u64>,
     update: &TripUpdate,
 ) -> Result<Result<DatedReading, Fault>, AllocError>
-    ensures { let schedule = schedule_of context.now in
-        IfOk result (λ said. said ≡ spec.update_said schedule (bare_feed timestamp) update.now) }
+    ensures { IfOk result (λ said. said
+        ≡ spec.update_said context.now (bare_feed timestamp) update.now) }
 {
     match read_update(alloc, context, timestamp, update) {
         Ok(reading) => Ok(Ok(reading)),
@@ -122,8 +120,8 @@ pub(crate) fn read_entity(
     timestamp: Option<u64>,
     entity: &Entity,
 ) -> Result<Option<Result<DatedReading, Fault>>, AllocError>
-    ensures { let schedule = schedule_of context.now in
-        IfOk result (λ said. said ≡ spec.entity_said schedule (bare_feed timestamp) entity.now) }
+    ensures { IfOk result (λ said. said
+        ≡ spec.entity_said context.now (bare_feed timestamp) entity.now) }
 {
     if entity.deleted {
         return Ok(None);
@@ -140,7 +138,7 @@ fn update_early(
     context: &Context<'_>,
     update: TripUpdate,
 ) -> Result<EntitySaid, AllocError>
-    ensures { IfOk result (λ said. said ≡ update_early (schedule_of context.now) update) }
+    ensures { IfOk result (λ said. said ≡ update_early context.now update) }
 {
     if !is_dated(&update) {
         return Ok(EntitySaid::Waits(Boxed::new(alloc, update)?));
@@ -157,7 +155,7 @@ pub(crate) fn read_early(
     context: &Context<'_>,
     entity: Entity,
 ) -> Result<Option<EntitySaid>, AllocError>
-    ensures { IfOk result (λ said. said ≡ entity_early (schedule_of context.now) entity) }
+    ensures { IfOk result (λ said. said ≡ entity_early context.now entity) }
 {
     let Entity {
         id: _,
@@ -178,8 +176,7 @@ pub(crate) fn read_late(
     timestamp: Option<u64>,
     said: EntitySaid,
 ) -> Result<Result<DatedReading, Fault>, AllocError>
-    ensures { let schedule = schedule_of context.now in
-        IfOk result (λ found. found ≡ late_said schedule (bare_feed timestamp) said) }
+    ensures { IfOk result (λ found. found ≡ late_said context.now (bare_feed timestamp) said) }
 {
     match said {
         EntitySaid::Given(reading) => Ok(Ok(DatedReading {

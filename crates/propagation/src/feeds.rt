@@ -3,7 +3,7 @@ ghost use Rattle.std.specs.Prelude.{◌≡◌, reverse, IfOk};
 ghost use Rattle.std.specs.List.Sorted.{IsPermutation, IsSorted};
 ghost use Rattle.gw_base.specs.declared.messages.Feed.{Feed};
 ghost use Rattle.journey_model.specs.FeedReadings as spec;
-ghost use Rattle.journey_model.specs.Schedules.{Schedule, schedule_of};
+ghost use Rattle.journey_model.specs.Schedules.{Schedule};
 ghost use Rattle.propagation.specs.Feeds.{IsReading, journey_cmp};
 ghost use Rattle.propagation.specs.SortedOut.{IsSortedOut};
 
@@ -34,7 +34,7 @@ pub struct SortedOut {
 
 // What the entities of a feed say, in order.
 fn sorted_out(alloc: Global, feed: &Feed, context: &Context<'_>) -> Result<SortedOut, AllocError>
-    ensures { IfOk result (IsSortedOut (spec.readings (schedule_of context.now) feed.now)) }
+    ensures { IfOk result (IsSortedOut (spec.readings context.now feed.now)) }
 {
     let mut given = List::new(alloc);
     let mut passed = 0;
@@ -115,7 +115,7 @@ pub fn readings_of(
     feed: &Feed,
     context: &Context<'_>,
 ) -> Result<FeedReading, AllocError>
-    ensures { IfOk result (IsReading (schedule_of context.now) feed.now) }
+    ensures { IfOk result (IsReading context.now feed.now) }
 {
     reading_of(alloc, sorted_out(alloc, feed, context)?)
 }

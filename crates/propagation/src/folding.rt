@@ -2,7 +2,7 @@
 ghost use Rattle.std.specs.Prelude.{◌≡◌, ◌+◌, ◌++◌, ◌∷◌, [], List as Values, length, IfOk, OnErr, OnOk};
 ghost use Rattle.std.specs.List.{filter_map};
 ghost use Rattle.gw_base.specs.declared.messages.Entity.{Entity};
-ghost use Rattle.journey_model.specs.Schedules.{Schedule, schedule_of};
+ghost use Rattle.journey_model.specs.Schedules.{Schedule};
 ghost use Rattle.propagation.specs.Feeds.{IsReading};
 ghost use Rattle.propagation.specs.Folding.{StandsFor, aside_late, bare_feed, feed_with, given_late};
 
@@ -40,11 +40,11 @@ fn sorted_late(
     passed: u64,
     said: List<(u64, EntitySaid)>,
 ) -> Result<SortedOut, AllocError>
-    ensures given { let schedule = schedule_of context.now in
-        IfOk result (λ sorted. sorted.given ≡ filter_map (given_late schedule (bare_feed timestamp)) said) }
+    ensures given { IfOk result (λ sorted. sorted.given
+        ≡ filter_map (given_late context.now (bare_feed timestamp)) said) }
     ensures passed { IfOk result (λ sorted. sorted.passed ≡ passed) }
-    ensures aside { let schedule = schedule_of context.now in
-        IfOk result (λ sorted. sorted.aside ≡ filter_map (aside_late schedule (bare_feed timestamp)) said) }
+    ensures aside { IfOk result (λ sorted. sorted.aside
+        ≡ filter_map (aside_late context.now (bare_feed timestamp)) said) }
 {
     let mut given = List::new(alloc);
     let mut aside = List::new(alloc);
@@ -81,9 +81,9 @@ impl ReadingFold {
         index: u64,
         entity: Entity,
     ) -> Result<(), AllocError>
-        ensures adds { (entities : Values Entity) → StandsFor (schedule_of context.now) self.old entities
+        ensures adds { (entities : Values Entity) → StandsFor context.now self.old entities
             → index ≡ length entities
-            → OnOk result (StandsFor (schedule_of context.now) self.new (entities ++ entity ∷ [])) }
+            → OnOk result (StandsFor context.now self.new (entities ++ entity ∷ [])) }
         ensures refused { OnErr result (self.new ≡ self.old) }
     {
         match read_early(self.alloc, context, entity)? {
@@ -109,8 +109,8 @@ impl ReadingFold {
     /// What the feed of this head and of the entities that were added says of journeys, just as `readings_of` reads it
     /// (GTFS Realtime reference, FeedMessage). Err for want of memory.
     pub fn finish(self, context: &Context<'_>, head: &FeedHead) -> Result<FeedReading, AllocError>
-        ensures reads { (entities : Values Entity) → StandsFor (schedule_of context.now) self entities
-            → IfOk result (IsReading (schedule_of context.now) (feed_with head.now entities)) }
+        ensures reads { (entities : Values Entity) → StandsFor context.now self entities
+            → IfOk result (IsReading context.now (feed_with head.now entities)) }
     {
         let ReadingFold {
             alloc,

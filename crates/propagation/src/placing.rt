@@ -55,7 +55,7 @@ pub(crate) fn filled_text(text: &Option<Text>) -> Option<&str>
     }
 }
 
-// The stop of a trip behind the place before, if it has one.
+// The stop of a trip after the place before, if it has one.
 #[tactic(auto, using(crate::proofs::KnownLemmas::known_at))]
 fn stop_behind(table: &Timetable, trip: TripNo, after: Option<u32>) -> Option<StopNo>
     ensures { IfSome result (λ stop. stop.0 < length table.now.stops) }
@@ -165,7 +165,7 @@ fn placed_at(
     }
 }
 
-// The place of the update of that number behind the one before, and what it says there; or its fault.
+// The place of the update of that number after the one before, and what it says there; or its fault.
 fn place(
     table: &Timetable,
     dated: &DatedTrip<'_>,

@@ -96,7 +96,7 @@ pub(crate) fn readings(
     Ok(all)
 }
 
-// The updates behind the first.
+// The updates after the first.
 fn behind_first(placed: &[Placed]) -> &[Placed]
     ensures { result.now ≡ drop 1 placed.now }
 {

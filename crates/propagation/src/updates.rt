@@ -30,7 +30,7 @@ fn stops_said(
 }
 
 /// What a trip update says of its trip on a day (GTFS Realtime reference, TripUpdate and StopTimeUpdate): the reading
-/// of each stop in order, in seconds since 1970, where a delay is carried on to the stops behind; under CANCELED the
+/// of each stop in order, in seconds since 1970, where a delay is carried on to the stops after; under CANCELED the
 /// list isn't read. Err with the first fault of the list, or for want of memory.
 pub fn propagate(
     alloc: Global,

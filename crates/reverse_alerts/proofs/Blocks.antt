@@ -53,11 +53,11 @@ or-none (Some value) = refl
 
 -- ---- plain objects
 
--- a name stands behind another
+-- a name stands after another
 abbrev is_past : List ℕ → List ℕ → Bool
 is_past name other = match_ordering (slice_cmp nat_cmp name other) false false true
 
--- the names of members rise, and stand behind those of others
+-- the names of members rise, and stand after those of others
 abbrev pub rising : List (List ℕ × Option Data) → Bool
 rising [] = true
 rising (one ∷ others) = list_all (λ later. is_past later.0 one.0) others && rising others

@@ -10,7 +10,7 @@ use Rattle.service_day.specs.DayTexts.{day_of}
 use Rattle.service_day.specs.Moments.{moment_of}
 use Rattle.service_day.specs.declared.days.DayForm.TheVariants.{Either}
 use Rattle.service_day.specs.declared.zones.Rules.{Rules}
-use Rattle.journey_model.specs.Chains.{◌>>=◌}
+use Rattle.gw_base.specs.Chains.{◌>>=◌}
 use Rattle.journey_model.specs.declared.fault.Fault.{Fault}
 use Rattle.journey_model.specs.declared.fault.Fault.TheVariants.{BadField}
 use Rattle.journey_model.specs.declared.situation.ValidPeriod.{ValidPeriod}

@@ -1,7 +1,6 @@
 -- What a selector names is there, and the selector of what is there names it again.
-use Rattle.std.proofs.Common.{◌≡◌, ℕ, ◌<◌, List, [], ◌∷◌, length, map, get_or, Bool, true, false, cond, nat_lt, bytes_eq, position, option_map, option_and_then, Option, Some, None, refl, sym, ap, subst, ◌∙◌, ℤ, arith, ltb-true}
+use Rattle.std.proofs.Common.{◌≡◌, ℕ, ◌<◌, List, [], ◌∷◌, length, map, Bool, true, false, cond, nat_lt, bytes_eq, position, option_map, option_and_then, Option, Some, None, refl, ap, subst, ◌∙◌, ℤ, arith, ltb-true}
 use Rattle.std.specs.List.{AllByRecursion, cons_option, position_or_len}
-use Rattle.std.proofs.lemmas.Option.{unwrap_or-slice_get}
 use Rattle.gw_base.specs.declared.messages.Selector.{Selector}
 use Rattle.gw_base.specs.declared.messages.TripDescriptor.{TripDescriptor}
 use Rattle.service_day.specs.Days.{IsDay}
@@ -11,10 +10,11 @@ use Rattle.service_day.proofs.DayTextLemmas.{compact_day-compact_text, length-co
 use Rattle.stop_schedule.specs.Ids.{are_ids}
 use Rattle.stop_schedule.specs.Sound.{IsSound}
 use Rattle.stop_schedule.specs.Table.{Table}
+use Rattle.journey_model.specs.Ids.{id_of}
 use Rattle.journey_model.specs.Updates.{filled_text}
 use Rattle.journey_model.specs.declared.situation.Ref.{Ref}
 use Rattle.journey_model.specs.declared.situation.Ref.TheVariants.{Route, Stop, Journey}
-use Rattle.alert_map.specs.Alerts.{id_of, selector_of}
+use Rattle.alert_map.specs.Alerts.{selector_of}
 use Rattle.siri_calls.proofs.SaidAgainIds.{id-at, position-id, some-id}
 use Rattle.reverse_alerts.specs.Kept.{all_named, journey_dated, journey_named, journey_on, named, one_named, route_named, stop_named}
 use Rattle.reverse_alerts.proofs.DayRange.{IsDay-day_of}
@@ -22,15 +22,11 @@ use Rattle.reverse_alerts.proofs.Sayable.{CanSay}
 
 -- ---- the selector of what is there names it
 
--- an id by its number
-pub id_of-at : (ids : List (List ℕ)) (place : ℕ) → id_of ids place ≡ get_or ids place []
-id_of-at ids place = unwrap_or-slice_get ids place []
-
 pub position-id_of : (ids : List (List ℕ)) (place : ℕ) → are_ids ids ≡ true → place < length ids → position (bytes_eq (id_of ids place)) ids ≡ Some place
-position-id_of ids place h less = ap (λ id. position (bytes_eq id) ids) (id_of-at ids place) ∙ position-id ids place h less
+position-id_of ids place h less = position-id ids place h less
 
 pub some-id_of : (ids : List (List ℕ)) (place : ℕ) → are_ids ids ≡ true → place < length ids → 0 < length (id_of ids place)
-some-id_of ids place h less = subst (λ id. 0 < length id) (sym (id_of-at ids place)) (some-id (get_or ids place []) (id-at ids place h less))
+some-id_of ids place h less = some-id (id_of ids place) (id-at ids place h less)
 
 pub filled_text-some : (text : List ℕ) → 0 < length text → filled_text (Some text) ≡ Some text
 filled_text-some [] h = absurd (omega arith)

@@ -24,7 +24,7 @@ use Rattle.reverse_alerts.specs.declared.selectors.NamedRefs.{NamedRefs}
 
 -- ---- found one by one
 
--- what was found, and behind it the others by kind
+-- what was found, and after it the others by kind
 abbrev pub joined : NamedRefs → List Ref → NamedRefs
 joined found others = record {
   routes = found.routes ++ filter is_route others;

@@ -9,12 +9,12 @@ use Rattle.service_day.proofs.MomentTextLemmas.{IsUtf8-dashed_text, IsUtf8-momen
 use Rattle.stop_schedule.specs.Ids.{are_ids}
 use Rattle.stop_schedule.specs.Sound.{IsSound}
 use Rattle.stop_schedule.specs.Table.{Table}
+use Rattle.journey_model.specs.Ids.{id_of}
 use Rattle.journey_model.specs.declared.situation.Ref.{Ref}
 use Rattle.journey_model.specs.declared.situation.Ref.TheVariants.{Route, Stop, Journey}
 use Rattle.journey_model.specs.declared.situation.Situation.{Situation}
 use Rattle.journey_model.specs.declared.situation.ValidPeriod.{ValidPeriod}
 use Rattle.serde_json.specs.Data.{Data, string}
-use Rattle.alert_map.specs.Alerts.{id_of}
 use Rattle.siri_calls.specs.DeliveryTree.{items_of, object_of}
 use Rattle.siri_calls.proofs.SaidAgainIds.{IsUtf8-id, id-at}
 use Rattle.siri_calls.proofs.SaidAgainTrees.{ArePlain, IsPlain}
@@ -24,7 +24,6 @@ use Rattle.reverse_alerts.specs.SituationTree.{affects_tree, bound_member, condi
 use Rattle.reverse_alerts.proofs.Blocks.{ArePlainParts, IsPlainPart, plain-object}
 use Rattle.reverse_alerts.proofs.FromAlerts.{IsSaid}
 use Rattle.reverse_alerts.proofs.Grouped.{all-filter, filter-each}
-use Rattle.reverse_alerts.proofs.Names.{id_of-at}
 use Rattle.reverse_alerts.proofs.ReadAffects.{affects-parts, affects_parts, networks_of, stop_points_of, vehicle_journeys_of}
 use Rattle.reverse_alerts.proofs.ReadForms.{IsMoment-is_moment, array_if_any}
 use Rattle.reverse_alerts.proofs.Sayable.{CanSay, is_bound, is_period}
@@ -35,7 +34,7 @@ name : (letters : List ℕ) → are_ascii letters ≡ true → IsUtf8 letters
 name letters h = IsUtf8-are_ascii letters h
 
 IsUtf8-id_of : (ids : List (List ℕ)) (place : ℕ) → are_ids ids ≡ true → place < length ids → IsUtf8 (id_of ids place)
-IsUtf8-id_of ids place h less = subst IsUtf8 (sym (id_of-at ids place)) (IsUtf8-id _ (id-at ids place h less))
+IsUtf8-id_of ids place h less = IsUtf8-id (id_of ids place) (id-at ids place h less)
 
 -- ---- what it affects
 

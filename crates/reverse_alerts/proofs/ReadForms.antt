@@ -8,7 +8,7 @@ use Rattle.gw_base.specs.declared.member.Member.{Member}
 use Rattle.service_day.specs.Utc.{moment_text}
 use Rattle.service_day.specs.declared.zones.Rules.{Rules}
 use Rattle.service_day.proofs.MomentTextLemmas.{moment_of-moment_text, some-moment_text}
-use Rattle.journey_model.specs.Chains.{◌>>=◌}
+use Rattle.gw_base.specs.Chains.{◌>>=◌}
 use Rattle.journey_model.specs.declared.fault.Fault.{Fault}
 use Rattle.serde_json.specs.Data.{Data, Members, object, string}
 use Rattle.serde_json.specs.Find.{get}

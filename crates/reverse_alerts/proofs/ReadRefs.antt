@@ -9,13 +9,13 @@ use Rattle.service_day.specs.DayTexts.{dashed_text}
 use Rattle.service_day.proofs.MomentTextLemmas.{day_of-dashed_text, some-dashed_text}
 use Rattle.stop_schedule.specs.Sound.{IsSound}
 use Rattle.stop_schedule.specs.Table.{Table}
-use Rattle.journey_model.specs.Chains.{◌>>=◌}
+use Rattle.gw_base.specs.Chains.{◌>>=◌}
+use Rattle.journey_model.specs.Ids.{id_of}
 use Rattle.journey_model.specs.declared.fault.Fault.{Fault}
 use Rattle.journey_model.specs.declared.situation.Ref.{Ref}
 use Rattle.journey_model.specs.declared.situation.Ref.TheVariants.{Route, Stop, Journey}
 use Rattle.serde_json.specs.Data.{Data, null, string}
 use Rattle.serde_json.specs.Find.{get}
-use Rattle.alert_map.specs.Alerts.{id_of}
 use Rattle.siri_calls.specs.DeliveryTree.{members, object_of}
 use Rattle.siri_json.specs.Fields.{optional_member, required_member}
 use Rattle.siri_json.specs.Forms.{day, text}

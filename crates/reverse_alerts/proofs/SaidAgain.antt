@@ -6,7 +6,7 @@ use Rattle.gw_base.specs.Moments.{IsMoment}
 use Rattle.gw_base.specs.declared.messages.Entity.{Entity}
 use Rattle.stop_schedule.specs.Sound.{IsSound}
 use Rattle.stop_schedule.specs.Table.{Table}
-use Rattle.journey_model.specs.Chains.{◌>>=◌}
+use Rattle.gw_base.specs.Chains.{◌>>=◌}
 use Rattle.journey_model.specs.Schedules.{Schedule}
 use Rattle.journey_model.specs.declared.situation.Situation.{Situation}
 use Rattle.siri_calls.specs.DeliveryTree.{items_of}

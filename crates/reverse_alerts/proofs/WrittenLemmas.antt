@@ -213,7 +213,7 @@ situation_pieces : (affects word created description reason number summary perio
     ≡ (affects ++ word ++ created) ++ ((description ++ reason) ++ (number ++ summary)) ++ (periods ++ end)
 situation_pieces affects word created description reason number summary periods end = simp append_assoc
 
--- the members of a situation behind what it affects
+-- the members of a situation after what it affects
 abbrev behind : ℤ → Situation → Named
 behind moment one =
     consequences_of (condition_of one.effect)

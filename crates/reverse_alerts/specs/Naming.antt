@@ -11,7 +11,7 @@ use Rattle.reverse_alerts.specs.declared.selectors.NamedRefs.{NamedRefs}
 abbrev pub refs_of : List Ref → NamedRefs
 refs_of all = record { routes = filter is_route all; stops = filter is_stop all; journeys = filter is_journey all }
 
--- one more behind those of its kind
+-- one more after those of its kind
 abbrev pub with_ref : NamedRefs → Ref → NamedRefs
 with_ref found one = record {
   routes = found.routes ++ filter is_route (one ∷ []);

@@ -23,7 +23,7 @@ none_named named = if named == 0 then Some NoAffects else None
 abbrev pub fault_by : List ℕ → Alert → ℕ → Option Fault
 fault_by id alert named = option_or (number_fault id) (option_or (periods_fault alert.periods) (none_named named))
 
--- what an entity adds to the text, behind a comma where a situation stands before
+-- what an entity adds to the text, after a comma where a situation stands before
 abbrev pub added_text : Bool → Table → ℤ → Verdict → List ℕ
 added_text later table moment None = []
 added_text later table moment (Some (Err fault)) = []

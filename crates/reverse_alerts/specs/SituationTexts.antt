@@ -6,7 +6,7 @@ use Rattle.serde_json.specs.Written.{comma_if}
 use Rattle.gw_base.specs.declared.messages.Period.{Period}
 use Rattle.service_day.specs.DayTexts.{dashed_text}
 use Rattle.stop_schedule.specs.Table.{Table}
-use Rattle.alert_map.specs.Alerts.{id_of}
+use Rattle.journey_model.specs.Ids.{id_of}
 use Rattle.journey_model.specs.declared.situation.Ref.{Ref}
 use Rattle.journey_model.specs.declared.situation.Ref.TheVariants.{Route, Stop, Journey}
 use Rattle.journey_model.specs.declared.situation.Situation.{Situation}
@@ -15,7 +15,7 @@ use Rattle.siri_calls.specs.DeliveryTexts.{led, led_moment}
 use Rattle.reverse_alerts.specs.Kept.{is_journey, is_route, is_stop}
 use Rattle.reverse_alerts.specs.SituationTree.{condition_of, reason_of}
 
--- a text as a string, and a moment, behind what leads to it, where there is one
+-- a text as a string, and a moment, after what leads to it, where there is one
 abbrev pub led_if : List ℕ → Option (List ℕ) → List ℕ
 led_if lead None = []
 led_if lead (Some text) = led lead text
@@ -44,7 +44,7 @@ ref_text table (Route route) = line_text (id_of table.routes route.0)
 ref_text table (Stop stop) = stop_point_text (id_of table.stops stop.0)
 ref_text table (Journey trip day) = journey_text day (id_of table.trips trip.0)
 
--- items from one on, behind a comma where another stands before, and the bracket that closes them
+-- items from one on, after a comma where another stands before, and the bracket that closes them
 abbrev pub refs_text : Bool → Table → List Ref → List ℕ
 refs_text later table [] = codes "]"
 refs_text later table (one ∷ others) = comma_if later ++ ref_text table one ++ refs_text true table others
@@ -80,7 +80,7 @@ kinds_text table lines stops journeys =
 unfoldable pub affects_text : Table → List Ref → List Ref → List Ref → List ℕ
 affects_text table lines stops journeys = codes "{\"Affects\":{" ++ kinds_text table lines stops journeys ++ codes "}"
 
--- its effect, behind the others
+-- its effect, after the others
 abbrev pub condition_text : Option (List ℕ) → List ℕ
 condition_text None = []
 condition_text (Some word) = led (codes ",\"Consequences\":{\"Consequence\":[{\"Condition\":") word ++ codes "}]}"
@@ -130,13 +130,13 @@ situation_text table moment one =
     ++ why_text one.number one.cause one.summary one.description
     ++ (valid_text one.periods ++ codes "}")
 
--- situations from one on, behind a comma where another stands before, and the bracket that closes them
+-- situations from one on, after a comma where another stands before, and the bracket that closes them
 abbrev pub situations_text : Bool → Table → ℤ → List Situation → List ℕ
 situations_text later table moment [] = codes "]"
 situations_text later table moment (one ∷ others) =
     comma_if later ++ situation_text table moment one ++ situations_text true table moment others
 
--- the delivery up to its situations, and what stands behind them
+-- the delivery up to its situations, and what stands after them
 abbrev pub frame_text : ℤ → List ℕ
 frame_text moment =
     led_moment (codes "{\"Siri\":{\"ServiceDelivery\":{\"ResponseTimestamp\":") moment

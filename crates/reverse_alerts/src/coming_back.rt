@@ -2,7 +2,6 @@
 //! definitions of `specs/Again.antt`.
 ghost use Rattle.std.specs.Prelude.{◌≡◌, ℕ, Ok};
 ghost use Rattle.serde_json.specs.Data.{Data};
-ghost use Rattle.journey_model.specs.Schedules.{schedule_of};
 ghost use Rattle.journey_model.specs.declared.situation.Situation.{Situation};
 ghost use Rattle.siri_situations.specs.Situations.{verdict};
 ghost use Rattle.reverse_alerts.specs.Again.{ComesBack};
@@ -13,8 +12,8 @@ use journey_model::Context;
 /// situation with an equal alert (SIRI 2.0, PtSituationElement; GTFS Realtime reference, Alert).
 pub fn what_was_read_comes_back(context: &Context<'_>)
     ensures { (tree : Data) (one : Situation) (unknown : ℕ)
-        → verdict (schedule_of context.now) tree ≡ Ok (one, unknown)
-        → ComesBack (schedule_of context.now).table one }
+        → verdict context.now tree ≡ Ok (one, unknown)
+        → ComesBack context.now.table one }
 {
     context.table.is_sound();
 }

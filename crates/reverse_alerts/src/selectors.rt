@@ -44,7 +44,7 @@ impl NamedRefs {
         self.journeys.clear();
     }
 
-    // Adds one behind those of its kind.
+    // Adds one after those of its kind.
     fn add(&mut self, one: Ref) -> Result<(), AllocError>
         ensures { OnOk result (self.new ≡ naming.with_ref self.old one) }
     {
@@ -124,7 +124,7 @@ fn named(table: &Timetable, one: &Selector) -> Option<Ref>
     }
 }
 
-// Adds what a selector names behind what those before it name.
+// Adds what a selector names after what those before it name.
 fn add_named(found: &mut NamedRefs, table: &Timetable, one: &Selector) -> Result<(), AllocError>
     ensures { OnOk result (found.new ≡ naming.with_named (spec.named (seen table.now) one.now) found.old) }
 {

@@ -1,5 +1,4 @@
 //! The SIRI delivery of a feed's alerts. The functions meet `specs/Sx.antt`.
-ghost use Rattle.journey_model.specs.Schedules.{schedule_of};
 ghost use Rattle.reverse_alerts.specs.Sx.{IsAnswer, IsFullAnswer};
 
 use crate::sx_fault::SxFault;
@@ -17,7 +16,7 @@ fn sx_of_full(
     context: &Context<'_>,
     moment: Moment,
 ) -> Result<(Bytes, Report), SxFault>
-    ensures { IsFullAnswer (schedule_of context.now) feed.now moment result }
+    ensures { IsFullAnswer context.now feed.now moment result }
 {
     context.table.is_sound();
     let _ = moment.secs();
@@ -38,7 +37,7 @@ pub fn sx_of(
     context: &Context<'_>,
     moment: Moment,
 ) -> Result<(Bytes, Report), SxFault>
-    ensures { IsAnswer (schedule_of context.now) feed.now moment result }
+    ensures { IsAnswer context.now feed.now moment result }
 {
     if feed.incrementality == DIFFERENTIAL {
         return Err(SxFault::Differential);

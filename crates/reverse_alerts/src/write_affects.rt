@@ -106,7 +106,7 @@ fn put_lines(out: &mut Bytes, table: &Timetable, refs: &[Ref]) -> Result<(), All
     put_kind(out, table, false, (lead, b"}]}"), refs)
 }
 
-// Adds the stops, behind a comma where lines stand before.
+// Adds the stops, after a comma where lines stand before.
 fn put_stops(
     out: &mut Bytes,
     table: &Timetable,
@@ -120,7 +120,7 @@ fn put_stops(
     put_kind(out, table, later, (lead, b"}"), refs)
 }
 
-// Adds the journeys, behind a comma where lines or stops stand before.
+// Adds the journeys, after a comma where lines or stops stand before.
 fn put_journeys(
     out: &mut Bytes,
     table: &Timetable,

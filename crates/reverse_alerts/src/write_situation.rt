@@ -72,7 +72,7 @@ fn put_reason(out: &mut Bytes, cause: &i32) -> Result<(), AllocError>
     out.extend(b":\"unknown\"")
 }
 
-// Adds a text behind what leads to it, where there is one.
+// Adds a text after what leads to it, where there is one.
 fn put_if(out: &mut Bytes, lead: &[u8], text: Option<&str>) -> Result<(), AllocError>
     ensures { OnOk result (out.new ≡ out.old ++ spec.led_if lead.now (option_copied text.entry)) }
 {
@@ -82,7 +82,7 @@ fn put_if(out: &mut Bytes, lead: &[u8], text: Option<&str>) -> Result<(), AllocE
     }
 }
 
-// Adds a bound of a period behind what leads to it, where there is one.
+// Adds a bound of a period after what leads to it, where there is one.
 fn put_bound(out: &mut Bytes, lead: &[u8], bound: Option<u64>) -> Result<(), AllocError>
     requires { spec.IsBound bound }
     ensures { OnOk result (out.new ≡ out.old ++ spec.moment_if lead.now bound) }

@@ -64,7 +64,7 @@ fn alert_in(entity: &Entity) -> Option<&Alert>
 }
 
 impl Writing {
-    // Adds the situation of an alert, behind a comma where another stands before.
+    // Adds the situation of an alert, after a comma where another stands before.
     fn add(
         &mut self,
         table: &Timetable,

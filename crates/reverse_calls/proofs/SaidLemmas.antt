@@ -12,7 +12,7 @@ use Rattle.siri_calls.proofs.SaidAgain.{says_again}
 
 -- readings that can be served fit the timetable, and their trips are there
 pub all_fit : (schedule : Schedule) (journeys : List DatedReading) → All (IsServable schedule) journeys → All (λ one. FitsSchedule schedule one.trip.0 one.day one.reading) journeys
-all_fit schedule journeys all = λ k d less. let one = all k d less in record { trip_in = one.trip_in; run = one.run; on_day = one.on_day; fits = one.fits }
+all_fit schedule journeys all = λ k d less. (all k d less).fits_schedule
 
 pub all_there : (schedule : Schedule) (journeys : List DatedReading) → All (IsServable schedule) journeys → All (λ one. one.trip.0 < length schedule.table.trips) journeys
 all_there schedule journeys all = λ k d less. (all k d less).trip_in

@@ -1,7 +1,6 @@
 //! What the readings of a feed keep, so that a delivery can say them. The functions meet `Sayable.antt` of
 //! `siri_calls`.
 ghost use Rattle.std.specs.Prelude.{All, IfSome};
-ghost use Rattle.journey_model.specs.Schedules.{schedule_of};
 ghost use Rattle.propagation.specs.Feeds.{IsServable};
 ghost use Rattle.gw_base.specs.Moments.{IsMoment};
 ghost use Rattle.siri_calls.specs.Sayable.{IsSayable};
@@ -20,8 +19,8 @@ fn is_recorded(recorded: &Option<Moment>)
 
 // A reading that can be served can be said.
 fn is_sayable(context: &Context<'_>, one: &DatedReading)
-    requires { IsServable (schedule_of context.now) one.now }
-    ensures { IsSayable (schedule_of context.now) one.now }
+    requires { IsServable context.now one.now }
+    ensures { IsSayable context.now one.now }
 {
     let _ = one.day.number();
     let _ = context.window.start_of(one.day);
@@ -30,8 +29,8 @@ fn is_sayable(context: &Context<'_>, one: &DatedReading)
 
 /// The readings of a feed, which can be served, can be said. A law, which changes nothing when it runs.
 pub(crate) fn are_sayable(context: &Context<'_>, journeys: &[DatedReading])
-    requires { All (IsServable (schedule_of context.now)) journeys.now }
-    ensures { All (IsSayable (schedule_of context.now)) journeys.now }
+    requires { All (IsServable context.now) journeys.now }
+    ensures { All (IsSayable context.now) journeys.now }
 {
     for one in journeys {
         is_sayable(context, one);

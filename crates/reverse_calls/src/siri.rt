@@ -1,6 +1,5 @@
 //! The SIRI delivery of a feed. The functions meet `specs/Siri.antt`.
 ghost use Rattle.std.specs.Prelude.{◌≡◌, All, IfOk};
-ghost use Rattle.journey_model.specs.Schedules.{schedule_of};
 ghost use Rattle.gw_base.specs.declared.messages.Feed.{Feed};
 ghost use Rattle.propagation.specs.Feeds.{IsReading, IsServable};
 ghost use Rattle.siri_calls.specs.DeliveryTree.{delivery_text};
@@ -28,9 +27,9 @@ fn said(
     journeys: &[DatedReading],
     moment: Moment,
 ) -> Result<Bytes, AllocError>
-    requires { All (IsServable (schedule_of context.now)) journeys.now }
-    ensures text { IfOk result (λ text. text ≡ delivery_text (schedule_of context.now) moment journeys.now) }
-    ensures again { IfOk result (SaysAgain (schedule_of context.now) moment journeys.now) }
+    requires { All (IsServable context.now) journeys.now }
+    ensures text { IfOk result (λ text. text ≡ delivery_text context.now moment journeys.now) }
+    ensures again { IfOk result (SaysAgain context.now moment journeys.now) }
 {
     context.table.is_sound();
     are_sayable(context, journeys);
@@ -47,10 +46,10 @@ pub fn siri_of_readings(
     reading: &FeedReading,
     moment: Moment,
 ) -> Result<Bytes, ReadingsFault>
-    requires servable { All (IsServable (schedule_of context.now)) reading.now.journeys }
-    ensures answers { IsReadingsAnswer (schedule_of context.now) reading.now.journeys moment result }
-    ensures of_feed { (feed : Feed) → IsReading (schedule_of context.now) feed reading.now
-        → IsTextOfFeed (schedule_of context.now) feed moment reading.now.report result }
+    requires servable { All (IsServable context.now) reading.now.journeys }
+    ensures answers { IsReadingsAnswer context.now reading.now.journeys moment result }
+    ensures of_feed { (feed : Feed) → IsReading context.now feed reading.now
+        → IsTextOfFeed context.now feed moment reading.now.report result }
 {
     let journeys = reading.journeys.as_slice();
     let calls = calls_of(context, journeys);
@@ -70,7 +69,7 @@ fn siri_of_full(
     context: &Context<'_>,
     moment: Moment,
 ) -> Result<(Bytes, Report), ReverseFault>
-    ensures { IsFullAnswer (schedule_of context.now) feed.now moment result }
+    ensures { IsFullAnswer context.now feed.now moment result }
 {
     let reading = match readings_of(alloc, feed, context) {
         Ok(reading) => reading,
@@ -93,7 +92,7 @@ pub fn siri_of(
     context: &Context<'_>,
     moment: Moment,
 ) -> Result<(Bytes, Report), ReverseFault>
-    ensures { IsAnswer (schedule_of context.now) feed.now moment result }
+    ensures { IsAnswer context.now feed.now moment result }
 {
     if feed.incrementality == DIFFERENTIAL {
         return Err(ReverseFault::Differential);

@@ -31,7 +31,7 @@ pub piece_more : (piece : ℕ → List ℕ) (n : ℕ) (start before after : List
 piece_more piece n start before after so_far added =
     rw (all_below-next piece n) (two_pieces start (all_below piece n) (piece n) before after so_far added)
 
--- texts that follow others, behind commas
+-- texts that follow others, after commas
 following_some : (text : List ℕ) (texts : List (List ℕ)) → following true (text ∷ texts) ≡ 44 ∷ listed (text ∷ texts)
 unfolding following
 following_some text [] = refl

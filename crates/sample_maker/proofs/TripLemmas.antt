@@ -23,7 +23,7 @@ pub after_trips-0 : (stops held : ℕ) → after_trips stops held 0 ≡ held
 unfolding after_trips
 after_trips-0 stops held = refl
 
--- trips behind others
+-- trips after others
 pub after_trips-add : (stops held n m : ℕ) → after_trips stops (after_trips stops held n) m ≡ after_trips stops held (n + m)
 unfolding after_trips
 after_trips-add stops held n zero = rw add-zero refl

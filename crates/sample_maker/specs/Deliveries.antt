@@ -9,7 +9,7 @@ use Rattle.sample_maker.specs.Folder.{second_at}
 use Rattle.sample_maker.specs.Listed.{listed}
 use Rattle.sample_maker.specs.Pieces.{all_below, led}
 
--- when a trip with that delay is at the stop behind so many others, in seconds since 1970: the service day is
+-- when a trip with that delay is at the stop after so many others, in seconds since 1970: the service day is
 -- 2024-05-01, which starts at 1714521600 in UTC
 abbrev pub expected_at : ℕ → ℕ → ℤ → ℤ
 expected_at trip place delay = pos (1714521600 + second_at trip place) +ℤ delay
@@ -35,7 +35,7 @@ cancelled_text place = codes "{\"Cancellation\":true" ++ stop_text place
 abbrev pub expected_text : ℕ → ℕ → ℤ → List ℕ
 expected_text trip place delay = times_text (expected_at trip place delay) ++ stop_text place
 
--- the call at the stop behind so many others, or none
+-- the call at the stop after so many others, or none
 unfoldable pub calls_at : ℕ → ℕ → ℤ → DrawnCall → List (List ℕ)
 calls_at trip place delay Cancelled = cancelled_text place ∷ []
 calls_at trip place delay Unsaid = []
@@ -84,7 +84,7 @@ tail_text = codes "]}]}]}}"
 abbrev pub text_of_journeys : List (List ℕ) → List ℕ
 text_of_journeys texts = head_text ++ listed texts ++ tail_text
 
--- the delivery behind so many others: 100 trips, or what is left of them
+-- the delivery after so many others: 100 trips, or what is left of them
 abbrev pub trips_in : ℕ → ℕ → ℕ
 trips_in trips number = min (trips - 100 * number) 100
 

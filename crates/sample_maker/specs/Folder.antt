@@ -16,7 +16,7 @@ calendar_text =
     codes "service_id,monday,tuesday,wednesday,thursday,friday,saturday,sunday,start_date,end_date\n"
     ++ codes "S,1,1,1,1,1,1,1,20240101,20241231\n"
 
--- stops are numbered from 1; these lines are for the stop behind so many others
+-- stops are numbered from 1; these lines are for the stop after so many others
 abbrev pub stop_line : ℕ → List ℕ
 stop_line place = led (codes "P") (decimal (place + 1)) ++ codes "\n"
 

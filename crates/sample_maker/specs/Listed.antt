@@ -5,7 +5,7 @@ use Rattle.std.specs.List.{join_with_byte}
 abbrev pub listed : List (List ℕ) → List ℕ
 listed texts = join_with_byte 44 texts
 
--- for the clauses of what writes them one behind the other: whether any text stands there, a comma where one does, and
+-- for the clauses of what writes them one after the other: whether any text stands there, a comma where one does, and
 -- the texts that follow
 unfoldable pub has_some : List (List ℕ) → Bool
 has_some [] = false

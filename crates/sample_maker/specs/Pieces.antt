@@ -6,6 +6,6 @@ unfoldable pub all_below : {A : Type 0} → (ℕ → List A) → ℕ → List A
 all_below piece zero = []
 all_below piece (suc n) = all_below piece n ++ piece n
 
--- a text behind what leads to it
+-- a text after what leads to it
 unfoldable pub led : List ℕ → List ℕ → List ℕ
 led lead text = lead ++ text

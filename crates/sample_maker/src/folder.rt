@@ -74,7 +74,7 @@ pub(crate) fn trips(alloc: Global, trips: u32) -> Result<Bytes, AllocError>
     Ok(text)
 }
 
-/// When a trip is at the stop behind so many others, in seconds of the service day.
+/// When a trip is at the stop after so many others, in seconds of the service day.
 pub(crate) fn second_at(trip: u32, place: u32) -> u32
     requires { place < 100 }
     ensures value { result ≡ spec.second_at trip place }

@@ -14,7 +14,7 @@ use gw_base::Bytes;
 use service_day::write_moment;
 use std::alloc::{AllocError, Global};
 
-// When a trip with that delay in seconds is at the stop behind so many others, in seconds since 1970.
+// When a trip with that delay in seconds is at the stop after so many others, in seconds since 1970.
 fn expected_at(trip: u32, place: u32, draws: &Draws) -> i64
     requires { place < 100 }
     ensures value { result ≡ spec.expected_at trip place draws.now.delay }
@@ -113,7 +113,7 @@ fn put_drawn(
     }
 }
 
-// Makes the draws for the next stop and adds its call, where there is one, behind a comma where another stands before.
+// Makes the draws for the next stop and adds its call, where there is one, after a comma where another stands before.
 // Answers whether there is any call now.
 fn put_call(
     out: &mut Bytes,
@@ -147,7 +147,7 @@ fn put_calls(out: &mut Bytes, trip: u32, stops: u32, held: u32) -> Result<u32, A
     Ok(draws.held)
 }
 
-// Adds the end of a journey, behind its calls.
+// Adds the end of a journey, after its calls.
 fn put_closing(out: &mut Bytes, trip: u32) -> Result<(), AllocError>
     ensures { OnOk result (out.new ≡ out.old ++ spec.closing_text trip) }
 {

@@ -1,4 +1,4 @@
-//! Pieces of a sample's texts, written one behind the other.
+//! Pieces of a sample's texts, written one after the other.
 ghost use Rattle.std.specs.Prelude.{◌≡◌, ◌++◌, ◌<◌, OnOk, decimal};
 ghost use Rattle.service_day.specs.Digits.{two_digits as digits_of};
 ghost use Rattle.service_day.specs.Utc.{clock_text};
@@ -8,7 +8,7 @@ use gw_base::Bytes;
 use itoa::Buffer;
 use std::alloc::AllocError;
 
-/// Adds a text behind what leads to it.
+/// Adds a text after what leads to it.
 #[tactic(auto, unfolding(crate::specs::Pieces::led))]
 pub(crate) fn put(out: &mut Bytes, lead: &[u8], text: &[u8]) -> Result<(), AllocError>
     ensures { OnOk result (out.new ≡ out.old ++ led lead.now text.now) }
@@ -17,7 +17,7 @@ pub(crate) fn put(out: &mut Bytes, lead: &[u8], text: &[u8]) -> Result<(), Alloc
     out.extend(text)
 }
 
-/// Adds a number in decimal behind what leads to it.
+/// Adds a number in decimal after what leads to it.
 pub(crate) fn put_number(out: &mut Bytes, lead: &[u8], number: u32) -> Result<(), AllocError>
     ensures { OnOk result (out.new ≡ out.old ++ led lead.now (decimal number)) }
 {

@@ -19,7 +19,7 @@ use Rattle.gateway_core.specs.Standing.{Kept, Stands}
 use Rattle.gateway_core.specs.declared.setting.Setting.{Setting}
 use Rattle.sample_run.specs.Ends.{is_free}
 use Rattle.sample_run.specs.Made.{HasMadeDay, made_day}
-use Rattle.sample_run.specs.Sample.{Arrives, Delivered, with_records}
+use Rattle.sample_run.specs.Sample.{Arrives, IsDelivered, with_records}
 use Rattle.sample_run.specs.Steps.{HasOneDay, Takes, TakesAll}
 use Rattle.sample_run.specs.declared.fault.SampleFault.{SampleFault}
 
@@ -123,7 +123,7 @@ gave_all seed trips stops making trips_are is = by (has_next making) refl is
 
 -- ---- what arrived
 
--- what arrived so far stands, and what the texts left say behind it is what all texts say
+-- what arrived so far stands, and what the texts left say after it is what all texts say
 pub record HasArrived (setting : Setting) (texts rest : List (List ℕ)) (now : Kept) : Type 0 where
   pub arrivals : List Arrival
   pub stands : Stands now arrivals
@@ -135,7 +135,7 @@ none_yet setting texts now stands = record { arrivals = []; stands = stands; bac
 -- the next text was taken
 pub goes_on : (setting own : Setting) (texts rest left : List (List ℕ)) (text : List ℕ) (before now : Kept) → own ≡ setting → rest ≡ text ∷ left
     → HasArrived setting texts rest before
-    → ((arrivals : List Arrival) → Stands before arrivals → (records : List Recorded) × Delivered own arrivals text (Ok records) × Stands now (with_records arrivals records))
+    → ((arrivals : List Arrival) → Stands before arrivals → (records : List Recorded) × IsDelivered own arrivals text (Ok records) × Stands now (with_records arrivals records))
     → HasArrived setting texts left now
 goes_on setting own texts rest left text before now stays same held took = record {
   arrivals = with_records held.arrivals got.0;
@@ -143,11 +143,11 @@ goes_on setting own texts rest left text before now stays same held took = recor
   back = by;
 }
   where
-    got : (records : List Recorded) × Delivered own held.arrivals text (Ok records) × Stands now (with_records held.arrivals records)
+    got : (records : List Recorded) × IsDelivered own held.arrivals text (Ok records) × Stands now (with_records held.arrivals records)
     got = took held.arrivals held.stands
 
-    gives : Delivered setting held.arrivals text (Ok got.0)
-    gives = subst (λ (s : Setting). Delivered s held.arrivals text (Ok got.0)) stays got.1
+    gives : IsDelivered setting held.arrivals text (Ok got.0)
+    gives = subst (λ (s : Setting). IsDelivered s held.arrivals text (Ok got.0)) stays got.1
 
     by : (answer : Result (List Arrival) SampleFault) → Arrives setting left (with_records held.arrivals got.0) answer → Arrives setting texts [] answer
     by (Ok found) h = held.back (Ok found) (rw same (got.0, gives, h))
@@ -156,11 +156,11 @@ goes_on setting own texts rest left text before now stays same held took = recor
 -- an end at the next text is the end of all
 pub ends_with : (A : Type 0) (setting own : Setting) (texts rest left : List (List ℕ)) (text : List ℕ) (before now : Kept) (end : SampleFault) → own ≡ setting → rest ≡ text ∷ left
     → HasArrived setting texts rest before
-    → ((arrivals : List Arrival) → Stands before arrivals → UnlessFree {T = A} is_free (Err end) (Takes (Delivered own arrivals text) arrivals now))
+    → ((arrivals : List Arrival) → Stands before arrivals → UnlessFree {T = A} is_free (Err end) (Takes (IsDelivered own arrivals text) arrivals now))
     → UnlessFree {T = A} is_free (Err end) (TakesAll (Arrives setting texts []) now)
 ends_with A setting own texts rest left text before now end stays same held took =
-    unless_free is_free end (Takes {A = A} (Delivered own held.arrivals text) held.arrivals now) (TakesAll {A = A} (Arrives setting texts []) now)
-    (λ h. held.back (Err end) (rw same (inl (subst (λ (s : Setting). Delivered s held.arrivals text (Err end)) stays h)))) (took held.arrivals held.stands)
+    unless_free is_free end (Takes {A = A} (IsDelivered own held.arrivals text) held.arrivals now) (TakesAll {A = A} (Arrives setting texts []) now)
+    (λ h. held.back (Err end) (rw same (inl (subst (λ (s : Setting). IsDelivered s held.arrivals text (Err end)) stays h)))) (took held.arrivals held.stands)
 
 -- no text is left
 pub all_arrived : {A : Type 0} (setting : Setting) (texts rest : List (List ℕ)) (now : Kept) (done : A) → rest ≡ [] → HasArrived setting texts rest now

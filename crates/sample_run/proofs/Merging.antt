@@ -31,7 +31,7 @@ next_said said trip (one ∷ others) h = by (one.trip.0 == trip) refl
     by true e = let same : one.trip.0 ≡ trip = grind (arith, nat_tests) in subst (λ (n : ℕ). said n ≡ Some one.reading) same h.2
     by false e = h.1 trip (omega arith) (grind (arith, nat_tests, h.0))
 
--- and of those behind it
+-- and of those after it
 pub behind_said : (said : ℕ → Option JourneyReading) (trip : ℕ) (rest : List DatedReading) → AreSaid said trip rest → AreSaid said (trip + 1) (behind trip rest)
 behind_said said trip [] h = λ later from. h later (omega arith)
 behind_said said trip (one ∷ others) h = by (one.trip.0 == trip) refl

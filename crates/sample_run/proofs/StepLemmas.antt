@@ -8,7 +8,8 @@ use Rattle.gw_base.specs.Answers.{UnlessFree}
 use Rattle.gw_base.specs.Steps.{Then}
 use Rattle.gw_base.specs.declared.messages.Entity.{Entity}
 use Rattle.gw_base.specs.declared.messages.Feed.{Feed}
-use Rattle.feed_messages.specs.Tables.{MeansFeed, full_dataset}
+use Rattle.gw_base.specs.Limits.{body_limit}
+use Rattle.feed_reading.specs.Tables.{MeansFeed, full_dataset}
 use Rattle.journey_model.specs.Schedules.{Schedule}
 use Rattle.siri_json.specs.declared.delivery.DeliveryFault.{DeliveryFault}
 use Rattle.siri_json.specs.declared.delivery.DeliveryFault.TheVariants.{NotDelivery, NotJson}
@@ -27,7 +28,7 @@ use Rattle.gateway_core.specs.declared.setting.Setting.{Setting}
 use Rattle.sample_run.specs.Counts.{all_read, counts_of, updates_of}
 use Rattle.sample_run.specs.Ends.{delivery_end, folder_end, is_free, is_unread}
 use Rattle.sample_run.specs.Made.{made, made_at, made_files}
-use Rattle.sample_run.specs.Sample.{Arrives, Counted, CountsOf, Delivered, MadeFolder, Taken, body_limit, limited}
+use Rattle.sample_run.specs.Sample.{Arrives, IsCounted, IsCountsOf, IsDelivered, IsMadeFolder, IsTaken, limited}
 use Rattle.sample_run.specs.Steps.{Takes, tally}
 use Rattle.sample_run.specs.declared.counts.SampleCounts.{SampleCounts}
 use Rattle.sample_run.specs.declared.fault.SampleFault.{SampleFault}
@@ -39,11 +40,11 @@ use Rattle.sample_run.proofs.UpdateLemmas.{no_more_updates}
 
 -- its timetable
 pub folder_found : (trips stops : ℕ) (files : List (List ℕ × List ℕ)) (table : Timetable) → files ≡ made_files trips stops → timetable files made ≡ Ok (seen table)
-    → MadeFolder trips stops (Ok table)
+    → IsMadeFolder trips stops (Ok table)
 folder_found trips stops files table same is = rw (subst (λ (all : List (List ℕ × List ℕ)). timetable all made ≡ Ok (seen table)) same is) refl
 
 made_told : (trips stops : ℕ) (fault : TableFault) → MatchBool (is_free_table fault) ⊤ (timetable (made_files trips stops) made ≡ Err fault)
-    → UnlessFree {T = Timetable} is_free (Err (folder_end fault)) (MadeFolder trips stops)
+    → UnlessFree {T = Timetable} is_free (Err (folder_end fault)) (IsMadeFolder trips stops)
 made_told trips stops (tables.Missing file) is = rw is refl
 made_told trips stops (tables.TooLong file) is = rw is refl
 made_told trips stops (tables.NoColumn file column) is = rw is refl
@@ -59,7 +60,7 @@ made_told trips stops tables.Memory is = tt
 
 -- a fault of the folder is told, unless it is a free one
 pub folder_told : (trips stops : ℕ) (files : List (List ℕ × List ℕ)) (fault : TableFault) → files ≡ made_files trips stops
-    → MatchBool (is_free_table fault) ⊤ (timetable files made ≡ Err fault) → UnlessFree {T = Timetable} is_free (Err (folder_end fault)) (MadeFolder trips stops)
+    → MatchBool (is_free_table fault) ⊤ (timetable files made ≡ Err fault) → UnlessFree {T = Timetable} is_free (Err (folder_end fault)) (IsMadeFolder trips stops)
 folder_told trips stops files fault same is =
     made_told trips stops fault (subst (λ (all : List (List ℕ × List ℕ)). MatchBool (is_free_table fault) ⊤ (timetable all made ≡ Err fault)) same is)
 
@@ -80,19 +81,19 @@ folder_read tables.Memory = refl
 -- ---- deliveries
 
 -- a delivery that isn't too long
-pub in_limit : {A : Type 0} (setting : Setting) (arrivals : List Arrival) (text : List ℕ) (now : Kept) (answer : Result A SampleFault) → length text ≤ 16777216
-    → UnlessFree is_free answer (Takes (Taken setting arrivals text) arrivals now) → UnlessFree is_free answer (Takes (Delivered setting arrivals text) arrivals now)
+pub in_limit : {A : Type 0} (setting : Setting) (arrivals : List Arrival) (text : List ℕ) (now : Kept) (answer : Result A SampleFault) → length text ≤ body_limit
+    → UnlessFree is_free answer (Takes (IsTaken setting arrivals text) arrivals now) → UnlessFree is_free answer (Takes (IsDelivered setting arrivals text) arrivals now)
 in_limit {A} setting arrivals text now answer short took = by answer took
   where
     fits : Ok text ≡ limited text
     fits = let yes : nat_le (length text) body_limit ≡ true = grind (arith, nat_tests) in rw yes refl
 
-    by : (answer : Result A SampleFault) → UnlessFree is_free answer (Takes (Taken setting arrivals text) arrivals now) → UnlessFree is_free answer (Takes (Delivered setting arrivals text) arrivals now)
+    by : (answer : Result A SampleFault) → UnlessFree is_free answer (Takes (IsTaken setting arrivals text) arrivals now) → UnlessFree is_free answer (Takes (IsDelivered setting arrivals text) arrivals now)
     by (Ok done) (records, is, stands) = (records, (text, fits, is), stands)
-    by (Err end) h = unless_free {T = A} {U = A} is_free end (Takes (Taken setting arrivals text) arrivals now) (Takes (Delivered setting arrivals text) arrivals now) (λ is. inr (text, fits, is)) h
+    by (Err end) h = unless_free {T = A} {U = A} is_free end (Takes (IsTaken setting arrivals text) arrivals now) (Takes (IsDelivered setting arrivals text) arrivals now) (λ is. inr (text, fits, is)) h
 
-pub over_limit : (A : Type 0) (setting : Setting) (arrivals : List Arrival) (text : List ℕ) (now : Kept) → 16777216 < length text
-    → Takes {A = A} (Delivered setting arrivals text) arrivals now (Err TooLong)
+pub over_limit : (A : Type 0) (setting : Setting) (arrivals : List Arrival) (text : List ℕ) (now : Kept) → body_limit < length text
+    → Takes {A = A} (IsDelivered setting arrivals text) arrivals now (Err TooLong)
 over_limit A setting arrivals text now long =
     let no : nat_le (length text) body_limit ≡ false = grind (arith, nat_tests) in inl (rw no refl)
 
@@ -123,11 +124,11 @@ counts_are schedule other bytes feed found updates len same read updated long =
 
 pub counts_found : (setting : Setting) (arrivals : List Arrival) (other : Schedule) (bytes : List ℕ) (feed : Feed) (found : Tally) (updates len : ℕ) → MeansFeed bytes feed
     → other ≡ schedule_at setting (moments_of arrivals) → found ≡ tally (all_read other feed) → updates ≡ sum_by updates_of feed.entities → len ≡ length bytes
-    → CountsOf setting arrivals bytes (Ok (record { skipped = found.skipped; absent = found.absent; timed = found.timed; updates = updates; bytes = len }))
+    → IsCountsOf setting arrivals bytes (Ok (record { skipped = found.skipped; absent = found.absent; timed = found.timed; updates = updates; bytes = len }))
 counts_found setting arrivals other bytes feed found updates len means same read updated long =
     (feed, means, ap (λ (counts : SampleCounts). Ok counts) (counts_are (schedule_at setting (moments_of arrivals)) other bytes feed found updates len same read updated long))
 
--- ---- one step behind another
+-- ---- one step after another
 
 -- the first of two steps found this, and the second answered
 pub then_found : {A B : Type 0} (First : Result A SampleFault → Type 0) (Next : A → Result B SampleFault → Type 0) (found : A) (answer : Result B SampleFault)
@@ -142,17 +143,17 @@ then_ended {A} {B} First Next end first = unless_free {T = A} {U = B} is_free en
 
 -- what took all deliveries and what is counted of it, over one setting
 pub all_counted : (setting own last : Setting) (texts : List (List ℕ)) (now : Kept) (answer : Result SampleCounts SampleFault) → own ≡ setting → last ≡ setting
-    → (arrivals : List Arrival) → Arrives own texts [] (Ok arrivals) → UnlessFree is_free answer (Counted last arrivals)
-    → UnlessFree is_free answer (Then (Arrives setting texts []) (Counted setting))
+    → (arrivals : List Arrival) → Arrives own texts [] (Ok arrivals) → UnlessFree is_free answer (IsCounted last arrivals)
+    → UnlessFree is_free answer (Then (Arrives setting texts []) (IsCounted setting))
 all_counted setting own last texts now answer starts ends arrivals arrived counted =
-    then_found (Arrives setting texts []) (Counted setting) arrivals answer
+    then_found (Arrives setting texts []) (IsCounted setting) arrivals answer
     (subst (λ (s : Setting). Arrives s texts [] (Ok arrivals)) starts arrived)
-    (subst (λ (s : Setting). UnlessFree is_free answer (Counted s arrivals)) ends counted)
+    (subst (λ (s : Setting). UnlessFree is_free answer (IsCounted s arrivals)) ends counted)
 
 -- a delivery that is refused has the fault that it is refused for
 pub refused : (kept now : Kept) (arrivals : List Arrival) (moment : ℤ) (body : List ℕ) (fault : DeliveryFault) (end : SampleFault)
     → JourneysAnswer kept arrivals moment body (Err fault) now → moment ≡ made_at → end ≡ delivery_end fault
-    → MatchBool (is_free end) ⊤ (Taken kept.setting arrivals body (Err end))
+    → MatchBool (is_free end) ⊤ (IsTaken kept.setting arrivals body (Err end))
 refused kept now arrivals moment body NotJson end answer at is = rw is (NotJson, rw answer tt, refl)
 refused kept now arrivals moment body (NotDelivery member) end answer at is =
     rw is (NotDelivery member, rw (answer.1, ← at, answer.2) refl, refl)

@@ -1,4 +1,4 @@
--- Tallies of stops that stand one behind the other, and of stops that all read alike.
+-- Tallies of stops that stand one after the other, and of stops that all read alike.
 use Rattle.std.proofs.Common.{◌≡◌, ◌∙◌, ◌++◌, ◌+◌, ◌*◌, ◌≤◌, ℕ, List, length, replicate, sym, ap, arith}
 use Rattle.std.proofs.lemmas.List.Folds.{sum_by-replicate}
 use Rattle.std.proofs.lemmas.List.Sums.{count_by-le-length, sum_by-append}

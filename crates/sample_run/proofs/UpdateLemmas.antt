@@ -8,7 +8,7 @@ use Rattle.wire_fields.specs.Spelling.{bytes_field, varint, varint_field}
 use Rattle.gw_base.specs.declared.messages.Entity.{Entity}
 use Rattle.gw_base.specs.declared.messages.StopUpdate.{StopUpdate}
 use Rattle.gw_base.specs.declared.messages.TripUpdate.{TripUpdate}
-use Rattle.feed_messages.specs.Written.{alert, deleted_field, feed_entity, header, if_there, stop_time_update, trip_descriptor, trip_update, written, written_feed}
+use Rattle.feed_writing.specs.Written.{alert, deleted_field, feed_entity, header, if_there, stop_time_update, trip_descriptor, trip_update, written, written_feed}
 use Rattle.sample_run.specs.Counts.{updates_in, updates_of}
 
 -- a field of bytes has some byte, and has those of its body

@@ -1,4 +1,4 @@
--- What only private functions cite: what a gateway stands for behind a step, and readings in the order of their trips.
+-- What only private functions cite: what a gateway stands for after a step, and readings in the order of their trips.
 use Rattle.std.specs.Prelude.{◌≡◌, ◌==◌, ◌+◌, ◌<◌, ◌≤◌, ℕ, ℤ, List, [], ◌∷◌, length, count_by, Option, Some, None, Result, Ok, Err, if◌then◌else◌}
 use Rattle.std.specs.Prelude.{unwrap_or}
 use Rattle.gw_base.specs.Directory.{bytes_of}
@@ -22,7 +22,7 @@ use Rattle.sample_run.specs.declared.tally.Tally.{Tally}
 abbrev pub text_of : ℕ → ℕ → List ℕ → List ℕ
 text_of trips stops name = unwrap_or (bytes_of (folder trips stops) name) []
 
--- a step finds records, and a gateway stands for them behind what it stood for; or the step ends
+-- a step finds records, and a gateway stands for them after what it stood for; or the step ends
 abbrev pub Takes : {A : Type 0} → (Result (List Recorded) SampleFault → Type 0) → List Arrival → Kept
     → Result A SampleFault → Type 0
 Takes Step arrivals now (Ok done) =
@@ -60,7 +60,7 @@ abbrev pub stops_said : Schedule → ℕ → Option JourneyReading → List Stop
 stops_said schedule trip said =
     each_stop (length (schedule.table.stops_of trip)) (or_nothing said (nothing_known schedule trip))
 
--- what the first of readings says, where it is of that trip; and the readings behind it
+-- what the first of readings says, where it is of that trip; and the readings after it
 abbrev pub head_said : ℕ → List DatedReading → Option JourneyReading
 head_said trip [] = None
 head_said trip (one ∷ others) = if one.trip.0 == trip then Some one.reading else None

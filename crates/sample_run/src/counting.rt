@@ -2,7 +2,6 @@
 ghost use Rattle.std.specs.Prelude.{◌≡◌, ◌+◌, ◌<◌, ◌*◌, ℕ, Option, IfOk, length, min, replicate, sum_by};
 ghost use Rattle.std.specs.List.{AllByRecursion};
 ghost use Rattle.gw_base.specs.Count.{last_count};
-ghost use Rattle.journey_model.specs.Schedules.{schedule_of};
 ghost use Rattle.journey_model.specs.declared.readings.JourneyReading as readings;
 ghost use Rattle.propagation.specs.Feeds.{IsServable};
 ghost use Rattle.sample_maker.specs.Pieces.{all_below};
@@ -20,9 +19,9 @@ use stop_schedule::{Timetable, TripNo};
 
 // How the stops of a trip read that the feed gives.
 fn given(context: &Context<'_>, one: &DatedReading) -> Tally
-    requires { IsServable (schedule_of context.now) one.now }
+    requires { IsServable context.now one.now }
     ensures value { result ≡ tally (spec.each_stop
-        (length ((seen context.now.table.now).stops_of one.now.trip.0)) one.now.reading) }
+        (length (context.now.table.stops_of one.now.trip.0)) one.now.reading) }
     ensures few { IsWithin 250 result }
 {
     let stops = context.table.stops_of(one.trip);
@@ -51,21 +50,21 @@ fn not_given(table: &Timetable, trip: TripNo) -> Tally
 }
 
 // Adds how the stops of a trip read, by the first of the readings where it is of that trip. Answers the readings
-// behind it.
+// after it.
 fn add_trip<'r>(
     sum: &mut Tally,
     context: &Context<'_>,
     trip: u32,
     rest: &'r [DatedReading],
 ) -> &'r [DatedReading]
-    requires trip { trip < length context.now.table.now.trips }
-    requires servable { AllByRecursion (IsServable (schedule_of context.now)) rest.now }
+    requires trip { trip < length context.now.table.trips }
+    requires servable { AllByRecursion (IsServable context.now) rest.now }
     requires few { IsWithin (250 * trip) sum.old }
     requires room { trip < 200000 }
     ensures rest { result.now ≡ steps.behind trip rest.now }
-    ensures servable { AllByRecursion (IsServable (schedule_of context.now)) result.now }
+    ensures servable { AllByRecursion (IsServable context.now) result.now }
     ensures sum { sum.new ≡ plus sum.old
-        (tally (stops_said (schedule_of context.now) trip (steps.head_said trip rest.now))) }
+        (tally (stops_said context.now trip (steps.head_said trip rest.now))) }
     ensures few { IsWithin (250 * (trip + 1)) sum.new }
 {
     match rest.split_first() {
@@ -82,10 +81,10 @@ fn add_trip<'r>(
 
 // How the stops of all trips read, by readings in the order of their trips.
 fn sum_of(context: &Context<'_>, journeys: &[DatedReading]) -> Tally
-    requires { AllByRecursion (IsServable (schedule_of context.now)) journeys.now }
+    requires { AllByRecursion (IsServable context.now) journeys.now }
     ensures { (said : ℕ → Option readings.JourneyReading) → AreSaid said 0 journeys.now
-        → result ≡ tally (all_below (λ trip. stops_said (schedule_of context.now) trip (said trip))
-        (length context.now.table.now.trips)) }
+        → result ≡ tally (all_below (λ trip. stops_said context.now trip (said trip))
+        (length context.now.table.trips)) }
 {
     let mut sum = Tally {
         skipped: 0,
@@ -106,9 +105,9 @@ pub(crate) fn read_tally(
     context: &Context<'_>,
     feed: &Feed,
 ) -> Result<Tally, AllocError>
-    requires { HasOneDay context.now.window.now }
+    requires { HasOneDay context.now.window }
     ensures { IfOk result (λ found.
-        found ≡ tally (spec.all_read (schedule_of context.now) feed.now)) }
+        found ≡ tally (spec.all_read context.now feed.now)) }
 {
     let reading = readings_of(alloc, feed, context)?;
     Ok(sum_of(context, reading.journeys.as_slice()))

@@ -1,4 +1,4 @@
-//! The sample's deliveries, each taken by the gateway's state behind those before.
+//! The sample's deliveries, each taken by the gateway's state after those before.
 ghost use Rattle.std.specs.Prelude.{◌≡◌, [], false, IfErr, List};
 ghost use Rattle.gw_base.specs.Answers.{UnlessFree};
 ghost use Rattle.gateway_core.specs.Arrivals.{Arrival};
@@ -12,12 +12,10 @@ ghost use Rattle.sample_run.specs.Steps.{Takes, TakesAll};
 use crate::fault::SampleFault;
 use crate::made;
 use gateway_core::Gateway;
+use gw_base::BODY_LIMIT;
 use sample_maker::Maker;
 use siri_calls::DeliveryFault;
 use std::alloc::Global;
-
-/// The most bytes that a delivery may have.
-const BODY_LIMIT: usize = 16_777_216;
 
 // The end that a fault of a delivery is.
 fn delivery_end(fault: DeliveryFault) -> SampleFault
@@ -36,7 +34,7 @@ fn delivery_end(fault: DeliveryFault) -> SampleFault
 fn take_body(alloc: Global, gate: &mut Gateway, body: &[u8]) -> Result<(), SampleFault>
     ensures told { (arrivals : List Arrival) → Stands gate.old arrivals
         → UnlessFree is_free result
-        (Takes (steps.Taken gate.old.setting arrivals body.now) arrivals gate.new) }
+        (Takes (steps.IsTaken gate.old.setting arrivals body.now) arrivals gate.new) }
     ensures setting { gate.new.setting ≡ gate.old.setting }
     ensures read { IfErr result (λ end. is_unread end ≡ false) }
 {
@@ -50,11 +48,11 @@ fn take_body(alloc: Global, gate: &mut Gateway, body: &[u8]) -> Result<(), Sampl
 fn take(alloc: Global, gate: &mut Gateway, text: &[u8]) -> Result<(), SampleFault>
     ensures told { (arrivals : List Arrival) → Stands gate.old arrivals
         → UnlessFree is_free result
-        (Takes (steps.Delivered gate.old.setting arrivals text.now) arrivals gate.new) }
+        (Takes (steps.IsDelivered gate.old.setting arrivals text.now) arrivals gate.new) }
     ensures setting { gate.new.setting ≡ gate.old.setting }
     ensures read { IfErr result (λ end. is_unread end ≡ false) }
 {
-    if text.len() > BODY_LIMIT {
+    if text.len() as u64 > BODY_LIMIT {
         return Err(SampleFault::TooLong);
     }
     take_body(alloc, gate, text)

@@ -3,7 +3,7 @@ ghost use Rattle.std.specs.Prelude.{◌≡◌, false, IfErr, IfOk, List};
 ghost use Rattle.gw_base.specs.Answers.{UnlessFree};
 ghost use Rattle.gw_base.specs.declared.messages.Entity as messages;
 ghost use Rattle.gw_base.specs.declared.messages.Feed as feeds;
-ghost use Rattle.feed_messages.specs.Tables.{MeansFeed};
+ghost use Rattle.feed_reading.specs.Tables.{MeansFeed};
 ghost use Rattle.gateway_core.specs.Arrivals.{Arrival};
 ghost use Rattle.gateway_core.specs.Feeds.{IsFeedOf};
 ghost use Rattle.gateway_core.specs.Recording.{IsRebuiltOf};
@@ -51,7 +51,7 @@ fn feed_end(fault: FeedFault) -> SampleFault
 
 // The feed that bytes mean.
 fn meant(alloc: Global, bytes: &[u8]) -> Result<Feed, SampleFault>
-    ensures told { UnlessFree is_free result (steps.FeedOf bytes.now) }
+    ensures told { UnlessFree is_free result (steps.IsFeedIn bytes.now) }
     ensures only { (other : feeds.Feed) → MeansFeed bytes.now other → IfOk result (λ feed. feed ≡ other) }
     ensures read { IfErr result (λ end. is_unread end ≡ false) }
 {
@@ -67,7 +67,7 @@ fn counts_of(alloc: Global, gate: &Gateway, bytes: &[u8]) -> Result<SampleCounts
     requires day { HasMadeDay gate.now.setting }
     requires feed { (entities : List messages.Entity) × IsFeedOf made_at entities bytes.now }
     ensures told { (arrivals : List Arrival) → Stands gate.now arrivals
-        → UnlessFree is_free result (steps.CountsOf gate.now.setting arrivals bytes.now) }
+        → UnlessFree is_free result (steps.IsCountsOf gate.now.setting arrivals bytes.now) }
     ensures read { IfErr result (λ end. is_unread end ≡ false) }
 {
     let feed = match meant(alloc, bytes) {
@@ -90,7 +90,7 @@ pub(crate) fn counted(alloc: Global, gate: &Gateway) -> Result<SampleCounts, Sam
     requires stands { (arrivals : List Arrival) × Stands gate.now arrivals }
     requires day { HasMadeDay gate.now.setting }
     ensures told { (arrivals : List Arrival) → Stands gate.now arrivals
-        → UnlessFree is_free result (steps.Counted gate.now.setting arrivals) }
+        → UnlessFree is_free result (steps.IsCounted gate.now.setting arrivals) }
     ensures read { IfErr result (λ end. is_unread end ≡ false) }
 {
     let sink = written(alloc, gate)?;

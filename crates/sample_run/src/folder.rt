@@ -70,7 +70,7 @@ fn folder_end(fault: TableFault) -> SampleFault
 
 // The timetable of the made folder.
 fn table(alloc: Global, maker: &Maker) -> Result<Timetable, SampleFault>
-    ensures told { UnlessFree is_free result (steps.MadeFolder maker.now.trips maker.now.stops) }
+    ensures told { UnlessFree is_free result (steps.IsMadeFolder maker.now.trips maker.now.stops) }
     ensures read { IfErr result (λ end. is_unread end ≡ false) }
 {
     let files = files(alloc, maker)?;
@@ -83,7 +83,7 @@ fn table(alloc: Global, maker: &Maker) -> Result<Timetable, SampleFault>
 
 // The timetable with the zone and the window of the sample's day.
 fn over(table: Timetable) -> Result<Setting, SampleFault>
-    ensures told { UnlessFree is_free result (steps.Windowed table) }
+    ensures told { UnlessFree is_free result (steps.IsWindowed table) }
     ensures day { IfOk result HasMadeDay }
     ensures read { IfErr result (λ end. is_unread end ≡ false) }
 {
@@ -99,7 +99,7 @@ fn over(table: Timetable) -> Result<Setting, SampleFault>
 
 /// What the sample is worked over.
 pub(crate) fn setting(alloc: Global, maker: &Maker) -> Result<Setting, SampleFault>
-    ensures told { UnlessFree is_free result (steps.MadeSetting maker.now.trips maker.now.stops) }
+    ensures told { UnlessFree is_free result (steps.IsMadeSetting maker.now.trips maker.now.stops) }
     ensures day { IfOk result HasMadeDay }
     ensures read { IfErr result (λ end. is_unread end ≡ false) }
 {

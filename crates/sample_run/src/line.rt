@@ -8,7 +8,7 @@ use gw_base::Bytes;
 use itoa::Buffer;
 use std::alloc::{AllocError, Global};
 
-// Adds a number behind what leads to it.
+// Adds a number after what leads to it.
 #[tactic(auto, unfolding(sample_maker::specs::Pieces::led))]
 fn put(line: &mut Bytes, lead: &[u8], number: u64) -> Result<(), AllocError>
     ensures { OnOk result (line.new ≡ line.old ++ led lead.now (decimal number)) }

@@ -24,7 +24,7 @@ fn deliveries_counted(
     requires first { maker.old.given ≡ 0 }
     requires day { HasMadeDay setting }
     ensures told { UnlessFree is_free result
-        (steps.DeliveriesCounted maker.old.seed maker.old.trips maker.old.stops setting) }
+        (steps.IsCountOfDeliveries maker.old.seed maker.old.trips maker.old.stops setting) }
     ensures read { IfErr result (λ end. is_unread end ≡ false) }
 {
     let mut gate = Gateway::start(alloc, setting)?;
@@ -45,7 +45,7 @@ pub fn run_sample(
     stops: u32,
 ) -> Result<SampleCounts, SampleFault>
     requires { IsSample seed trips stops }
-    ensures sample { UnlessFree is_free result (steps.Sample seed trips stops) }
+    ensures sample { UnlessFree is_free result (steps.IsCountOfSample seed trips stops) }
     ensures read { IfErr result (λ end. is_unread end ≡ false) }
 {
     let mut maker = Maker::make(seed, trips, stops);

@@ -64,7 +64,7 @@ fn started(rt: &impl Abort, alloc: Global, keep: Option<u8>) -> Gateway {
     Gateway::start(alloc, setting(rt, alloc, keep)).expect(rt, "memory")
 }
 
-// Adds an item: its words, each behind its piece.
+// Adds an item: its words, each after its piece.
 fn add_item(body: &mut Bytes, form: &Form, item: &[&str]) -> Result<(), AllocError> {
     for (before, word) in form.before.iter().zip(item.iter()) {
         body.extend(before.as_bytes())?;

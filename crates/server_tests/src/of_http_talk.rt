@@ -101,7 +101,7 @@ static INPUTS: [(&[u8], Want); 62] = [
         b"post /siri/sx HTTP/1.1\r\n\r\n",
         Err(Refusal::Method(Allow::Post)),
     ),
-    // bodies: whole, with more behind, cut, and of a GET
+    // bodies: whole, with more after, cut, and of a GET
     (
         b"POST /siri/et HTTP/1.1\nContent-Length: 5\n\n[[[[[",
         Ok((Target::EtPost, b"[[[[[")),
@@ -181,7 +181,7 @@ static INPUTS: [(&[u8], Want); 62] = [
         b"POST /gtfs-rt HTTP/1.1\nContent-Length : 5\n\n12345",
         Err(Refusal::Head),
     ),
-    // a transfer coding before or behind a length
+    // a transfer coding before or after a length
     (
         b"POST /gtfs-rt HTTP/1.1\nTransfer-Encoding: chunked\nContent-Length: 5\n\n12345",
         Err(Refusal::NeedLength),

@@ -31,9 +31,7 @@ use Rattle.show_command.specs.Lines.{AreMoments}
 -- what is read of a feed fits its schedule
 pub servable_fits : (schedule : Schedule) (journeys : List DatedReading) → All (IsServable schedule) journeys
     → All (λ one. FitsSchedule schedule one.trip.0 one.day one.reading) journeys
-servable_fits schedule journeys servable = λ place one within.
-    let each = servable place one within in
-    record { trip_in = each.trip_in; run = each.run; on_day = each.on_day; fits = each.fits }
+servable_fits schedule journeys servable = λ place one within. (servable place one within).fits_schedule
 
 -- what holds of all holds of the one at a place
 pub at_place : {X : Type 0} (P : X → Type 0) (xs : List X) (place : ℕ) (x : X) → All P xs → place < length xs → x ≡ get_or xs place x → P x

@@ -1,6 +1,6 @@
 -- What `show` prints of a feed that was read: a line for each cancelled journey and for each stop of the others, a line
 -- for each entity that was set aside, and the line of counts.
-use Rattle.std.specs.Prelude.{ℕ, ℤ, List, [], ◌++◌, codes, decimal, length, slice_get, unwrap_or}
+use Rattle.std.specs.Prelude.{ℕ, ℤ, List, ◌++◌, codes, decimal, length}
 use Rattle.std.specs.List.{enumerate_from, flat_map, zip}
 use Rattle.service_day.specs.DayTexts.{dashed_text}
 use Rattle.gw_base.specs.Moments.{IsMoment}
@@ -8,6 +8,7 @@ use Rattle.service_day.specs.Utc.{moment_text}
 use Rattle.stop_schedule.specs.Table.{Table}
 use Rattle.stop_schedule.specs.declared.stop_times.StopRow.{StopRow}
 use Rattle.journey_model.specs.FaultTexts.{fault_text}
+use Rattle.journey_model.specs.Ids.{id_of}
 use Rattle.journey_model.specs.Schedules.{Schedule}
 use Rattle.journey_model.specs.declared.fault.Fault.{Fault}
 use Rattle.journey_model.specs.declared.readings.DatedReading.{DatedReading}
@@ -16,10 +17,6 @@ use Rattle.journey_model.specs.declared.readings.JourneyReading.TheVariants.{Can
 use Rattle.journey_model.specs.declared.readings.StopReading.{StopReading}
 use Rattle.journey_model.specs.declared.readings.StopReading.TheVariants.{Absent, Skipped, Timed}
 use Rattle.propagation.specs.declared.feeds.FeedReading.{FeedReading}
-
--- the id of that number
-abbrev pub id_of : List (List ℕ) → ℕ → List ℕ
-id_of ids number = unwrap_or (slice_get ids number) []
 
 -- the words for a journey: its service day as `YYYY-MM-DD` and the id of its trip
 abbrev pub journey_name : ℤ → List ℕ → List ℕ

@@ -1,8 +1,7 @@
 //! The lines of what a feed says.
 ghost use Rattle.std.specs.Prelude.{◌≡◌, ◌++◌, OnOk, IfOk, All};
 ghost use Rattle.std.specs.List.{flat_map};
-ghost use Rattle.stop_schedule.specs.Seen.{seen};
-ghost use Rattle.journey_model.specs.Schedules.{FitsSchedule, schedule_of};
+ghost use Rattle.journey_model.specs.Schedules.{FitsSchedule};
 ghost use Rattle.show_command.specs.Lines as spec;
 
 use crate::stop_lines::{add_cancelled, add_stops, journey_name};
@@ -21,10 +20,10 @@ fn add_running(
     readings: &[StopReading],
 ) -> Result<(), AllocError>
     requires reading { one.now.reading ≡ JourneyReading.Stops readings.now }
-    requires fits { FitsSchedule (schedule_of context.now)
+    requires fits { FitsSchedule context.now
         one.now.trip.0 one.now.day one.now.reading }
     ensures { OnOk result (lines.new
-        ≡ lines.old ++ spec.reading_lines (seen context.now.table.now) one.now.trip.0 name.now
+        ≡ lines.old ++ spec.reading_lines context.now.table one.now.trip.0 name.now
         one.now.reading) }
 {
     let Some(dated) = context.dated(one.trip, one.day) else {
@@ -40,9 +39,9 @@ fn add_journey(
     context: &Context<'_>,
     one: &DatedReading,
 ) -> Result<(), AllocError>
-    requires { FitsSchedule (schedule_of context.now) one.now.trip.0 one.now.day one.now.reading }
+    requires { FitsSchedule context.now one.now.trip.0 one.now.day one.now.reading }
     ensures { OnOk result
-        (lines.new ≡ lines.old ++ spec.journey_lines (seen context.now.table.now) one.now) }
+        (lines.new ≡ lines.old ++ spec.journey_lines context.now.table one.now) }
 {
     let name = journey_name(alloc, one.day, context.table.trip_id(one.trip))?;
     let name = name.as_slice();
@@ -61,11 +60,11 @@ fn add_journeys(
     context: &Context<'_>,
     journeys: &[DatedReading],
 ) -> Result<(), AllocError>
-    requires { All (λ one. FitsSchedule (schedule_of context.now) one.trip.0 one.day one.reading)
+    requires { All (λ one. FitsSchedule context.now one.trip.0 one.day one.reading)
         journeys.now }
     ensures { OnOk result
         (lines.new ≡ lines.old
-        ++ flat_map (spec.journey_lines (seen context.now.table.now)) journeys.now) }
+        ++ flat_map (spec.journey_lines context.now.table) journeys.now) }
 {
     for one in journeys {
         add_journey(alloc, lines, context, one)?;
@@ -120,9 +119,9 @@ pub fn show_lines(
     context: &Context<'_>,
     reading: &FeedReading,
 ) -> Result<Bytes, AllocError>
-    requires { All (λ one. FitsSchedule (schedule_of context.now) one.trip.0 one.day one.reading)
+    requires { All (λ one. FitsSchedule context.now one.trip.0 one.day one.reading)
         reading.now.journeys }
-    ensures { IfOk result (λ lines. lines ≡ spec.shown (schedule_of context.now) reading.now) }
+    ensures { IfOk result (λ lines. lines ≡ spec.shown context.now reading.now) }
 {
     let report = &reading.report;
     let aside = report.aside.as_slice();

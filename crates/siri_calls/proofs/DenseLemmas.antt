@@ -36,7 +36,7 @@ none-before place from (one ∷ others) less rising =
     let behind : from ≤ one.0 = leb-true from one.0 (first-of (nat_le from one.0) _ rising) in
     rw (other place one.0 (omega arith)) (none-before place (one.0 + 1) others (omega arith) (second-of (nat_le from one.0) _ rising))
 
--- a call says nothing of the places behind its own
+-- a call says nothing of the places after its own
 passed : (run : Run) (one : ℕ × (ℕ × Call)) (others : List (ℕ × (ℕ × Call))) (from n : ℕ) → one.0 < from
     → map (dense run (one ∷ others)) (range_with_len from n) ≡ map (dense run others) (range_with_len from n)
 passed run one others from zero less = refl

@@ -3,7 +3,7 @@ use Rattle.std.proofs.Common.{◌≡◌, ◌≤◌, ◌+◌, ◌-◌, ℕ, Bool,
 use Rattle.std.specs.Option.{ok_or}
 use Rattle.std.proofs.lemmas.Bool.{leb-true}
 use Rattle.std.proofs.lemmas.Bool.Decides.{nat_tests}
-use Rattle.journey_model.specs.Chains.{◌>>=◌}
+use Rattle.gw_base.specs.Chains.{◌>>=◌}
 use Rattle.journey_model.specs.Matching.{call_place, first_place, fits_order, is_of_stop, place_behind, stands_at}
 use Rattle.journey_model.specs.Runs.{Run}
 use Rattle.journey_model.specs.declared.fault.Fault.{Fault}
@@ -22,7 +22,7 @@ first-behind stop from stops place at = by (position (is_of_stop stop) (drop fro
     by None e = absurd (cc)
     by (Some p) e = let same : p + from ≡ place = cc in omega arith
 
--- the place of a call is behind the one before
+-- the place of a call is after the one before
 call-behind : (stops : List StopRow) (after : Option ℕ) (stop : ℕ) (order : Option ℕ) (place : ℕ) → call_place stops after stop order ≡ Some place
     → place_behind after ≤ place
 call-behind stops after stop None place at = first-behind stop (place_behind after) stops place at
@@ -40,7 +40,7 @@ call-behind stops after stop (Some order) place at = by (fits_order stop (place_
 le-true : (n m : ℕ) → n ≤ m → nat_le n m ≡ true
 le-true n m less = grind (arith, nat_tests)
 
--- the calls with their places rise, from the place behind the one before
+-- the calls with their places rise, from the place after the one before
 pub placed-rise : (stops : List StopRow) (after : Option ℕ) (named placed : List (ℕ × (ℕ × Call))) → placed_calls stops after named ≡ Ok placed
     → rise_from (place_behind after) placed ≡ true
 placed-rise stops after [] placed e = let none : [] ≡ placed = cc in rw (← none) refl

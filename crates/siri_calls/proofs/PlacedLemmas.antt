@@ -6,7 +6,7 @@ use Rattle.std.specs.List.{list_any}
 use Rattle.std.specs.Option.{ok_or}
 use Rattle.std.specs.Prelude.{is_some, not, option_and_then}
 use Rattle.std.specs.Str.{bytes_eq}
-use Rattle.journey_model.specs.Chains.{◌>>=◌}
+use Rattle.gw_base.specs.Chains.{◌>>=◌}
 use Rattle.journey_model.specs.Matching.{call_place, first_place, fits_order, is_of_stop, place_behind, stands_at}
 use Rattle.journey_model.specs.Runs.{Run}
 use Rattle.journey_model.specs.declared.fault.Fault.{Fault}
@@ -59,7 +59,7 @@ nothing : {A : Type 0} (all : Result (List A) Fault) → all ≡ ok_map (λ rest
 nothing (Ok rest) = refl
 nothing (Err fault) = refl
 
--- one more in front of the others is one more behind the first
+-- one more in front of the others is one more after the first
 one-more : {A : Type 0} (front : List A) (x : A) (others : Result (List A) Fault)
     → ok_map (λ rest. front ++ rest) (others >>= λ found. Ok (x ∷ found)) ≡ ok_map (λ rest. (front ++ x ∷ []) ++ rest) others
 one-more front x (Ok others) = ap Ok (sym (append_assoc front (x ∷ []) others))

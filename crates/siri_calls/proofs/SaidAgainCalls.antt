@@ -11,6 +11,7 @@ use Rattle.service_day.specs.declared.zones.Rules.{Rules}
 use Rattle.stop_schedule.specs.Planned.{planned}
 use Rattle.stop_schedule.specs.Stops.{is_timed}
 use Rattle.stop_schedule.specs.declared.stop_times.StopRow.{StopRow}
+use Rattle.journey_model.specs.Ids.{id_of}
 use Rattle.journey_model.specs.Matching.{call_place, fits_order, is_of_stop, place_behind, stands_at}
 use Rattle.journey_model.specs.Readings.{are_near, is_near}
 use Rattle.journey_model.specs.Runs.{Run, planned_at}
@@ -19,7 +20,7 @@ use Rattle.journey_model.specs.declared.readings.JourneyReading.TheVariants.{Sto
 use Rattle.journey_model.specs.declared.readings.StopReading.{StopReading}
 use Rattle.journey_model.specs.declared.readings.StopReading.TheVariants.{Absent, Skipped, Timed}
 use Rattle.siri_calls.specs.Calls.{call, calls, event, statuses}
-use Rattle.siri_calls.specs.DeliveryTree.{call_tree, call_trees_from, id_at}
+use Rattle.siri_calls.specs.DeliveryTree.{call_tree, call_trees_from}
 use Rattle.siri_json.specs.Fields.{optional_member, required_member}
 use Rattle.siri_json.specs.Forms.{filled, flag, text, whole}
 use Rattle.siri_calls.specs.Journeys.{Call}
@@ -49,7 +50,7 @@ departure_said (Timed arrival departure) = Some departure
 -- the call at a stop, which counts from 1
 abbrev said_call : Run → ℕ → StopRow → StopReading → Call
 said_call run order row reading = record {
-  stop = id_at run.ids row.stop.0;
+  stop = id_of run.ids row.stop.0;
   order = Some order;
   skip = skips reading;
   arrival = arrival_said reading;
@@ -70,25 +71,25 @@ call-by : (zone : Rules) (tree : Data) (stop : List ℕ) (order : ℕ) (skip : B
     → call zone tree ≡ Ok (Some (record { stop = stop; order = Some order; skip = skip; arrival = arrival; departure = departure }))
 call-by zone tree stop order skip arrival departure extra ref number said first last = rw (extra, ref, number, said, first, last) refl
 
-call-read : (zone : Rules) (run : Run) (order : ℕ) (row : StopRow) (reading : StopReading) → IsSoundRun run → 0 < length (id_at run.ids row.stop.0) → is_timed row ≡ true
+call-read : (zone : Rules) (run : Run) (order : ℕ) (row : StopRow) (reading : StopReading) → IsSoundRun run → 0 < length (id_of run.ids row.stop.0) → is_timed row ≡ true
     → is_near (planned run.start row) reading ≡ true → call zone (call_tree run order row reading) ≡ Ok (Some (said_call run order row reading))
 call-read zone run order row Absent sound id timed near =
     let tree = call_tree run order row Absent in
-    let ref : required_member text Member.StopPointRef tree ≡ Ok (id_at run.ids row.stop.0) = rw (filled-some (id_at run.ids row.stop.0) id) refl in
-    call-by zone tree (id_at run.ids row.stop.0) order false None None refl ref refl refl refl refl
+    let ref : required_member text Member.StopPointRef tree ≡ Ok (id_of run.ids row.stop.0) = rw (filled-some (id_of run.ids row.stop.0) id) refl in
+    call-by zone tree (id_of run.ids row.stop.0) order false None None refl ref refl refl refl refl
 call-read zone run order row Skipped sound id timed near =
     let tree = call_tree run order row Skipped in
-    let ref : required_member text Member.StopPointRef tree ≡ Ok (id_at run.ids row.stop.0) = rw (filled-some (id_at run.ids row.stop.0) id) refl in
-    call-by zone tree (id_at run.ids row.stop.0) order true None None refl ref refl refl refl refl
+    let ref : required_member text Member.StopPointRef tree ≡ Ok (id_of run.ids row.stop.0) = rw (filled-some (id_of run.ids row.stop.0) id) refl in
+    call-by zone tree (id_of run.ids row.stop.0) order true None None refl ref refl refl refl refl
 call-read zone run order row (Timed arrival departure) sound id timed near =
     let tree = call_tree run order row (Timed arrival departure) in
     let said = read-moments run.start row arrival departure sound.start timed near in
-    let ref : required_member text Member.StopPointRef tree ≡ Ok (id_at run.ids row.stop.0) = rw (filled-some (id_at run.ids row.stop.0) id) refl in
+    let ref : required_member text Member.StopPointRef tree ≡ Ok (id_of run.ids row.stop.0) = rw (filled-some (id_of run.ids row.stop.0) id) refl in
     let first : event zone false Member.ActualArrivalTime Member.ExpectedArrivalTime tree ≡ Ok (Some arrival)
     = rw (filled-some (moment_text arrival) (some-moment_text arrival), moment_of-moment_text zone arrival said.0) refl in
     let last : event zone false Member.ActualDepartureTime Member.ExpectedDepartureTime tree ≡ Ok (Some departure)
     = rw (filled-some (moment_text departure) (some-moment_text departure), moment_of-moment_text zone departure said.1) refl in
-    call-by zone tree (id_at run.ids row.stop.0) order false (Some arrival) (Some departure) refl ref refl refl first last
+    call-by zone tree (id_of run.ids row.stop.0) order false (Some arrival) (Some departure) refl ref refl refl first last
 
 -- the calls at the stops from a place on
 abbrev pub read_from : Run → ℕ → List StopRow → List StopReading → List (Option Call)
@@ -110,7 +111,7 @@ calls-read zone run place (row ∷ rows) (reading ∷ readings) sound known time
     let knowns = and_parts (nat_lt row.stop.0 (length run.ids)) _ known in
     let times = and_parts (is_timed row) (list_all is_timed rows) timed in
     let nears = and_parts (is_near (planned run.start row) reading) (are_near run.start rows readings) near in
-    let id = some-id (id_at run.ids row.stop.0) (id-at run.ids row.stop.0 sound.ids (ltb-true _ _ knowns.0)) in
+    let id = some-id (id_of run.ids row.stop.0) (id-at run.ids row.stop.0 sound.ids (ltb-true _ _ knowns.0)) in
     calls-cons zone (call_tree run (place + 1) row reading) (call_trees_from run (place + 1 + 1) rows readings) (Some (said_call run (place + 1) row reading)) (read_from run (place + 1) rows readings)
     (call-read zone run (place + 1) row reading sound id times.0 nears.0)
     (calls-read zone run (place + 1) rows readings sound knowns.1 times.1 nears.1)
@@ -164,7 +165,7 @@ among (first ∷ rows) (suc i) row rest e = rw (among rows i row rest e) (by (is
     by false = refl
 
 stop-named : (run : Run) (place : ℕ) (row : StopRow) (rest : List StopRow) → IsSoundRun run → row.stop.0 < length run.ids → drop place run.stops ≡ row ∷ rest
-    → stop_named run (id_at run.ids row.stop.0) ≡ Some row.stop.0
+    → stop_named run (id_of run.ids row.stop.0) ≡ Some row.stop.0
 stop-named run place row rest sound known at = rw (position-id run.ids row.stop.0 sound.ids known, among run.stops place row rest at) refl
 
 named-cons : (run : Run) (one : ℕ × Call) (others : List (ℕ × Call)) (stop : ℕ) (rest : List (ℕ × (ℕ × Call))) → stop_named run one.1.stop ≡ Some stop → stops_named run others ≡ Ok rest

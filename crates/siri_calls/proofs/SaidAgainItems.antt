@@ -11,7 +11,8 @@ use Rattle.service_day.specs.Utc.{moment_text}
 use Rattle.service_day.specs.declared.zones.Rules.{Rules}
 use Rattle.stop_schedule.specs.Sound.{IsSound}
 use Rattle.stop_schedule.specs.declared.stop_times.StopRow.{StopRow}
-use Rattle.journey_model.specs.Chains.{◌>>=◌}
+use Rattle.gw_base.specs.Chains.{◌>>=◌}
+use Rattle.journey_model.specs.Ids.{id_of}
 use Rattle.journey_model.specs.Readings.{fits_trip}
 use Rattle.journey_model.specs.Records.{Recorded}
 use Rattle.journey_model.specs.Runs.{Run}
@@ -22,7 +23,7 @@ use Rattle.journey_model.specs.declared.readings.JourneyReading.{JourneyReading}
 use Rattle.journey_model.specs.declared.readings.JourneyReading.TheVariants.{Cancelled, Stops}
 use Rattle.journey_model.specs.declared.readings.StopReading.{StopReading}
 use Rattle.siri_calls.specs.Calls.{call_trees, calls, calls_under}
-use Rattle.siri_calls.specs.DeliveryTree.{call_trees_from, delivery_tree, frame_tree, framed_ref, id_at, is_cancelled_journey, items_of, journey_of_run, journey_on, journey_tree, stop_readings, service_tree, timetable_tree}
+use Rattle.siri_calls.specs.DeliveryTree.{call_trees_from, delivery_tree, frame_tree, framed_ref, is_cancelled_journey, items_of, journey_of_run, journey_on, journey_tree, stop_readings, service_tree, timetable_tree}
 use Rattle.siri_json.specs.Fields.{required_member}
 use Rattle.siri_json.specs.Forms.{day, is_object, listed, object_form, text}
 use Rattle.siri_calls.specs.Frame.{Place, delivery_place, frame_place, item_place, items}
@@ -71,24 +72,24 @@ abbrev head_of : Schedule → ℤ → DatedReading → Header
 head_of schedule recorded one = record {
   at = (recorded, 0);
   day = one.day;
-  trip_id = id_at schedule.table.trips one.trip.0;
+  trip_id = id_of schedule.table.trips one.trip.0;
   cancelled = is_cancelled_journey one.reading;
   extra = false;
 }
 
 header-said : (schedule : Schedule) (frame : Place) (recorded : ℤ) (one : DatedReading) (run : Run) → IsMoment recorded → IsDay one.day
-    → 0 < length (id_at schedule.table.trips one.trip.0)
+    → 0 < length (id_of schedule.table.trips one.trip.0)
     → header schedule.zone (item_place frame (journey_of_run schedule recorded one run)) ≡ Ok (head_of schedule recorded one)
 header-said schedule frame recorded one run at on id =
     let place = item_place frame (journey_of_run schedule recorded one run) in
-    let reference = framed_ref one.day (id_at schedule.table.trips one.trip.0) in
+    let reference = framed_ref one.day (id_of schedule.table.trips one.trip.0) in
     let time : recorded_at schedule.zone place ≡ Ok (recorded, 0)
     = rw (filled-some (moment_text recorded) (some-moment_text recorded), moment_of-moment_text schedule.zone recorded at) refl in
     let date : required_member day Member.DataFrameRef reference ≡ Ok one.day
     = rw (filled-some (dashed_text one.day) (some-dashed_text one.day), day_of-dashed_text one.day on) refl in
-    let name : required_member text Member.DatedVehicleJourneyRef reference ≡ Ok (id_at schedule.table.trips one.trip.0)
-    = rw (filled-some (id_at schedule.table.trips one.trip.0) id) refl in
-    header-by schedule.zone place (recorded, 0) reference one.day (id_at schedule.table.trips one.trip.0) (is_cancelled_journey one.reading) false time refl date name refl
+    let name : required_member text Member.DatedVehicleJourneyRef reference ≡ Ok (id_of schedule.table.trips one.trip.0)
+    = rw (filled-some (id_of schedule.table.trips one.trip.0) id) refl in
+    header-by schedule.zone place (recorded, 0) reference one.day (id_of schedule.table.trips one.trip.0) (is_cancelled_journey one.reading) false time refl date name refl
 
 -- ---- how it is judged
 
@@ -150,7 +151,7 @@ verdict-said schedule frame moment one sound at h =
     let all = calls_of run one.reading in
     let tree = journey_of_run schedule recorded one run in
     let place = item_place frame tree in
-    let id = some-id (id_at schedule.table.trips one.trip.0) (id-at schedule.table.trips one.trip.0 sound.trips h.servable.trip_in) in
+    let id = some-id (id_of schedule.table.trips one.trip.0) (id-at schedule.table.trips one.trip.0 sound.trips h.servable.trip_in) in
     let said = header-said schedule frame recorded one run when h.is_day id in
     let calls-read = calls-said schedule recorded one run one.reading refl sound-one h.servable.fits in
     let trip = trip-named schedule head one.trip.0 refl (position-id schedule.table.trips one.trip.0 sound.trips h.servable.trip_in) in

@@ -9,6 +9,7 @@ use Rattle.stop_schedule.specs.Planned.{planned}
 use Rattle.stop_schedule.specs.Sound.{IsSound}
 use Rattle.stop_schedule.specs.Stops.{is_timed}
 use Rattle.stop_schedule.specs.declared.stop_times.StopRow.{StopRow}
+use Rattle.journey_model.specs.Ids.{id_of}
 use Rattle.journey_model.specs.Readings.{are_near, fits_trip, is_near}
 use Rattle.journey_model.specs.Runs.{Run}
 use Rattle.journey_model.specs.Schedules.{Schedule}
@@ -17,7 +18,7 @@ use Rattle.journey_model.specs.declared.readings.JourneyReading.{JourneyReading}
 use Rattle.journey_model.specs.declared.readings.JourneyReading.TheVariants.{Cancelled, Stops}
 use Rattle.journey_model.specs.declared.readings.StopReading.{StopReading}
 use Rattle.journey_model.specs.declared.readings.StopReading.TheVariants.{Absent, Skipped, Timed}
-use Rattle.siri_calls.specs.DeliveryTree.{call_tree, call_trees_from, delivery_tree, frame_tree, id_at, items_of, journey_of_run, journey_on, journey_tree, service_tree, skipped_at, stop_readings, timetable_tree}
+use Rattle.siri_calls.specs.DeliveryTree.{call_tree, call_trees_from, delivery_tree, frame_tree, items_of, journey_of_run, journey_on, journey_tree, service_tree, skipped_at, stop_readings, timetable_tree}
 use Rattle.siri_calls.specs.Sayable.{IsSayable}
 use Rattle.siri_calls.proofs.SaidAgainIds.{id-at, IsUtf8-id}
 use Rattle.service_day.proofs.MomentTextLemmas.{IsUtf8-dashed_text, IsUtf8-moment_text}
@@ -29,7 +30,7 @@ name : (letters : List ℕ) → are_ascii letters ≡ true → IsUtf8 letters
 name letters h = IsUtf8-are_ascii letters h
 
 -- the call at a stop
-plain-call : (run : Run) (order : ℕ) (row : StopRow) (reading : StopReading) → IsSoundRun run → order < 2 ^ 64 → IsUtf8 (id_at run.ids row.stop.0) → is_timed row ≡ true
+plain-call : (run : Run) (order : ℕ) (row : StopRow) (reading : StopReading) → IsSoundRun run → order < 2 ^ 64 → IsUtf8 (id_of run.ids row.stop.0) → is_timed row ≡ true
     → is_near (planned run.start row) reading ≡ true → IsPlain 1 (call_tree run order row reading)
 plain-call run order row Absent sound small id timed near =
     let plan = planned-moments run.start row sound.start timed in (
@@ -109,7 +110,7 @@ plain-calls run order (row ∷ rows) (reading ∷ readings) sound small known ti
     let knowns = and_parts (nat_lt row.stop.0 (length run.ids)) _ known in
     let times = and_parts (is_timed row) (list_all is_timed rows) timed in
     let nears = and_parts (is_near (planned run.start row) reading) (are_near run.start rows readings) near in
-    let id = IsUtf8-id (id_at run.ids row.stop.0) (id-at run.ids row.stop.0 sound.ids (ltb-true _ _ knowns.0)) in (
+    let id = IsUtf8-id (id_of run.ids row.stop.0) (id-at run.ids row.stop.0 sound.ids (ltb-true _ _ knowns.0)) in (
       plain-call run order row reading sound (omega arith) id times.0 nears.0,
       plain-calls run (order + 1) rows readings sound (omega arith) knowns.1 times.1 nears.1,
     )

@@ -21,7 +21,7 @@ use Rattle.serde_json.specs.Written.{outline, items_outline, members_outline, co
 use Rattle.serde_json.proofs.Numbers.{number_of-decimal}
 use Rattle.serde_json.proofs.Texts.{print-outline}
 
--- a name stands behind all names of members
+-- a name stands after all names of members
 abbrev pub is_behind : List ℕ → Members → Bool
 is_behind name no_members = true
 is_behind name (member other tree ms) = match_ordering (slice_cmp nat_cmp name other) false false true && is_behind name ms
@@ -53,7 +53,7 @@ abbrev mutual
   ArePlain room no_items = ⊤
   ArePlain room (item d ds) = IsPlain room d × ArePlain room ds
 
-  -- behind these members
+  -- after these members
   pub HasPlain : ℕ → Members → Members → Type 0
   HasPlain room front no_members = ⊤
   HasPlain room front (member name d ms) =
@@ -103,7 +103,7 @@ mutual
   members-nest room front (member name d ms) h =
       omega (arith, nests room d h.2, members-nest room (joined front (member name d no_members)) ms h.3)
 
--- ---- a member whose name is behind all goes last
+-- ---- a member whose name is after all goes last
 
 put-last : (name : List ℕ) (d : Data) (front : Members) → is_behind name front ≡ true → put name d front ≡ joined front (member name d no_members)
 put-last name d no_members h = refl

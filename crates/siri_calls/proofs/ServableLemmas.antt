@@ -8,7 +8,7 @@ use Rattle.std.specs.Str.{bytes_eq}
 use Rattle.std.proofs.lemmas.Bool.Decides.{nat_tests}
 use Rattle.std.proofs.lemmas.Int.{ints}
 use Rattle.std.proofs.lemmas.List.Quantifiers.{position-Some}
-use Rattle.journey_model.specs.Chains.{◌>>=◌}
+use Rattle.gw_base.specs.Chains.{◌>>=◌}
 use Rattle.journey_model.specs.Propagation.{timed}
 use Rattle.journey_model.specs.Readings.{are_near, fits_trip, is_near}
 use Rattle.journey_model.specs.Records.{recorded}
@@ -188,11 +188,8 @@ served-by schedule head all trip reading one known h trip-is day-is reading-is =
         let at : run_on schedule one.trip.0 one.day ≡ Some run = rw (← trip-is, ← day-is) found.is in
         let fits : fits_trip run.start run.stops one.reading ≡ true = rw (← reading-is) (journey-fits run head.cancelled all reading told) in
         record {
-          trip_in = rw (← trip-is) known;
+          fits_schedule = record { trip_in = rw (← trip-is) known; run = run; on_day = at; fits = fits };
           runs = rw (← trip-is, ← day-is) found.runs;
-          run = run;
-          on_day = at;
-          fits = fits;
         }
 
 pub servable : (schedule : Schedule) (head : Header) (all : List (Option Call)) (one : JourneyRecord) (count : ℕ)

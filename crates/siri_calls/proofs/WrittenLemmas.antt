@@ -8,12 +8,13 @@ use Rattle.service_day.specs.Utc.{moment_text}
 use Rattle.serde_json.specs.Data.{Items, array, boolean, string}
 use Rattle.serde_json.specs.Written.{comma_if, compact_text, items_text}
 use Rattle.stop_schedule.specs.declared.stop_times.StopRow.{StopRow}
+use Rattle.journey_model.specs.Ids.{id_of}
 use Rattle.journey_model.specs.Runs.{Run}
 use Rattle.journey_model.specs.Schedules.{Schedule, run_on}
 use Rattle.journey_model.specs.declared.readings.DatedReading.{DatedReading}
 use Rattle.journey_model.specs.declared.readings.StopReading.{StopReading}
 use Rattle.journey_model.specs.declared.readings.StopReading.TheVariants.{Absent, Skipped, Timed}
-use Rattle.siri_calls.specs.DeliveryTree.{call_tree, call_trees_from, delivery_text, framed_ref, id_at, is_cancelled_journey, items_of, journey_of_run, journey_on, journey_tree, moment_tree, object_of, stop_readings}
+use Rattle.siri_calls.specs.DeliveryTree.{call_tree, call_trees_from, delivery_text, framed_ref, is_cancelled_journey, items_of, journey_of_run, journey_on, journey_tree, moment_tree, object_of, stop_readings}
 use Rattle.siri_calls.specs.DeliveryTexts.{call_text, calls_text, closing_text, frame_ref_text, head_text, journey_text, journey_text_on, journeys_text, led, led_number, opening_text, tail_text}
 
 call : (run : Run) (order : ℕ) (row : StopRow) (reading : StopReading) → compact_text (call_tree run order row reading) ≡ call_text run order row reading
@@ -65,7 +66,7 @@ journey : (schedule : Schedule) (recorded : ℤ) (one : DatedReading) (run : Run
 unfolding journey_text
 journey schedule recorded one run =
     journey_by (is_cancelled_journey one.reading) (items_of (call_trees_from run 1 run.stops (stop_readings run one.reading)))
-    one.day (id_at schedule.table.trips one.trip.0) (schedule.table.route_of one.trip.0) recorded
+    one.day (id_of schedule.table.trips one.trip.0) (schedule.table.route_of one.trip.0) recorded
     (calls_text false run 1 run.stops (stop_readings run one.reading)) (calls run run.stops (stop_readings run one.reading) false 1)
 
 journey_at : (schedule : Schedule) (moment : ℤ) (one : DatedReading) (run : Option Run)
@@ -101,7 +102,7 @@ dropped : {A : Type 0} (xs : List A) (place : ℕ) (x : A) → slice_get xs plac
 dropped xs place x here =
     drop_more xs place x (slice_get_within xs place x here) ∙ ap (λ y. y ∷ drop (place + 1) xs) (get_or_from_slice_get xs place x x here)
 
--- ---- one more call or journey behind those that stand
+-- ---- one more call or journey after those that stand
 
 -- one more piece, where what is left begins with it
 pub one_more : (whole out out' comma one left left' : List ℕ) → left ≡ comma ++ one ++ left' → out' ≡ out ++ comma ++ one → out ++ left ≡ whole → out' ++ left' ≡ whole
@@ -110,7 +111,7 @@ one_more whole out out' comma one left left' is added h = rw added (sym (regroup
     regrouped : (a b c d : List ℕ) → a ++ (b ++ c ++ d) ≡ (a ++ b ++ c) ++ d
     regrouped a b c d = simp append_assoc
 
--- the call at a place and those behind it
+-- the call at a place and those after it
 pub calls_on : (run : Run) (place : ℕ) (row : StopRow) (reading : StopReading) (all : List StopReading) (later : Bool) (order : ℕ)
     → slice_get run.stops place ≡ Some row → slice_get all place ≡ Some reading
     → calls_text later run order (drop place run.stops) (drop place all)
@@ -118,7 +119,7 @@ pub calls_on : (run : Run) (place : ℕ) (row : StopRow) (reading : StopReading)
 calls_on run place row reading all later order row-at reading-at =
     rw (dropped run.stops place row row-at, dropped all place reading reading-at) refl
 
--- the journey at a place and those behind it
+-- the journey at a place and those after it
 pub journeys_on : (schedule : Schedule) (moment : ℤ) (all : List DatedReading) (later : Bool) (place : ℕ) (one : DatedReading) → slice_get all place ≡ Some one
     → journeys_text later schedule moment (drop place all)
     ≡ comma_if later ++ journey_text_on schedule moment one (run_on schedule one.trip.0 one.day) ++ journeys_text true schedule moment (drop (place + 1) all)

@@ -26,7 +26,7 @@ both : (a b : Bool) → (a && b) ≡ true → (a ≡ true) × (b ≡ true)
 both true b h = (refl, h)
 both false b h = absurd (cc)
 
--- a time at most 99:59:59 behind a start of a service day
+-- a time at most 99:59:59 after a start of a service day
 within_day : (start : ℤ) (seconds : ℕ) → IsDayStart start → seconds ≤ 359999 → IsMoment (start +ℤ pos seconds)
 within_day start seconds day few = omega (arith, ints, day)
 

@@ -1,7 +1,7 @@
 -- The calls of a journey (SIRI 2.0, RecordedCall and EstimatedCall).
 use Rattle.std.specs.Prelude.{◌&&◌, ◌||◌, ℕ, ℤ, Bool, true, false, List, [], ◌∷◌, ◌++◌, codes, Option, Some, None, option_map, is_none, unwrap_or, Result, Ok, if◌then◌else◌}
 use Rattle.std.specs.Option.{option_or}
-use Rattle.journey_model.specs.Chains.{◌>>=◌}
+use Rattle.gw_base.specs.Chains.{◌>>=◌}
 use Rattle.gw_base.specs.declared.member.Member.{Member}
 use Rattle.journey_model.specs.declared.fault.Fault.{Fault}
 use Rattle.serde_json.specs.Data.{Data}

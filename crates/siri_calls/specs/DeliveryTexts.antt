@@ -9,14 +9,15 @@ use Rattle.service_day.specs.Utc.{moment_text}
 use Rattle.stop_schedule.specs.Planned.{planned}
 use Rattle.stop_schedule.specs.Table.{Table}
 use Rattle.stop_schedule.specs.declared.stop_times.StopRow.{StopRow}
+use Rattle.journey_model.specs.Ids.{id_of}
 use Rattle.journey_model.specs.Runs.{Run}
 use Rattle.journey_model.specs.Schedules.{Schedule, run_on}
 use Rattle.journey_model.specs.declared.readings.DatedReading.{DatedReading}
 use Rattle.journey_model.specs.declared.readings.StopReading.{StopReading}
 use Rattle.journey_model.specs.declared.readings.StopReading.TheVariants.{Absent, Skipped, Timed}
-use Rattle.siri_calls.specs.DeliveryTree.{id_at, is_cancelled_journey, stop_readings}
+use Rattle.siri_calls.specs.DeliveryTree.{is_cancelled_journey, stop_readings}
 
--- a text as a string, behind what leads to it; a moment; and a number in decimal
+-- a text as a string, after what leads to it; a moment; and a number in decimal
 unfoldable pub led : List ℕ → List ℕ → List ℕ
 led lead text = lead ++ quoted text
 
@@ -26,7 +27,7 @@ led_moment lead secs = led lead (moment_text secs)
 unfoldable pub led_number : List ℕ → ℕ → List ℕ
 led_number lead number = lead ++ decimal number
 
--- an arrival and a departure, each behind what leads to it
+-- an arrival and a departure, each after what leads to it
 abbrev pub times_text : List ℕ → List ℕ → ℤ × ℤ → List ℕ
 times_text first second both = led_moment first both.0 ++ led_moment second both.1
 
@@ -54,9 +55,9 @@ stop_text order id = led_number (codes ",\"Order\":") order ++ led (codes ",\"St
 -- the call at a stop
 unfoldable pub call_text : Run → ℕ → StopRow → StopReading → List ℕ
 call_text run order row reading =
-    aimed_text (planned run.start row) ++ said_text reading ++ stop_text order (id_at run.ids row.stop.0)
+    aimed_text (planned run.start row) ++ said_text reading ++ stop_text order (id_of run.ids row.stop.0)
 
--- the calls from that one on, behind a comma where another stands before, and the bracket that closes them
+-- the calls from that one on, after a comma where another stands before, and the bracket that closes them
 abbrev pub calls_text : Bool → Run → ℕ → List StopRow → List StopReading → List ℕ
 calls_text later run order [] readings = codes "]"
 calls_text later run order (row ∷ rows) [] = codes "]"
@@ -68,7 +69,7 @@ abbrev pub opening_text : Bool → List ℕ
 opening_text true = codes "{\"Cancellation\":true,\"EstimatedCalls\":{\"EstimatedCall\":["
 opening_text false = codes "{\"Cancellation\":false,\"EstimatedCalls\":{\"EstimatedCall\":["
 
--- the trip and its service day, behind the calls
+-- the trip and its service day, after the calls
 abbrev pub frame_ref_text : ℤ → List ℕ → List ℕ
 frame_ref_text day trip_id =
     led (codes "},\"FramedVehicleJourneyRef\":{\"DataFrameRef\":") (dashed_text day)
@@ -85,7 +86,7 @@ unfoldable pub journey_text : Table → ℤ → DatedReading → Run → List �
 journey_text table recorded one run =
     opening_text (is_cancelled_journey one.reading)
     ++ calls_text false run 1 run.stops (stop_readings run one.reading)
-    ++ frame_ref_text one.day (id_at table.trips one.trip.0)
+    ++ frame_ref_text one.day (id_of table.trips one.trip.0)
     ++ closing_text (table.route_of one.trip.0) recorded
 
 -- the journey of a reading, whose day is in the window
@@ -93,7 +94,7 @@ abbrev pub journey_text_on : Schedule → ℤ → DatedReading → Option Run �
 journey_text_on schedule moment one None = codes "null"
 journey_text_on schedule moment one (Some run) = journey_text schedule.table (unwrap_or one.recorded moment) one run
 
--- the journeys from one on, behind a comma where another stands before, and the bracket that closes them
+-- the journeys from one on, after a comma where another stands before, and the bracket that closes them
 abbrev pub journeys_text : Bool → Schedule → ℤ → List DatedReading → List ℕ
 journeys_text later schedule moment [] = codes "]"
 journeys_text later schedule moment (one ∷ others) =
@@ -106,7 +107,7 @@ head_text
     = codes
     "{\"Siri\":{\"ServiceDelivery\":{\"EstimatedTimetableDelivery\":[{\"EstimatedJourneyVersionFrame\":[{\"EstimatedVehicleJourney\":["
 
--- the moment of the frame and of both deliveries, behind the journeys
+-- the moment of the frame and of both deliveries, after the journeys
 abbrev pub tail_text : ℤ → List ℕ
 tail_text moment =
     led_moment (codes ",\"RecordedAtTime\":") moment

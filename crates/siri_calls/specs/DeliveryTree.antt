@@ -1,12 +1,13 @@
 -- The delivery of estimated timetables that says how journeys read (SIRI 2.0, EstimatedTimetableDelivery; in JSON after
 -- SIRI Lite): its tree and its text. The members of each object come in the order of their names' bytes.
-use Rattle.std.specs.Prelude.{ℕ, ℤ, ◌+◌, Bool, true, false, List, [], ◌∷◌, ◌++◌, map, codes, slice_index_or, unwrap_or, Option, Some, None}
+use Rattle.std.specs.Prelude.{ℕ, ℤ, ◌+◌, Bool, true, false, List, [], ◌∷◌, ◌++◌, map, codes, unwrap_or, Option, Some, None}
 use Rattle.serde_json.specs.Data.{Data, null, boolean, number, string, array, object, unsigned, Items, no_items, item, Members, no_members, member}
 use Rattle.serde_json.specs.Written.{compact_text}
 use Rattle.service_day.specs.DayTexts.{dashed_text}
 use Rattle.service_day.specs.Utc.{moment_text}
 use Rattle.stop_schedule.specs.Planned.{planned}
 use Rattle.stop_schedule.specs.declared.stop_times.StopRow.{StopRow}
+use Rattle.journey_model.specs.Ids.{id_of}
 use Rattle.journey_model.specs.Runs.{Run}
 use Rattle.journey_model.specs.Schedules.{Schedule, run_on}
 use Rattle.journey_model.specs.declared.readings.DatedReading.{DatedReading}
@@ -34,10 +35,6 @@ array_of trees = array (items_of trees)
 abbrev pub moment_tree : ℤ → Data
 moment_tree secs = string (moment_text secs)
 
--- the id of a stop or a trip by its number
-abbrev pub id_at : List (List ℕ) → ℕ → List ℕ
-id_at ids place = slice_index_or ids place []
-
 -- the planned times of a stop
 abbrev pub aimed_members : ℤ × ℤ → List (List ℕ × Data)
 aimed_members both =
@@ -58,7 +55,7 @@ stop_members order id = (codes "Order", number (unsigned order)) ∷ (codes "Sto
 abbrev pub call_tree : Run → ℕ → StopRow → StopReading → Data
 call_tree run order row reading =
     object_of (aimed_members (planned run.start row) ++ said_members reading
-    ++ stop_members order (id_at run.ids row.stop.0))
+    ++ stop_members order (id_of run.ids row.stop.0))
 
 -- the calls at the stops from that one on, counted from 1
 abbrev pub call_trees_from : Run → ℕ → List StopRow → List StopReading → List Data
@@ -93,7 +90,7 @@ abbrev pub journey_of_run : Schedule → ℤ → DatedReading → Run → Data
 journey_of_run schedule recorded one run = object_of (
     (codes "Cancellation", boolean (is_cancelled_journey one.reading))
     ∷ (codes "EstimatedCalls", all_calls run one.reading)
-    ∷ (codes "FramedVehicleJourneyRef", framed_ref one.day (id_at schedule.table.trips one.trip.0))
+    ∷ (codes "FramedVehicleJourneyRef", framed_ref one.day (id_of schedule.table.trips one.trip.0))
     ∷ (codes "IsCompleteStopSequence", boolean true)
     ∷ (codes "LineRef", string (schedule.table.route_of one.trip.0))
     ∷ (codes "RecordedAtTime", moment_tree recorded)

@@ -4,7 +4,7 @@ use Rattle.std.specs.Prelude.{◌==◌, ◌+◌, ℕ, ℤ, Bool, true, false, Li
 use Rattle.std.specs.List.{list_any, range_with_len}
 use Rattle.std.specs.Option.{ok_or, option_or}
 use Rattle.std.specs.Str.{bytes_eq}
-use Rattle.journey_model.specs.Chains.{◌>>=◌}
+use Rattle.gw_base.specs.Chains.{◌>>=◌}
 use Rattle.journey_model.specs.Matching.{call_place, is_of_stop}
 use Rattle.journey_model.specs.Propagation.{timed}
 use Rattle.journey_model.specs.Records.{Recorded}
@@ -41,7 +41,7 @@ stops_named run (one ∷ others) = do
   rest ← stops_named run others
   Ok ((stop, one) ∷ rest)
 
--- the places of calls with their stops, behind the place before, or the fault of the first call of no later stop
+-- the places of calls with their stops, after the place before, or the fault of the first call of no later stop
 abbrev pub placed_calls : List StopRow → Option ℕ → List (ℕ × (ℕ × Call)) → Result (List (ℕ × (ℕ × Call))) Fault
 placed_calls stops after [] = Ok []
 placed_calls stops after (one ∷ others) = do

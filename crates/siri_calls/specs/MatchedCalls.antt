@@ -19,7 +19,7 @@ abbrev pub rise_from : ℕ → List (ℕ × (ℕ × Call)) → Bool
 rise_from place [] = true
 rise_from place (one ∷ others) = nat_le place one.0 && rise_from (one.0 + 1) others
 
--- the place of a call behind the one before, where its stop has one
+-- the place of a call after the one before, where its stop has one
 abbrev pub place_named : Run → Option ℕ → Call → Option ℕ
 place_named run after one =
     option_and_then (λ stop. call_place run.stops after stop one.order) (position (bytes_eq one.stop) run.ids)

@@ -1,7 +1,7 @@
 -- What an item of a delivery is: a record of a journey, or the first fault for which it is set aside (SIRI 2.0,
 -- EstimatedVehicleJourney).
 use Rattle.std.specs.Prelude.{ℕ, ℤ, Bool, true, false, List, [], ◌∷◌, map, Option, unwrap_or, Result, Ok, Err, if◌then◌else◌, codes}
-use Rattle.journey_model.specs.Chains.{◌>>=◌}
+use Rattle.gw_base.specs.Chains.{◌>>=◌}
 use Rattle.gw_base.specs.declared.member.Member.{Member}
 use Rattle.journey_model.specs.Records.{Recorded}
 use Rattle.journey_model.specs.Schedules.{Schedule}

@@ -184,7 +184,7 @@ fn trees_under<'t, 'a>(
     }
 }
 
-// The calls of trees, behind those that were found before.
+// The calls of trees, after those that were found before.
 fn add_calls<'a>(
     found: &mut Vec<Option<Call<'a>>>,
     trees: &'a [Value<'_>],

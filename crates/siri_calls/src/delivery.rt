@@ -2,7 +2,6 @@
 ghost use Rattle.std.specs.Prelude.{◌++◌, ℕ, List as Values, Result as Answer, map, IfOk, OnOk};
 ghost use Rattle.std.specs.List.{flat_map};
 ghost use Rattle.journey_model.specs.Records.{Recorded, recorded};
-ghost use Rattle.journey_model.specs.Schedules.{schedule_of};
 ghost use Rattle.journey_model.specs.declared.fault.Fault as faults;
 ghost use Rattle.json_tree.specs.Trees.{view};
 ghost use Rattle.siri_calls.specs.Deliveries.{AreServable, ReadsBody};
@@ -28,7 +27,7 @@ pub type Item = siri_json::Item<JourneyRecord>;
 /// extra ones are counted.
 pub type Delivery = siri_json::Delivery<JourneyRecord>;
 
-// What the items below a frame are, behind those before.
+// What the items below a frame are, after those before.
 fn add_items(
     alloc: Global,
     delivery: &mut Delivery,
@@ -39,9 +38,9 @@ fn add_items(
         → HasVerdicts recorded delivery.old earlier
         → OnOk result (HasVerdicts recorded delivery.new
         (earlier
-        ++ map (spec.verdict (schedule_of context.now)) (items_below (place_of frame.now)))) }
-    ensures servable { AreServable (schedule_of context.now) delivery.old.items
-        → OnOk result (AreServable (schedule_of context.now) delivery.new.items) }
+        ++ map (spec.verdict context.now) (items_below (place_of frame.now)))) }
+    ensures servable { AreServable context.now delivery.old.items
+        → OnOk result (AreServable context.now delivery.new.items) }
 {
     let trees = repeated_under(frame.tree, Member::EstimatedVehicleJourney);
     for tree in trees {
@@ -59,10 +58,10 @@ fn all_items(
     context: &Context<'_>,
 ) -> Result<Delivery, AllocError>
     ensures verdicts { IfOk result (λ delivery. HasVerdicts recorded delivery
-        (map (spec.verdict (schedule_of context.now))
+        (map (spec.verdict context.now)
         (flat_map items_below (map place_of frames.now)))) }
     ensures servable { IfOk result (λ delivery.
-        AreServable (schedule_of context.now) delivery.items) }
+        AreServable context.now delivery.items) }
 {
     let mut delivery = Delivery::new(alloc);
     for frame in frames {
@@ -77,9 +76,9 @@ fn tree_delivery(
     root: &Value<'_>,
     context: &Context<'_>,
 ) -> Result<Delivery, DeliveryFault>
-    ensures reads { ReadsTree recorded (spec.verdicts (schedule_of context.now) (view root.now)) result }
+    ensures reads { ReadsTree recorded (spec.verdicts context.now (view root.now)) result }
     ensures servable { IfOk result (λ delivery.
-        AreServable (schedule_of context.now) delivery.items) }
+        AreServable context.now delivery.items) }
 {
     let frames = match frames_in(alloc, root) {
         Ok(frames) => frames,
@@ -100,9 +99,9 @@ pub fn read_delivery(
     body: &[u8],
     context: &Context<'_>,
 ) -> Result<Delivery, DeliveryFault>
-    ensures reads { ReadsBody (schedule_of context.now) body.now result }
+    ensures reads { ReadsBody context.now body.now result }
     ensures servable { IfOk result (λ delivery.
-        AreServable (schedule_of context.now) delivery.items) }
+        AreServable context.now delivery.items) }
 {
     let mut scratch = Scratch::new(alloc);
     match read_tree(alloc, body, &mut scratch) {

@@ -44,7 +44,7 @@ fn frame_place<'t, 'a>(
     }
 }
 
-// The frames below a delivery, behind those that were found before.
+// The frames below a delivery, after those that were found before.
 fn add_frames<'t, 'a>(
     found: &mut Vec<Place<'t, 'a>>,
     delivery: &'t Value<'a>,

@@ -1,7 +1,6 @@
 //! What an item of a delivery is. The functions meet `specs/Verdicts.antt`.
 ghost use Rattle.std.specs.Prelude.{◌≡◌, Ok, IfErr, IfOk};
 ghost use Rattle.journey_model.specs.Records.{recorded};
-ghost use Rattle.journey_model.specs.Schedules.{schedule_of};
 ghost use Rattle.json_tree.specs.Trees.{view};
 ghost use Rattle.siri_calls.specs.Frame as places;
 ghost use Rattle.siri_calls.specs.Seen.{calls_of};
@@ -48,11 +47,11 @@ fn item_read(
     place: &Place<'_, '_>,
     context: &Context<'_>,
 ) -> Result<(JourneyRecord, u64), ReadFault>
-    ensures found { IfOk result (λ found. spec.item_read (schedule_of context.now) (place_of place.now)
+    ensures found { IfOk result (λ found. spec.item_read context.now (place_of place.now)
         ≡ Ok (recorded found.0, found.1)) }
     ensures fault { IfErr result
-        (IsFaultOf (spec.item_read (schedule_of context.now) (place_of place.now))) }
-    ensures servable { IfOk result (λ found. IsServable (schedule_of context.now) found.0) }
+        (IsFaultOf (spec.item_read context.now (place_of place.now))) }
+    ensures servable { IfOk result (λ found. IsServable context.now found.0) }
 {
     let head = match read_header(place, context.zone) {
         Ok(head) => head,
@@ -69,11 +68,11 @@ pub(crate) fn verdict(
     place: &Place<'_, '_>,
     context: &Context<'_>,
 ) -> Result<(JourneyRecord, u64), ReadFault>
-    ensures found { IfOk result (λ found. spec.verdict (schedule_of context.now) (place_of place.now)
+    ensures found { IfOk result (λ found. spec.verdict context.now (place_of place.now)
         ≡ Ok (recorded found.0, found.1)) }
     ensures fault { IfErr result
-        (IsFaultOf (spec.verdict (schedule_of context.now) (place_of place.now))) }
-    ensures servable { IfOk result (λ found. IsServable (schedule_of context.now) found.0) }
+        (IsFaultOf (spec.verdict context.now (place_of place.now))) }
+    ensures servable { IfOk result (λ found. IsServable context.now found.0) }
 {
     if is_object(place.tree) {
         item_read(alloc, place, context)

@@ -1,7 +1,6 @@
 //! What a journey is by its header and its calls. The functions meet `specs/Judged.antt`.
 ghost use Rattle.std.specs.Prelude.{◌≡◌, ◌<◌, length, Ok, IfErr, IfOk};
 ghost use Rattle.journey_model.specs.Records.{recorded};
-ghost use Rattle.journey_model.specs.Schedules.{schedule_of};
 ghost use Rattle.siri_calls.specs.Judged as spec;
 ghost use Rattle.siri_calls.specs.Seen.{calls_of, header_of};
 ghost use Rattle.siri_json.specs.Shown.{IsFaultOf, ok_map};
@@ -23,8 +22,8 @@ use stop_schedule::TripNo;
 // The trip that a journey is of, unless it is an extra journey.
 fn trip_named(context: &Context<'_>, head: &Header<'_>) -> Result<TripNo, Fault>
     ensures value { ok_map (λ trip. trip.0) result
-        ≡ spec.trip_named (schedule_of context.now) (header_of head.now) }
-    ensures within { IfOk result (λ trip. trip.0 < length context.now.table.now.trips) }
+        ≡ spec.trip_named context.now (header_of head.now) }
+    ensures within { IfOk result (λ trip. trip.0 < length context.now.table.trips) }
 {
     if head.extra {
         return Err(Fault::AddedJourney);
@@ -37,8 +36,8 @@ fn trip_named(context: &Context<'_>, head: &Header<'_>) -> Result<TripNo, Fault>
 
 // A trip on a day of the window on which it runs.
 fn run_named<'a>(context: &Context<'a>, trip: TripNo, day: Day) -> Result<TripRun<'a>, Fault>
-    requires { trip.0 < length context.now.table.now.trips }
-    ensures { ok_map run_over result ≡ spec.run_named (schedule_of context.now) trip.0 day }
+    requires { trip.0 < length context.now.table.trips }
+    ensures { ok_map run_over result ≡ spec.run_named context.now trip.0 day }
 {
     let Some(dated) = context.dated(trip, day) else {
         return Err(Fault::OutOfWindow);
@@ -78,11 +77,11 @@ fn trip_read(
     head: &Header<'_>,
     calls: &[Option<Call<'_>>],
 ) -> Result<JourneyReading, ReadFault>
-    requires { trip.0 < length context.now.table.now.trips }
+    requires { trip.0 < length context.now.table.trips }
     ensures found { IfOk result (λ reading.
-        spec.trip_read (schedule_of context.now) trip.0 (header_of head.now) (calls_of calls.now) ≡ Ok reading) }
+        spec.trip_read context.now trip.0 (header_of head.now) (calls_of calls.now) ≡ Ok reading) }
     ensures fault { IfErr result (IsFaultOf
-        (spec.trip_read (schedule_of context.now) trip.0 (header_of head.now) (calls_of calls.now))) }
+        (spec.trip_read context.now trip.0 (header_of head.now) (calls_of calls.now))) }
 {
     match run_named(context, trip, head.day) {
         Ok(run) if !head.cancelled => stops_read(alloc, &run, calls),
@@ -107,7 +106,7 @@ fn extras(calls: &[Option<Call<'_>>]) -> u64
 /// What a journey is by its header and its calls, of which those that are None are extra ones (SIRI 2.0,
 /// EstimatedVehicleJourney): its record with the number of its extra calls, or the first fault in this order. It is an
 /// extra journey; no carried trip has its id; its day isn't in the window; the trip doesn't run on it; and, unless it
-/// is cancelled: a call is of a stop that the trip doesn't have; a call is of no stop behind the one before; a time is
+/// is cancelled: a call is of a stop that the trip doesn't have; a call is of no stop after the one before; a time is
 /// over a week from the planned one.
 pub(crate) fn judged(
     alloc: Global,
@@ -116,11 +115,11 @@ pub(crate) fn judged(
     calls: &[Option<Call<'_>>],
 ) -> Result<(JourneyRecord, u64), ReadFault>
     ensures found { IfOk result (λ found.
-        spec.judged (schedule_of context.now) (header_of head.now) (calls_of calls.now)
+        spec.judged context.now (header_of head.now) (calls_of calls.now)
         ≡ Ok (recorded found.0, found.1)) }
     ensures fault { IfErr result (IsFaultOf
-        (spec.judged (schedule_of context.now) (header_of head.now) (calls_of calls.now))) }
-    ensures servable { IfOk result (λ found. IsServable (schedule_of context.now) found.0) }
+        (spec.judged context.now (header_of head.now) (calls_of calls.now))) }
+    ensures servable { IfOk result (λ found. IsServable context.now found.0) }
 {
     let trip = trip_named(context, head)?;
     let reading = trip_read(alloc, context, trip, head, calls)?;

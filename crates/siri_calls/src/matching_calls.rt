@@ -46,7 +46,7 @@ fn is_unknown(run: &TripRun<'_>, call: &Option<Call<'_>>) -> bool
     }
 }
 
-// The place of a call behind the one before, where its stop has one.
+// The place of a call after the one before, where its stop has one.
 fn place_of(run: &TripRun<'_>, after: Option<u32>, call: &Call<'_>) -> Option<u32>
     ensures { result ≡ place_named (run_over run.now) after (call_of call.now) }
 {
@@ -69,7 +69,7 @@ fn fault_of(run: &TripRun<'_>, calls: &[Option<Call<'_>>], late: u64) -> Fault
     Fault::OutOfOrder(late)
 }
 
-/// The read calls with their places, each behind the one before; or the fault of the first call whose stop the trip
+/// The read calls with their places, each after the one before; or the fault of the first call whose stop the trip
 /// doesn't have, and else that of the first call of no later stop.
 pub(crate) fn placed_calls<'a>(
     alloc: Global,

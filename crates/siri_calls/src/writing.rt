@@ -2,7 +2,7 @@
 //! `write_delivery` meets `specs/DeliveryTree.antt`.
 ghost use Rattle.std.specs.Prelude.{◌≡◌, ◌++◌, All, IfOk, OnOk};
 ghost use Rattle.gw_base.specs.Moments.{IsMoment};
-ghost use Rattle.journey_model.specs.Schedules.{FitsSchedule, schedule_of};
+ghost use Rattle.journey_model.specs.Schedules.{FitsSchedule};
 ghost use Rattle.siri_calls.specs.DeliveryTree.{delivery_text};
 ghost use Rattle.siri_calls.specs.DeliveryTexts.{head_text, tail_text};
 
@@ -27,7 +27,7 @@ fn put_head(out: &mut Bytes) -> Result<(), AllocError>
     )
 }
 
-// Adds the moment of the frame and of both deliveries, in seconds since 1970, behind the journeys.
+// Adds the moment of the frame and of both deliveries, in seconds since 1970, after the journeys.
 fn put_tail(out: &mut Bytes, secs: &i64) -> Result<(), AllocError>
     requires { IsMoment secs.now }
     ensures { OnOk result (out.new ≡ out.old ++ tail_text secs.now) }
@@ -48,8 +48,8 @@ pub fn write_delivery(
     journeys: &[DatedReading],
     moment: Moment,
 ) -> Result<Bytes, AllocError>
-    requires { All (λ one. FitsSchedule (schedule_of context.now) one.trip.0 one.day one.reading) journeys.now }
-    ensures text { IfOk result (λ text. text ≡ delivery_text (schedule_of context.now) moment journeys.now) }
+    requires { All (λ one. FitsSchedule context.now one.trip.0 one.day one.reading) journeys.now }
+    ensures text { IfOk result (λ text. text ≡ delivery_text context.now moment journeys.now) }
 {
     let mut out = List::new(alloc);
     put_head(&mut out)?;

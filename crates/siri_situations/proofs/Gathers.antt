@@ -1,6 +1,6 @@
 -- What is read of trees, one after the other.
 use Rattle.std.proofs.Common.{◌≡◌, ◌∙◌, refl, ap, sym, List, [], ◌∷◌, ◌++◌, append_assoc, Result, Ok, Err}
-use Rattle.journey_model.specs.Chains.{◌>>=◌}
+use Rattle.gw_base.specs.Chains.{◌>>=◌}
 use Rattle.journey_model.specs.declared.fault.Fault.{Fault}
 use Rattle.serde_json.specs.Data.{Data}
 use Rattle.siri_json.specs.Shown.{ok_map, IsFaultOf}
@@ -41,7 +41,7 @@ pub none_before : {A E : Type 0} (all : Result (List A) E) → ok_map (λ rest. 
 none_before (Ok rest) = refl
 none_before (Err fault) = refl
 
--- what one tree gives was put behind what was found
+-- what one tree gives was put after what was found
 pub one_added : {A E : Type 0} (read : Data → Result (List A) E) (all : Result (List A) E) (found new : List A) (tree : Data) (left : List Data)
     → ok_map (λ rest. found ++ rest) (read tree) ≡ Ok new → SoFar read all found (tree ∷ left) → SoFar read all new left
 one_added read all found new tree left added so_far = by (read tree) refl added

@@ -5,7 +5,7 @@ use Rattle.std.specs.List.{cons_option, list_all, position_or_len}
 use Rattle.std.specs.Str.{bytes_eq}
 use Rattle.std.proofs.lemmas.List.Folds.{list_all-append}
 use Rattle.gw_base.specs.declared.member.Member.{Member}
-use Rattle.journey_model.specs.Chains.{◌>>=◌}
+use Rattle.gw_base.specs.Chains.{◌>>=◌}
 use Rattle.journey_model.specs.Schedules.{Schedule}
 use Rattle.journey_model.specs.Situations.{is_known}
 use Rattle.journey_model.specs.declared.fault.Fault.{Fault}

@@ -4,7 +4,7 @@ use Rattle.std.specs.Prelude.{◌-◌, ℕ, ℤ, Bool, true, List, [], ◌∷◌
 use Rattle.std.specs.List.{list_all}
 use Rattle.std.specs.Str.{bytes_eq}
 use Rattle.gw_base.specs.declared.member.Member.{Member}
-use Rattle.journey_model.specs.Chains.{◌>>=◌}
+use Rattle.gw_base.specs.Chains.{◌>>=◌}
 use Rattle.journey_model.specs.declared.fault.Fault.{Fault}
 use Rattle.journey_model.specs.declared.fault.Fault.TheVariants.{BadField, NoAffects, UnknownRef}
 use Rattle.journey_model.specs.declared.situation.Ref.{Ref}

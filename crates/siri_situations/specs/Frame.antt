@@ -3,7 +3,7 @@
 use Rattle.std.specs.Prelude.{List, [], ◌∷◌, Result, Ok, Err}
 use Rattle.std.specs.List.{flat_map}
 use Rattle.gw_base.specs.declared.member.Member.{Member}
-use Rattle.journey_model.specs.Chains.{◌>>=◌}
+use Rattle.gw_base.specs.Chains.{◌>>=◌}
 use Rattle.serde_json.specs.Data.{Data}
 use Rattle.siri_json.specs.Fields.{member_form}
 use Rattle.siri_json.specs.Forms.{object_form}

@@ -1,7 +1,7 @@
 -- The way down from an object to what stands in it, step by step (SIRI 2.0, PtSituationElement; in JSON after SIRI
 -- Lite).
 use Rattle.std.specs.Prelude.{List, [], ◌∷◌, ◌++◌, option_to_list, unwrap_or, Result, Ok}
-use Rattle.journey_model.specs.Chains.{◌>>=◌}
+use Rattle.gw_base.specs.Chains.{◌>>=◌}
 use Rattle.journey_model.specs.declared.fault.Fault.{Fault}
 use Rattle.serde_json.specs.Data.{Data}
 use Rattle.siri_json.specs.Fields.{optional_member}

@@ -85,7 +85,7 @@ fn find_journey(table: &Timetable, day: Day, id: &str) -> Option<Ref>
     }
 }
 
-// The line that an object names, if it names one, behind the references that were found before.
+// The line that an object names, if it names one, after the references that were found before.
 fn add_line(
     found: &mut List<Reference>,
     table: &Timetable,
@@ -110,7 +110,7 @@ fn add_line(
     }
 }
 
-// The stop that an object names, if it names one, behind the references that were found before.
+// The stop that an object names, if it names one, after the references that were found before.
 fn add_stop(
     found: &mut List<Reference>,
     table: &Timetable,
@@ -135,7 +135,7 @@ fn add_stop(
     }
 }
 
-// The journey that an object names, behind the references that were found before.
+// The journey that an object names, after the references that were found before.
 fn add_journey(
     found: &mut List<Reference>,
     table: &Timetable,
@@ -157,7 +157,7 @@ fn add_journey(
     Ok(())
 }
 
-// The reference of a kind that an object holds, if it holds one, behind those that were found before.
+// The reference of a kind that an object holds, if it holds one, after those that were found before.
 fn add_reference(
     found: &mut List<Reference>,
     kind: AffectedKind,
@@ -200,7 +200,7 @@ fn days_in_form(kind: AffectedKind, trees: &[Branch<'_, '_>]) -> bool
     }
 }
 
-// The references that objects hold, behind those that were found before.
+// The references that objects hold, after those that were found before.
 fn gather_references(
     found: &mut List<Reference>,
     kind: AffectedKind,
@@ -238,7 +238,7 @@ fn add_references(
     gather_references(found, kind, table, trees)
 }
 
-// The references of a kind below Affects, behind those that were found before.
+// The references of a kind below Affects, after those that were found before.
 fn add_affected(
     alloc: Global,
     found: &mut List<Reference>,

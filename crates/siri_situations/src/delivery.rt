@@ -2,7 +2,6 @@
 ghost use Rattle.std.specs.Prelude.{◌++◌, ℕ, List as Values, Result as Answer, map, IfOk, OnOk};
 ghost use Rattle.std.specs.List.{flat_map};
 ghost use Rattle.gw_base.specs.declared.member.Member.TheVariants as Member;
-ghost use Rattle.journey_model.specs.Schedules.{schedule_of};
 ghost use Rattle.journey_model.specs.declared.fault.Fault as faults;
 ghost use Rattle.journey_model.specs.declared.situation.Situation as of_journeys;
 ghost use Rattle.json_tree.specs.Trees.{view};
@@ -29,7 +28,7 @@ pub type Item = siri_json::Item<Situation>;
 /// What a delivery of situations says. The references of the situations that are taken which aren't known are counted.
 pub type SituationDelivery = siri_json::Delivery<Situation>;
 
-// What the items are that stand in an object, behind those before.
+// What the items are that stand in an object, after those before.
 fn add_items(
     alloc: Global,
     delivery: &mut SituationDelivery,
@@ -39,7 +38,7 @@ fn add_items(
     ensures { (earlier : Values (Answer (of_journeys.Situation × ℕ) faults.Fault))
         → HasVerdicts same delivery.old earlier
         → OnOk result (HasVerdicts same delivery.new
-        (earlier ++ map (spec.verdict (schedule_of context.now))
+        (earlier ++ map (spec.verdict context.now)
         (trees_under Member.PtSituationElement (view group.now)))) }
 {
     let trees = repeated_under(group, Member::PtSituationElement);
@@ -57,7 +56,7 @@ fn all_items(
     context: &Context<'_>,
 ) -> Result<SituationDelivery, AllocError>
     ensures { IfOk result (λ delivery. HasVerdicts same delivery
-        (map (spec.verdict (schedule_of context.now))
+        (map (spec.verdict context.now)
         (flat_map (trees_under Member.PtSituationElement) (all_seen groups.now)))) }
 {
     let mut delivery = SituationDelivery::new(alloc);
@@ -73,9 +72,9 @@ fn tree_delivery(
     root: &Value<'_>,
     context: &Context<'_>,
 ) -> Result<SituationDelivery, DeliveryFault>
-    ensures reads { ReadsTree same (spec.verdicts (schedule_of context.now) (view root.now)) result }
+    ensures reads { ReadsTree same (spec.verdicts context.now (view root.now)) result }
     ensures known { IfOk result (λ delivery.
-        ReferToKnown (schedule_of context.now).table delivery.items) }
+        ReferToKnown context.now.table delivery.items) }
 {
     let groups = match groups_in(alloc, root) {
         Ok(groups) => groups,
@@ -96,9 +95,9 @@ pub fn read_situations(
     body: &[u8],
     context: &Context<'_>,
 ) -> Result<SituationDelivery, DeliveryFault>
-    ensures reads { ReadsSituations (schedule_of context.now) body.now result }
+    ensures reads { ReadsSituations context.now body.now result }
     ensures known { IfOk result (λ delivery.
-        ReferToKnown (schedule_of context.now).table delivery.items) }
+        ReferToKnown context.now.table delivery.items) }
 {
     let mut scratch = Scratch::new(alloc);
     match read_tree(alloc, body, &mut scratch) {

@@ -1,6 +1,5 @@
 //! What a situation says. The functions meet `specs/Situations.antt`.
 ghost use Rattle.std.specs.Prelude.{◌≡◌, Ok, IfErr, IfOk};
-ghost use Rattle.journey_model.specs.Schedules.{schedule_of};
 ghost use Rattle.json_tree.specs.Trees.{view};
 ghost use Rattle.siri_json.specs.Fields.{optional_member, required_member};
 ghost use Rattle.siri_json.specs.Forms as forms;
@@ -177,9 +176,9 @@ fn read_situation(
     context: &Context<'_>,
 ) -> Result<(Situation, u64), ReadFault>
     ensures found { IfOk result (λ found.
-        spec.situation (schedule_of context.now) (view tree.now) ≡ Ok (found.0, found.1)) }
+        spec.situation context.now (view tree.now) ≡ Ok (found.0, found.1)) }
     ensures fault { IfErr result
-        (IsFaultOf (spec.situation (schedule_of context.now) (view tree.now))) }
+        (IsFaultOf (spec.situation context.now (view tree.now))) }
 {
     let said = read_said(alloc, tree, context.zone)?;
     let (references, effect) = read_touched(alloc, tree, context.table)?;
@@ -194,9 +193,9 @@ pub(crate) fn verdict(
     context: &Context<'_>,
 ) -> Result<(Situation, u64), ReadFault>
     ensures found { IfOk result (λ found.
-        spec.verdict (schedule_of context.now) (view tree.now) ≡ Ok (found.0, found.1)) }
+        spec.verdict context.now (view tree.now) ≡ Ok (found.0, found.1)) }
     ensures fault { IfErr result
-        (IsFaultOf (spec.verdict (schedule_of context.now) (view tree.now))) }
+        (IsFaultOf (spec.verdict context.now (view tree.now))) }
 {
     if !is_object(tree) {
         return Err(ReadFault::Aside(Fault::BadField(Member::PtSituationElement)));

@@ -54,7 +54,7 @@ pub(crate) fn trees_at<'t, 'a>(tree: &'t Value<'a>, step: &Step) -> Result<&'t [
     }
 }
 
-/// Trees, behind those that were found before.
+/// Trees, after those that were found before.
 pub(crate) fn add_trees<'t, 'a>(
     found: &mut Vec<Branch<'t, 'a>>,
     trees: &'t [Value<'a>],

@@ -3,7 +3,7 @@ mod frames;
 mod members;
 mod references;
 
-use crate::texts::{between, quoted};
+use crate::texts::between;
 use gw_base::Text;
 use journey_model::{Context, Ref, Situation, ValidPeriod};
 use siri_calls::DeliveryFault;
@@ -128,8 +128,7 @@ fn text_of(
 
 // What a body says over a timetable.
 fn said(alloc: Global, body: &str, context: &Context<'_>) -> Result<String, AllocError> {
-    let body = quoted(alloc, body)?;
-    let answer = read_situations(alloc, body.as_str().as_bytes(), context);
+    let answer = read_situations(alloc, body.as_bytes(), context);
     text_of(alloc, &answer)
 }
 
@@ -146,6 +145,6 @@ fn assert_said(rt: &impl Abort, alloc: Global, ends: (&str, &str), cases: &[(&st
     for (case, wanted) in cases {
         let body = between(alloc, ends, case).expect(rt, "memory");
         let text = said(alloc, body.as_str(), &context).expect(rt, "memory");
-        assert_eq!(rt; text.as_str(), *wanted);
+        assert_eq!(rt; text.as_str(), *wanted, "what {case} says");
     }
 }

@@ -13,7 +13,7 @@ use Rattle.span_pool.proofs.SpanLemmas.{live_bytes-append}
 use Rattle.span_pool.proofs.PlaceLemmas.{standing-append, standing-set, slice_get-set_same, cut-append, cut-below, cut-above, Ascends-append, Ascends-weaken, Ascends-le}
 use Rattle.span_pool.proofs.OrderLemmas.{Lacks-take, Lacks-drop}
 
--- the region while it is packed: the spans of the slots before `i` stand together up to `end`, the others behind
+-- the region while it is packed: the spans of the slots before `i` stand together up to `end`, the others after
 pub record IsPacking (slots bytes_were : List ℕ) (places_were : List Place) (bytes : List ℕ) (places : List Place) (i end : ℕ) : Type 0 where
   pub same : cut bytes (standing places slots) ≡ cut bytes_were (standing places_were slots)
   pub done : Ascends 0 (standing places (take i slots)) end
@@ -85,7 +85,7 @@ pub packing_read : (slots bytes_were : List ℕ) (places_were : List Place) (byt
 packing_read slots bytes_were places_were bytes places i end place within below read is =
     slice_get_read places (length places) (get_or slots i 0) place refl (omega (arith, below i within, is.rows)) read
 
--- the next live span stands behind those that are packed, within the region
+-- the next live span stands after those that are packed, within the region
 pub packing_next : (slots bytes_were : List ℕ) (places_were : List Place) (bytes : List ℕ) (places : List Place) (i end : ℕ) (place : Place) → i < length slots → slice_get places (get_or slots i 0) ≡ Some place → place.start ≤ place.end → IsPacking slots bytes_were places_were bytes places i end → (end ≤ place.start) × (place.end ≤ length bytes)
 packing_next slots bytes_were places_were bytes places i end place within at ordered is =
     let slot : ℕ = get_or slots i 0 in

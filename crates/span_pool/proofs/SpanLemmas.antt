@@ -5,7 +5,7 @@ use Rattle.std.proofs.lemmas.Bool.Decides.{nat_tests}
 use Rattle.std.proofs.lemmas.List.Sums.{sum_by-append, sum_by-cons}
 use Rattle.span_pool.specs.Spans.{bytes_of, live_bytes, without, AreApart}
 
--- a slot that holds a span still holds it behind others
+-- a slot that holds a span still holds it after others
 pub bytes_of-append : (xs ys : List (ℕ × List ℕ)) (slot : ℕ) → IsSome (bytes_of xs slot) → bytes_of (xs ++ ys) slot ≡ bytes_of xs slot
 bytes_of-append [] ys slot held = cc
 bytes_of-append (x ∷ xs) ys slot held = grind (arith, nat_tests, bytes_of-append xs ys slot)
@@ -30,7 +30,7 @@ pub bytes_of-without_same : (xs : List (ℕ × List ℕ)) (slot : ℕ) → bytes
 bytes_of-without_same [] slot = refl
 bytes_of-without_same (x ∷ xs) slot = grind (arith, nat_tests, bytes_of-without_same xs slot)
 
--- the live bytes of two lists of spans, one behind the other
+-- the live bytes of two lists of spans, one after the other
 pub live_bytes-append : (xs ys : List (ℕ × List ℕ)) → live_bytes (xs ++ ys) ≡ live_bytes xs + live_bytes ys
 live_bytes-append xs ys = sum_by-append (λ span. length span.1) xs ys
 

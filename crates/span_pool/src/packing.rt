@@ -6,7 +6,7 @@ ghost use Rattle.span_pool.specs.Places.{AreBelow, AreDistinct, Ascends, IsMoved
 use crate::place::Place;
 
 /// Moves the live spans together at the front of the region, in the order in which they stand, and cuts off what is
-/// behind them.
+/// after them.
 pub(crate) fn pack(bytes: &mut Vec<u8>, places: &mut Vec<Place>, in_use: &[usize])
     requires distinct { AreDistinct in_use.now }
     requires below { AreBelow in_use.now (length places.old.items) }
@@ -32,7 +32,7 @@ pub(crate) fn pack(bytes: &mut Vec<u8>, places: &mut Vec<Place>, in_use: &[usize
     bytes.truncate(end);
 }
 
-/// Moves the bytes at a place down to `to`, and answers where they stand then. The bytes below and those behind the
+/// Moves the bytes at a place down to `to`, and answers where they stand then. The bytes below and those after the
 /// place stay.
 fn move_down(bytes: &mut Vec<u8>, place: Place, to: usize) -> Place
     requires ordered { place.start ≤ place.end }

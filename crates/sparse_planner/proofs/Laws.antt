@@ -110,7 +110,7 @@ walk-plan start place delay (row ∷ rows) (reading ∷ readings) near =
 none-there : (place : ℕ) (P : Type 0) → HasPlace place [] → P
 none-there place P h = absurd (cc)
 
--- a place that the shortest list has is that of a stop that needs it, or of one behind
+-- a place that the shortest list has is that of a stop that needs it, or of one after
 first-or-behind : (place first : ℕ) (needed : Bool) (others : List ℕ) → HasPlace place ((if needed then first ∷ [] else []) ++ others)
     → ((needed ≡ true) × (first ≡ place)) ⊎ HasPlace place others
 first-or-behind place first true others h = ⊎_elim (λ e. inl (refl, eqb-true first place e)) (λ e. inr e) (or_cases (first == place) (list_any (λ other. other == place) others) h)

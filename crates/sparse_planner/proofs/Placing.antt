@@ -7,7 +7,7 @@ use Rattle.stop_schedule.specs.Planned.{planned}
 use Rattle.stop_schedule.specs.Stops.{are_rising}
 use Rattle.stop_schedule.specs.declared.stop_times.StopRow.{StopRow}
 use Rattle.journey_model.proofs.Suppliers.{Rise}
-use Rattle.journey_model.specs.Chains.{◌>>=◌}
+use Rattle.gw_base.specs.Chains.{◌>>=◌}
 use Rattle.journey_model.specs.Matching.{agrees, first_place, has_sequence, in_order, is_of_stop, place_behind, place_by_sequence, place_by_stop, stands_at, update_place}
 use Rattle.journey_model.specs.Readings.{are_near, is_near}
 use Rattle.journey_model.specs.Runs.{Run, planned_at}
@@ -25,7 +25,7 @@ use Rattle.sparse_planner.specs.Shortest.{update}
 use Rattle.sparse_planner.proofs.States.{delay_behind, needs, plan_from}
 use Rattle.sparse_planner.proofs.Walks.{planned-here, stop-here, stops-more, length-more}
 
--- the places of the updates of stops from a place on, behind others that supply this delay
+-- the places of the updates of stops from a place on, after others that supply this delay
 abbrev pub plan_places : ℤ → ℕ → Option ℤ → List (StopRow × StopReading) → List ℕ
 plan_places start place delay [] = []
 plan_places start place delay (stop ∷ stops) =

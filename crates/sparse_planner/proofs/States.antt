@@ -16,7 +16,7 @@ use Rattle.sparse_planner.specs.Shortest.{is_skipped, nearest, same_reading, sup
 abbrev pub running : ℤ × ℤ → Option ℤ → StopReading
 running planned delay = option_map_or (later_by planned) delay Absent
 
--- the delay behind a stop
+-- the delay after a stop
 abbrev pub delay_behind : ℤ → Option ℤ → StopRow → StopReading → Option ℤ
 delay_behind start delay row Absent = None
 delay_behind start delay row Skipped = delay
@@ -26,7 +26,7 @@ delay_behind start delay row (Timed arrival departure) = Some (departure -ℤ (p
 abbrev pub needs : ℤ → Option ℤ → StopRow → StopReading → Bool
 needs start delay row reading = is_skipped reading || not (same_reading reading (running (planned start row) delay))
 
--- the updates of stops behind others that supply this delay
+-- the updates of stops after others that supply this delay
 abbrev pub plan_from : ℤ → Option ℤ → List (StopRow × StopReading) → List StopUpdate
 plan_from start delay [] = []
 plan_from start delay (stop ∷ stops) =
@@ -99,7 +99,7 @@ delay-small start delay row Skipped near small = small
 delay-small start delay row (Timed arrival departure) near small =
     (and_parts (is_delay (arrival -ℤ (planned start row).0)) (is_delay (departure -ℤ (planned start row).1)) near).1
 
--- the update of a stop, if it needs one, stands behind those so far
+-- the update of a stop, if it needs one, stands after those so far
 pub plan-more : (start : ℤ) (delay : Option ℤ) (row : StopRow) (reading : StopReading) (stops : List (StopRow × StopReading)) (updates whole : List StopUpdate)
     → updates ++ plan_from start delay ((row, reading) ∷ stops) ≡ whole
     → (if needs start delay row reading then updates ++ update start row reading ∷ [] else updates) ++ plan_from start (delay_behind start delay row reading) stops ≡ whole

@@ -1,4 +1,4 @@
--- What placed updates say of stops, in one walk: behind an update the delay that it supplies is kept.
+-- What placed updates say of stops, in one walk: after an update the delay that it supplies is kept.
 use Rattle.std.proofs.Common.{append_assoc, length-append, ◌≡◌, ◌∙◌, ◌+◌, ◌<◌, ◌≤◌, ◌==◌, ◌++◌, ◌-ℤ◌, ℕ, ℤ, pos, Bool, true, false, not, List, [], ◌∷◌, map, length, slice_get, Option, Some, None, IfSome, option_map, if◌then◌else◌, refl, ap, ap₂, sym, subst, arith, eqb-true, ne_eqb, le-leb, eq-eqb}
 use Rattle.std.specs.List.{range_with_len}
 use Rattle.std.specs.Option.{option_map_or, option_or}
@@ -20,7 +20,7 @@ use Rattle.sparse_planner.proofs.States.{delay_behind, or-assoc, or-none, runnin
 abbrev pub own : ℤ × ℤ → StopUpdate → StopReading
 own planned update = if is_skipped update then Skipped else (if is_no_data update then Absent else timed (times planned update))
 
--- how stops read by the updates at and behind them, where the stops before supply this delay
+-- how stops read by the updates at and after them, where the stops before supply this delay
 abbrev pub walk : ℤ → ℕ → Option ℤ → List StopRow → List (ℕ × StopUpdate) → List StopReading
 walk start place delay [] placed = []
 walk start place delay (row ∷ rows) [] = running (planned start row) delay ∷ walk start (place + 1) delay rows []
@@ -49,13 +49,13 @@ supplier-none place from (one ∷ others) lt h =
 
 -- ---- the walk is the propagation
 
--- the delay that an update supplies behind its place
+-- the delay that an update supplies after its place
 abbrev pub delay_of : Run → Option (ℕ × StopUpdate) → Option ℤ
 delay_of run None = None
 delay_of run (Some one) =
     if is_no_data one.1 then None else option_map (λ (both : ℤ × ℤ). both.1 -ℤ (planned_at run one.0).1) (times (planned_at run one.0) one.1)
 
--- behind the place of an update stands what its delay supplies
+-- after the place of an update stands what its delay supplies
 supplied-behind : (run : Run) (place : ℕ) (found : Option (ℕ × StopUpdate)) → IfSome found (λ one. one.0 < place)
     → supplied run place found ≡ running (planned_at run place) (delay_of run found)
 supplied-behind run place None h = refl
@@ -69,7 +69,7 @@ supplied-behind run place (Some one) h =
     by false None = refl
     by false (Some both) = refl
 
--- what is left of placed updates at a place: what stands there and behind is in the rest, and what stands before it supplies
+-- what is left of placed updates at a place: what stands there and after is in the rest, and what stands before it supplies
 -- by the last that isn't SKIPPED
 pub record Left (placed : List (ℕ × StopUpdate)) (place : ℕ) (found : Option (ℕ × StopUpdate)) (rest : List (ℕ × StopUpdate)) : Type 0 where
   pub skips : (later : ℕ) → place ≤ later → skips_at later placed ≡ skips_at later rest

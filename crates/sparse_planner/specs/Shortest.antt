@@ -35,7 +35,7 @@ abbrev pub nearest : List (StopRow × StopReading) → Option (StopRow × StopRe
 nearest [] = None
 nearest (stop ∷ stops) = option_or (nearest stops) (if is_skipped stop.1 then None else Some stop)
 
--- what a stop supplies to one behind it on a day that starts at that second: nothing where it is absent, else the
+-- what a stop supplies to one after it on a day that starts at that second: nothing where it is absent, else the
 -- planned times with the delay of its departure
 abbrev pub supplied_by : ℤ → StopRow → StopRow → StopReading → StopReading
 supplied_by start row earlier Absent = Absent
@@ -70,7 +70,7 @@ update start row (Timed arrival departure) = record {
   relation = pos 0;
 }
 
--- the updates of stops that stand behind others
+-- the updates of stops that stand after others
 abbrev pub updates_from : ℤ → List (StopRow × StopReading) → List (StopRow × StopReading) → List StopUpdate
 updates_from start before [] = []
 updates_from start before (stop ∷ stops) =

@@ -77,7 +77,7 @@ fn update(start: i64, row: &StopRow, reading: &StopReading) -> StopUpdate
     }
 }
 
-// The delay that a stop supplies to those behind it: its departure's, or none where it is absent; where it is skipped,
+// The delay that a stop supplies to those after it: its departure's, or none where it is absent; where it is skipped,
 // the one that is supplied to it.
 fn handed_on(start: i64, row: &StopRow, reading: &StopReading, delay: Option<i64>) -> Option<i64>
     requires moment { IsMoment start }

@@ -32,7 +32,7 @@ least-push : (rows : List (Option ℕ)) (row : Option ℕ) → least (rows ++ ro
 least-push [] row = lesser-none row
 least-push (first ∷ rows) row = ap (lesser first) (least-push rows row) ∙ sym (lesser-assoc first (least rows) row)
 
--- more stops behind leave those of a trip
+-- more stops after leave those of a trip
 of-more : (rows more : List StopRow) (trips : List CarriedTrip) (ones : List Candidate)
     → AllZip (IsOf rows) trips ones → AllZip (IsOf (rows ++ more)) trips ones
 of-more rows more [] [] all = tt

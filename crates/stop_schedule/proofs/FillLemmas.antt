@@ -1,11 +1,11 @@
--- Stops with their times, one behind the other.
+-- Stops with their times, one after the other.
 use Rattle.std.proofs.Common.{◌≡◌, ◌∙◌, ◌<◌, ◌+◌, ℕ, List, [], ◌∷◌, ◌++◌, length, drop, get_or, drop-cons, slice_get, Some, ap, sym, add-one, append_assoc}
 use Rattle.std.proofs.lemmas.Option.{slice_get-get_or}
 use Rattle.stop_schedule.specs.StopTimes.{filled_from, times_at}
 use Rattle.stop_schedule.specs.declared.stop_times.LoadedStop.{LoadedStop}
 use Rattle.stop_schedule.specs.declared.stop_times.StopRow.{StopRow}
 
--- one stop more stands behind those so far
+-- one stop more stands after those so far
 pub filled-next : (stops : List LoadedStop) (place : ℕ) (d : LoadedStop) (into all : List StopRow) (times : ℕ × ℕ)
     → place < length stops
     → ((stop : LoadedStop) → slice_get stops place ≡ Some stop → times ≡ times_at stops place stop)

@@ -220,7 +220,7 @@ pub one-more : (before after : ℕ) (added : Bool) → after ≡ before + cond a
 one-more before after true is few = omega arith
 one-more before after false is few = omega arith
 
--- the id behind others has the next number
+-- the id after others has the next number
 pub id-behind : (ids : List (List ℕ)) (id : List ℕ) → slice_get (ids ++ id ∷ []) (length ids) ≡ Some id
 id-behind [] id = refl
 id-behind (first ∷ ids) id = id-behind ids id

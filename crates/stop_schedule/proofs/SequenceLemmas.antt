@@ -29,7 +29,7 @@ less-front (a ∷ b ∷ more) passed sequence (suc k) d long rising less =
     let first : nat_lt a.sequence sequence ≡ true = grind (arith, nat_tests, next, last) in
     both_true first later
 
--- the place behind some stops
+-- the place after some stops
 pub between : (all rest passed : List LoadedStop) (sequence : ℕ) → all ≡ rest ++ passed
     → all_less sequence rest ≡ true → all_greater sequence passed ≡ true
     → IsBetween all sequence (length rest)
@@ -110,7 +110,7 @@ or-false : (a b : Bool) → (a || b) ≡ false → (a ≡ false) × (b ≡ false
 or-false true b h = absurd (false≢true (sym h))
 or-false false b h = (refl, h)
 
--- one more stop behind others, of a sequence that none has
+-- one more stop after others, of a sequence that none has
 pub in_sequence-behind : (stops : List LoadedStop) (stop : LoadedStop) → has_sequence stop.sequence stops ≡ false
     → in_sequence (stops ++ stop ∷ []) ≡ placed stop (in_sequence stops)
 in_sequence-behind [] stop none = refl

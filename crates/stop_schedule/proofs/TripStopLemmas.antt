@@ -55,7 +55,7 @@ spread-next row minute place stops d into all within so_far =
     ∙ ap (λ n. into ++ (expanded (row + place) minute stop ∷ all_expanded n minute (drop (place + 1) stops))) same
     ∙ ap (λ left. into ++ all_expanded (row + place) minute left) (sym cell) ∙ so_far
 
--- a stop behind those of less sequences is at its place
+-- a stop after those of less sequences is at its place
 pub places-behind : (stop : LoadedStop) (stops : List LoadedStop) → all_less stop.sequence stops ≡ true
     → Places stop stops (stops ++ stop ∷ []) true
 places-behind stop stops less = (

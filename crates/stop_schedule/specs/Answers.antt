@@ -2,37 +2,18 @@
 use Rattle.std.specs.Prelude.{◌≡◌, Bool, true, false, Option, Some, None, Result, Ok, Err, ⊤}
 use Rattle.std.specs.Bool.{MatchBool}
 use Rattle.stop_schedule.specs.declared.table_fault.TableFault.{TableFault}
-use Rattle.stop_schedule.specs.declared.table_fault.TableFault.TheVariants.{Missing, TooLong, NoColumn, NotUtf8, BadField, Limit, Zones, Unknown, Duplicate, UntimedEnd, Failed, Memory}
+use Rattle.stop_schedule.specs.declared.table_fault.TableFault.TheVariants.{Failed, Memory}
 
 -- a read that failed and want of memory say nothing of the folder
 abbrev pub is_free : TableFault → Bool
-is_free (Missing file) = false
-is_free (TooLong file) = false
-is_free (NoColumn file column) = false
-is_free (NotUtf8 file row) = false
-is_free (BadField file row column) = false
-is_free (Limit file row) = false
-is_free (Zones row) = false
-is_free (Unknown file row column) = false
-is_free (Duplicate file row) = false
-is_free (UntimedEnd row) = false
 is_free (Failed file) = true
 is_free Memory = true
+is_free fault = false
 
 -- a fault is that a read failed
 abbrev pub IsFailure : TableFault → Type 0
-IsFailure (Missing file) = ⊥
-IsFailure (TooLong file) = ⊥
-IsFailure (NoColumn file column) = ⊥
-IsFailure (NotUtf8 file row) = ⊥
-IsFailure (BadField file row column) = ⊥
-IsFailure (Limit file row) = ⊥
-IsFailure (Zones row) = ⊥
-IsFailure (Unknown file row column) = ⊥
-IsFailure (Duplicate file row) = ⊥
-IsFailure (UntimedEnd row) = ⊥
 IsFailure (Failed file) = ⊤
-IsFailure Memory = ⊥
+IsFailure fault = ⊥
 
 -- the answer is that a read failed
 abbrev pub HasFailed : {T : Type 0} → Result T TableFault → Type 0

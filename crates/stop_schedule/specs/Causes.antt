@@ -16,7 +16,7 @@ use Rattle.stop_schedule.specs.declared.table_file.TableFile.TheVariants.{Trips,
 use Rattle.stop_schedule.specs.declared.table_fault.TableFault.{TableFault}
 use Rattle.stop_schedule.specs.declared.table_fault.TableFault.TheVariants.{Limit, Zones, Unknown, Duplicate}
 
--- the number of the row behind these
+-- the number of the row after these
 abbrev pub number_behind : List Row → ℕ
 number_behind before = length before + 1
 

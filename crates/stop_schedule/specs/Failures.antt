@@ -6,22 +6,12 @@ use Rattle.stop_schedule.specs.Timetable.{Sheets, ids_in, names_fault, runs_faul
 use Rattle.stop_schedule.specs.declared.table_file.TableFile.{TableFile}
 use Rattle.stop_schedule.specs.declared.table_file.TableFile.TheVariants.{Agency, Stops, Routes, Trips, Calendar, CalendarDates, Frequencies, StopTimes}
 use Rattle.stop_schedule.specs.declared.table_fault.TableFault.{TableFault}
-use Rattle.stop_schedule.specs.declared.table_fault.TableFault.TheVariants.{Missing, TooLong, NoColumn, NotUtf8, BadField, Limit, Zones, Unknown, Duplicate, UntimedEnd, Failed, Memory}
+use Rattle.stop_schedule.specs.declared.table_fault.TableFault.TheVariants.{Failed}
 
 -- this holds of the file, if the fault is that a file could not be read
 abbrev pub IfFailure : TableFault → (TableFile → Type 0) → Type 0
-IfFailure (Missing file) P = ⊤
-IfFailure (TooLong file) P = ⊤
-IfFailure (NoColumn file column) P = ⊤
-IfFailure (NotUtf8 file row) P = ⊤
-IfFailure (BadField file row column) P = ⊤
-IfFailure (Limit file row) P = ⊤
-IfFailure (Zones row) P = ⊤
-IfFailure (Unknown file row column) P = ⊤
-IfFailure (Duplicate file row) P = ⊤
-IfFailure (UntimedEnd row) P = ⊤
 IfFailure (Failed file) P = P file
-IfFailure Memory P = ⊤
+IfFailure fault P = ⊤
 
 abbrev pub IfFailed : {T : Type 0} → Result T TableFault → (TableFile → Type 0) → Type 0
 IfFailed (Ok found) P = ⊤

@@ -59,7 +59,7 @@ pub record Fits (file : TableFile) (number : ℕ) (row : Row) : Type 0 where
 abbrev pub row_fault : TableFile → (List Row → Row → Option TableFault) → List Row → Row → Option TableFault
 row_fault file further before row = option_or (common_fault file (length before + 1) row) (further before row)
 
--- the first fault of rows that stand behind others
+-- the first fault of rows that stand after others
 abbrev pub first_fault : (List Row → Row → Option TableFault) → List Row → List Row → Option TableFault
 first_fault fault before [] = None
 first_fault fault before (row ∷ rows) = option_or (fault before row) (first_fault fault (before ++ row ∷ []) rows)

@@ -15,7 +15,7 @@ is_digit byte = nat_le 48 byte && nat_le byte 57
 abbrev pub are_digits : List ℕ → Bool
 are_digits text = list_all is_digit text
 
--- the number that digits name behind those that name this value
+-- the number that digits name after those that name this value
 abbrev pub digits_value : ℕ → List ℕ → ℕ
 digits_value value [] = value
 digits_value value (digit ∷ digits) = digits_value (value * 10 + (digit - 48)) digits

@@ -7,7 +7,7 @@ use Rattle.stop_schedule.specs.Rising.{is_rising}
 use Rattle.stop_schedule.specs.declared.stop_times.LoadedStop.{LoadedStop}
 use Rattle.stop_schedule.specs.declared.table_file.TableFile.TheVariants.{Trips}
 
--- it keeps this behind as many rows as there are, which are at most so many
+-- it keeps this after as many rows as there are, which are at most so many
 abbrev pub KeepsTo : {S : Type 0} → (S → ℕ → Type 0) → S → ℕ → Type 0
 KeepsTo Keeps taker limit = (rows : ℕ) × (rows ≤ limit) × Keeps taker (rows + 1)
 

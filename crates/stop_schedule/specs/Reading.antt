@@ -8,7 +8,7 @@ use Rattle.stop_schedule.specs.Seen.{seen}
 use Rattle.stop_schedule.specs.Table.{Table}
 use Rattle.stop_schedule.specs.Timetable.{Sheets, table_of, untimed_in}
 use Rattle.stop_schedule.specs.declared.timetable.Timetable.{Timetable}
-use Rattle.stop_schedule.specs.declared.table_fault.TableFault.TheVariants.{Missing, TooLong, NoColumn, NotUtf8, BadField, Limit, Zones, Unknown, Duplicate, UntimedEnd, Failed, Memory}
+use Rattle.stop_schedule.specs.declared.table_fault.TableFault.TheVariants.{UntimedEnd, Memory}
 use Rattle.stop_schedule.specs.declared.table_file.TableFile.{TableFile}
 use Rattle.stop_schedule.specs.declared.table_fault.TableFault.{TableFault}
 
@@ -33,18 +33,9 @@ FindsFile file further Holds sheets result =
 
 -- the fault comes after all files: an end without times, or want of memory
 abbrev pub IsAssembled : TableFault → Type 0
-IsAssembled (Missing file) = ⊥
-IsAssembled (TooLong file) = ⊥
-IsAssembled (NoColumn file column) = ⊥
-IsAssembled (NotUtf8 file row) = ⊥
-IsAssembled (BadField file row column) = ⊥
-IsAssembled (Limit file row) = ⊥
-IsAssembled (Zones row) = ⊥
-IsAssembled (Unknown file row column) = ⊥
-IsAssembled (Duplicate file row) = ⊥
-IsAssembled (Failed file) = ⊥
 IsAssembled (UntimedEnd row) = ⊤
 IsAssembled Memory = ⊤
+IsAssembled fault = ⊥
 
 -- what comes after all files: the timetable where each end has times, or else the least row of an end without; want of
 -- memory says nothing

@@ -28,7 +28,7 @@ file_name CalendarDates = codes "calendar_dates.txt"
 file_name Frequencies = codes "frequencies.txt"
 file_name StopTimes = codes "stop_times.txt"
 
--- the name of a file behind its folder's
+-- the name of a file after its folder's
 abbrev pub path_of : List ℕ → TableFile → List ℕ
 path_of dir file = dir ++ codes "/" ++ file_name file
 
@@ -86,7 +86,7 @@ stops_fault trips stops sheets =
     option_or (optional_fault Frequencies (frequency_fault trips) (sheets Frequencies))
     (needed_fault StopTimes (stop_time_fault trips stops) (sheets StopTimes))
 
--- of the files behind those of the names
+-- of the files after those of the names
 abbrev pub rest_fault : List (List ℕ) → List (List ℕ) → Sheets → Option TableFault
 rest_fault routes stops sheets = option_or (runs_fault routes sheets) (stops_fault (ids_in sheets Trips) stops sheets)
 

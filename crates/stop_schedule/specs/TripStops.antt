@@ -36,7 +36,7 @@ abbrev pub stops_kept : TripStops → List LoadedStop
 stops_kept (Brief held) = brief_stops held
 stops_kept (Wide held) = held.items
 
--- the stops with one behind them, if it was added
+-- the stops with one after them, if it was added
 abbrev pub with_stop : Bool → LoadedStop → List LoadedStop → List LoadedStop
 with_stop added stop stops = if added then stops ++ stop ∷ [] else stops
 

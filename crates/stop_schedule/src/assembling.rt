@@ -22,7 +22,7 @@ use crate::trip_stops::TripStops;
 use gw_base::Files;
 use std::alloc::{AllocError, Global};
 
-// The trips that are carried so far, with their stops one behind the other, and the least row of an end without
+// The trips that are carried so far, with their stops one after the other, and the least row of an end without
 // times.
 #[derive(Drop)]
 struct Assembled {

@@ -101,7 +101,7 @@ fn read_stops<F: Files>(
     Ok((carried, by_trip))
 }
 
-// Reads the files behind those of the names.
+// Reads the files after those of the names.
 fn read_rest<F: Files>(
     alloc: Global,
     files: &mut F,

@@ -67,7 +67,7 @@ fn nearest_after(stops: &[LoadedStop]) -> Option<(usize, (u32, u32))>
     None
 }
 
-// How many stops stand behind the last with times, and its times.
+// How many stops stand after the last with times, and its times.
 fn nearest_before(stops: &[LoadedStop]) -> Option<(usize, (u32, u32))>
     ensures { result ≡ spec.nearest (reverse stops.now) }
 {

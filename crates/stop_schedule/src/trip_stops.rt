@@ -131,7 +131,7 @@ fn begin(held: &mut BriefStops, stop: &LoadedStop)
     }
 }
 
-// Adds a stop behind the others where it is in sequence and can be kept in few bytes, and says whether it was added.
+// Adds a stop after the others where it is in sequence and can be kept in few bytes, and says whether it was added.
 fn append(held: &mut BriefStops, stop: &LoadedStop) -> Result<bool, AllocError>
     ensures added { IfOk result
         (λ added. spec.brief_stops held.new ≡ spec.with_stop added stop.now (spec.brief_stops held.old)) }
@@ -190,7 +190,7 @@ fn insert_wide(alloc: Global, held: &mut TripStops, stop: &LoadedStop) -> Result
     }
 }
 
-// Adds a stop behind those in few bytes, where that can be, and says whether it was added.
+// Adds a stop after those in few bytes, where that can be, and says whether it was added.
 fn append_brief(held: &mut TripStops, stop: &LoadedStop) -> Result<bool, AllocError>
     ensures added { IfOk result
         (λ added. spec.stops_kept held.new ≡ spec.with_stop added stop.now (spec.stops_kept held.old)) }

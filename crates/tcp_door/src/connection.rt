@@ -38,7 +38,7 @@ impl<'a, R: Net + Clock> Connection<'a, R> {
         })
     }
 
-    /// Writes a piece behind what is held, and holds what of it fits in the room. Where it doesn't fit, all leaves.
+    /// Writes a piece after what is held, and holds what of it fits in the room. Where it doesn't fit, all leaves.
     pub fn put(&mut self, held: &mut Vec<u8>, piece: &[u8]) -> io::Result<()> {
         self.patience()?;
         let (front, rest) = piece.split_at(piece.len().min(ROOM.saturating_sub(held.len())));

@@ -9,7 +9,7 @@ pub struct Limits {
     pub wait: Duration,
     /// How long after its first moment a connection may still be read and written.
     pub whole: Duration,
-    /// How long the input of a refused request is read on behind its answer.
+    /// How long the input of a refused request is read on after its answer.
     pub drain: Duration,
     /// How many bytes of that input are read at most.
     pub drain_bytes: u64,
@@ -17,7 +17,7 @@ pub struct Limits {
 
 impl Limits {
     /// The limits of the program: 30 s for a read or write, 300 s for a connection, and 200 ms and 32 MiB
-    /// behind the answer of a refused request.
+    /// after the answer of a refused request.
     pub fn usual() -> Limits {
         Limits {
             wait: Duration::from_secs(30),

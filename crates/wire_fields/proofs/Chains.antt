@@ -12,7 +12,7 @@ use Rattle.wire_fields.proofs.Numbers.{AreHigh, IsChain-cons}
 use Rattle.wire_fields.proofs.Scans.{or_value}
 use Rattle.wire_fields.proofs.Varints.{power}
 
--- ---- one byte more behind bytes that all have the high bit set
+-- ---- one byte more after bytes that all have the high bit set
 
 number_of-push : (bytes : List ℕ) (byte : ℕ) → number_of (bytes ++ byte ∷ []) ≡ number_of bytes + 128 ^ length bytes * (byte % 128)
 number_of-push [] byte = omega arith

@@ -31,7 +31,7 @@ bytes_cut : (size : ℕ) (bytes : List ℕ) → length bytes < size → bytes_at
 unfolding bytes_at
 bytes_cut size bytes lt = rw (lt-ltb (length bytes) size lt) refl
 
--- behind a tag its payload is read
+-- after a tag its payload is read
 behind_tag : (number type : ℕ) (tag rest bytes : List ℕ) → bytes ≡ tag ++ rest → IsTag number type tag → type ≤ 5 → item_at bytes ≡ payload_at number type rest
 behind_tag number type tag rest bytes e h few =
     let value = number * 8 + type in

@@ -1,4 +1,4 @@
--- The first field of bytes, and the next one behind a list of fields.
+-- The first field of bytes, and the next one after a list of fields.
 use Rattle.std.proofs.Common.{◌≡◌, ◌≢◌, ℕ, ◌-◌, ◌≤◌, eqb, false, List, [], ◌∷◌, ◌++◌, length, take, drop, Ok, Err, refl, sym, ap, ◌∙◌, arith, append_assoc}
 use Rattle.std.proofs.lemmas.List.{length-append, length-take, length-drop, take-append-drop, take_at, drop_at}
 use Rattle.gw_base.specs.declared.wire_kind.WireKind.{WireKind}

@@ -8,7 +8,8 @@ use Rattle.gw_base.specs.declared.wire_kind.WireKind.{WireKind}
 use Rattle.gw_base.specs.declared.wire_kind.WireKind.TheVariants.{Truncated, LongVarint, BadTag, BadGroup, DeepGroup}
 use Rattle.wire_fields.specs.Grammar.{Payload, Varint, Fixed64, Bytes, Group, Fixed32, Item, Holds, Ends, IsVarint, IsSoundTag, IsItem, IsPayload, IsItemPayload, tag_of, type_of_item, number_of_item}
 use Rattle.wire_fields.specs.Breaks.{BeginsLong, BeginsLongPayload, BeginsUnsound}
-use Rattle.wire_fields.specs.Reading.{◌>>=◌, holding, varint_at, bytes_at, fixed_at, payload_at, item_at}
+use Rattle.gw_base.specs.Chains.{◌>>=◌}
+use Rattle.wire_fields.specs.Reading.{holding, varint_at, bytes_at, fixed_at, payload_at, item_at}
 use Rattle.wire_fields.proofs.Numbers.{bind_ok, bind_err, ok_is, err_is, chosen, varint_again, varint_found, varint_long, varint_fault}
 
 -- ---- so many bytes
@@ -82,7 +83,7 @@ unfolding payload_at
 item_payload_again (Holds field) bytes rest h = payload_again field.number field.payload bytes rest h
 item_payload_again (Ends number) bytes rest h = rw h refl
 
--- what is read behind a tag is the payload of an item of this number and type
+-- what is read after a tag is the payload of an item of this number and type
 abbrev FindsPayload : ℕ → ℕ → List ℕ → Type 0
 FindsPayload number type bytes =
     (item : Item) (rest : List ℕ) → payload_at number type bytes ≡ Ok (item, rest)
@@ -242,7 +243,7 @@ tag_read bytes rest value e lt le =
     let high : leb 8 value ≡ true = le-leb 8 value le in
     rw (e, low, high) refl
 
--- a varint that is too long in the place of the tag or behind it
+-- a varint that is too long in the place of the tag or after it
 pub item_long : (bytes : List ℕ) → BeginsLong bytes ⊎ BeginsLongPayload bytes → item_at bytes ≡ Err LongVarint
 unfolding item_at
 item_long bytes (inl h) = rw (varint_long bytes h) refl

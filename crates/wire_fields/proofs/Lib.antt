@@ -15,3 +15,4 @@ pub mod Chains
 pub mod Parts
 pub mod Cuts
 pub mod Tops
+pub mod Everywhere

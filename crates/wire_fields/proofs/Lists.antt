@@ -3,13 +3,13 @@ use Rattle.std.proofs.Common.{◌≡◌, ◌≢◌, ℕ, List, [], ◌∷◌, �
 use Rattle.std.proofs.lemmas.List.{length-append, append-nil, nil_from_length}
 use Rattle.wire_fields.specs.Grammar.{Concatenates}
 
--- two lists of spellings, one behind the other, are one
+-- two lists of spellings, one after the other, are one
 pub Concatenates-append : {X : Type 0} (Spells : X → List ℕ → Type 0) (xs ys : List X) (a b : List ℕ) → Concatenates Spells xs a → Concatenates Spells ys b → Concatenates Spells (xs ++ ys) (a ++ b)
 Concatenates-append Spells [] ys a b h k = rw h k
 Concatenates-append Spells (x ∷ xs) ys a b h k =
     (h.0, h.1 ++ b, rw h.2 (append_assoc h.0 h.1 b), h.3, Concatenates-append Spells xs ys h.1 b h.4 k)
 
--- and so is one more spelling behind them
+-- and so is one more spelling after them
 pub Concatenates-one : {X : Type 0} (Spells : X → List ℕ → Type 0) (x : X) (a : List ℕ) → Spells x a → Concatenates Spells (x ∷ []) a
 Concatenates-one Spells x a h = (a, [], sym (append-nil a), h, refl)
 

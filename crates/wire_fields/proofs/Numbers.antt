@@ -7,7 +7,8 @@ use Rattle.gw_base.specs.declared.wire_kind.WireKind.{WireKind}
 use Rattle.gw_base.specs.declared.wire_kind.WireKind.TheVariants.{Truncated, LongVarint}
 use Rattle.wire_fields.specs.Grammar.{IsChain, number_of, IsVarint}
 use Rattle.wire_fields.specs.Breaks.{BeginsLong}
-use Rattle.wire_fields.specs.Reading.{◌>>=◌, chain_at, varint_at}
+use Rattle.gw_base.specs.Chains.{◌>>=◌}
+use Rattle.wire_fields.specs.Reading.{chain_at, varint_at}
 
 -- the value of a step that did not fail
 pub bind_ok : {A B : Type 0} (r : Result A WireKind) (f : A → Result B WireKind) (y : B) → (r >>= f) ≡ Ok y → (x : A) × (r ≡ Ok x) × (f x ≡ Ok y)

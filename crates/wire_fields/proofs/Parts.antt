@@ -11,7 +11,7 @@ use Rattle.wire_fields.specs.TopReading.{IsBegun, IsTag, IsTagged, LacksSome}
 use Rattle.wire_fields.specs.TopSteps.{IsPlain}
 use Rattle.wire_fields.proofs.Items.{item_long, item_unsound}
 
--- what stands behind a tag goes on
+-- what stands after a tag goes on
 pub tagged_on : (number type : ℕ) (P Q : List ℕ → Type 0) (read more : List ℕ) → IsTagged number type P read → ((rest : List ℕ) → P rest → Q (rest ++ more)) → IsTagged number type Q (read ++ more)
 tagged_on number type P Q read more h on =
     (h.0, h.1 ++ more, ap (λ (l : List ℕ). l ++ more) h.2 ∙ append_assoc h.0 h.1 more, h.3, on h.1 h.4)
@@ -27,7 +27,7 @@ is_tag bytes tag type v lt le type_is few =
     let same : tag / 8 * 8 + type ≡ tag = omega (arith, type_is) in
     rw same (v, record { bits = lt; number = omega arith; type = omega (arith, type_is) })
 
--- and nothing behind it
+-- and nothing after it
 pub tagged_nothing : (bytes : List ℕ) (tag type : ℕ) (P : List ℕ → Type 0) → IsVarint bytes tag → tag < 2 ^ 32 → 8 ≤ tag → tag % 8 ≡ type → type ≤ 5 → P [] → IsTagged (tag / 8) type P bytes
 tagged_nothing bytes tag type P v lt le type_is few p = (bytes, [], sym (append-nil bytes), is_tag bytes tag type v lt le type_is few, p)
 

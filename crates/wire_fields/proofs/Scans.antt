@@ -6,11 +6,12 @@ use Rattle.std.proofs.lemmas.Nat.{pow-add, or_comm, or_shifted, mod-mul-add, mul
 use Rattle.std.proofs.Math.Nat.{mod-eq_of_lt, pow-suc, mul-le-mul_left}
 use Rattle.gw_base.specs.declared.wire_kind.WireKind.{WireKind}
 use Rattle.gw_base.specs.declared.wire_kind.WireKind.TheVariants.{Truncated, LongVarint}
-use Rattle.wire_fields.specs.Reading.{◌>>=◌, chain_at, varint_at}
+use Rattle.gw_base.specs.Chains.{◌>>=◌}
+use Rattle.wire_fields.specs.Reading.{chain_at, varint_at}
 use Rattle.wire_fields.proofs.Numbers.{chain_last, chain_more}
 use Rattle.wire_fields.proofs.Varints.{power}
 
--- what is read of the rest, behind i bytes whose number is low
+-- what is read of the rest, after i bytes whose number is low
 abbrev pub raised : ℕ → ℕ → Result (ℕ × List ℕ) WireKind → Result (ℕ × List ℕ) WireKind
 raised low i read = read >>= λ rest. Ok (low + 128 ^ i * rest.0, rest.1)
 

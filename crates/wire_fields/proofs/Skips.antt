@@ -58,7 +58,7 @@ walk_on number (innermost ∷ groups) now (Ends inner) a b w some h e =
       | inr other ↦ let d = other.1 in absurd cc
     ]
 
--- so far in a group behind whose start the bytes stand
+-- so far in a group after whose start the bytes stand
 pub record IsSkip (number : ℕ) (bytes groups rest : List ℕ) : Type 0 where
   pub inside : List ℕ
   pub joined : bytes ≡ inside ++ rest

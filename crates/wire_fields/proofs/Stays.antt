@@ -13,7 +13,7 @@ use Rattle.wire_fields.proofs.Skips.{HasWalked, walk_on}
 
 -- ---- a run that begins with no field leaves groups open
 
--- what follows behind an item that left these groups open
+-- what follows after an item that left these groups open
 abbrev Follows : ℕ → List Item → Type 0
 Follows number items =
     (innermost : ℕ) (groups last a b rest : List ℕ) → HasWalked number (innermost ∷ groups) a → Concatenates IsItem items b

@@ -27,7 +27,7 @@ use Rattle.wire_fields.proofs.Broken.{nothing_walked, walked_start, walked_field
 use Rattle.wire_fields.proofs.Parts.{tagged_on}
 use Rattle.wire_fields.proofs.Cuts.{nothing_cut, part_cut, part_some}
 
--- ---- what stands behind the groups
+-- ---- what stands after the groups
 
 -- the tail goes on
 pub stands_on : (at : ℕ) (groups : List ℕ) (P Q : List ℕ → Type 0) (bytes more : List ℕ) → Stands at groups P bytes → ((tail : List ℕ) → P tail → Q (tail ++ more)) → Stands at groups Q (bytes ++ more)
@@ -144,7 +144,7 @@ item_ends at number payload P now s h ne = record {
   spelled = field_from_item 64 number payload s.tail ne h;
 }
 
--- behind it the reader is between two fields
+-- after it the reader is between two fields
 ends_between : (field : WireField) (taken at : ℕ) (now : List ℕ) → taken ≡ length now → EndsWith field at now → StandsFor (record { taken = taken; at = taken; groups = []; part = parts.Nothing }) now
 ends_between field taken at now len e = (
   len,
@@ -184,7 +184,7 @@ not_zero n = ne_eqb (suc n) 0 (λ e. omega (arith, e))
 
 -- ---- payloads of a stated length
 
--- behind the length, or somewhere in the payload
+-- after the length, or somewhere in the payload
 sized_tail : (number len left less : ℕ) (tail more : List ℕ) → IsTagged number 2 (IsSized len (λ body. length body + left ≡ len)) tail → length more + less ≡ left → IsTagged number 2 (IsSized len (λ body. length body + less ≡ len)) (tail ++ more)
 sized_tail number len left less tail more h sum =
     tagged_on number 2 (IsSized len (λ body. length body + left ≡ len)) (IsSized len (λ body. length body + less ≡ len)) tail more h

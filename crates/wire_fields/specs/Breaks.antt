@@ -61,7 +61,7 @@ BeginsDeep groups bytes =
     (start : List ℕ) × (rest : List ℕ) × (number : ℕ) × (bytes ≡ start ++ rest)
     × IsItem (Holds (record { number = number; payload = Group })) start × (length groups ≡ 64)
 
--- what the tail behind a longest run, which leaves these groups open, begins with
+-- what the tail after a longest run, which leaves these groups open, begins with
 abbrev pub HasKind : WireKind → List ℕ → List ℕ → Type 0
 HasKind LongVarint groups tail = BeginsLong tail ⊎ BeginsLongPayload tail
 HasKind BadTag groups tail = BeginsUnsound tail
@@ -72,7 +72,7 @@ HasKind Truncated groups tail =
     ¬ (BeginsLong tail ⊎ BeginsLongPayload tail) × ¬ BeginsUnsound tail × ¬ BeginsEnd groups tail
     × ¬ BeginsDeep groups tail
 
--- the longest run that the bytes begin with, and the tail behind it
+-- the longest run that the bytes begin with, and the tail after it
 pub record IsLongestRun (bytes run tail groups : List ℕ) : Type 0 where
   pub joined : bytes ≡ run ++ tail
   pub is_run : IsRun run groups
@@ -83,7 +83,7 @@ abbrev pub BeginsNone : List ℕ → Type 0
 BeginsNone bytes =
     (field : WireField) (first rest : List ℕ) → bytes ≡ first ++ rest → IsSpelling 64 field first → ⊥
 
--- the bytes begin with no field, and the kind is that of the tail behind their longest run
+-- the bytes begin with no field, and the kind is that of the tail after their longest run
 pub record IsBreak (bytes : List ℕ) (kind : WireKind) : Type 0 where
   pub none : BeginsNone bytes
   pub run : List ℕ

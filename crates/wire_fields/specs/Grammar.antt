@@ -43,7 +43,7 @@ type_of (Bytes body) = 2
 type_of Group = 3
 type_of (Fixed32 value) = 5
 
--- the bytes behind the tag; a group's start has none
+-- the bytes after the tag; a group's start has none
 abbrev pub IsPayload : Payload → List ℕ → Type 0
 IsPayload (Varint value) bytes = IsVarint bytes value
 IsPayload (Fixed64 value) bytes = (length bytes ≡ 8) × (value ≡ from_le_bytes w64 bytes)
@@ -66,7 +66,7 @@ abbrev pub type_of_item : Item → ℕ
 type_of_item (Holds field) = type_of field.payload
 type_of_item (Ends number) = 4
 
--- the bytes behind its tag
+-- the bytes after its tag
 abbrev pub IsItemPayload : Item → List ℕ → Type 0
 IsItemPayload (Holds field) bytes = IsPayload field.payload bytes
 IsItemPayload (Ends number) bytes = bytes ≡ []
@@ -133,7 +133,7 @@ IsSpelling room field bytes = IsFieldWith (IsGroupWithin room) field.number fiel
 abbrev pub AreFields : List ℕ → List WireField → Type 0
 AreFields bytes fields = Concatenates (IsSpelling 64) fields bytes
 
--- the bytes begin with a spelling of the field, and the rest stands behind it
+-- the bytes begin with a spelling of the field, and the rest stands after it
 abbrev pub BeginsField : List ℕ → WireField → List ℕ → Type 0
 BeginsField bytes field rest = (spelling : List ℕ) × (bytes ≡ spelling ++ rest) × IsSpelling 64 field spelling
 
@@ -148,6 +148,6 @@ abbrev pub Continues : List ℕ → ℕ → ℕ → WireField → Type 0
 Continues bytes at next field =
     (fields : List WireField) → AreFields (take at bytes) fields → AreFields (take next bytes) (fields ++ field ∷ [])
 
--- the bytes begin with a spelling of the number, and the rest stands behind it
+-- the bytes begin with a spelling of the number, and the rest stands after it
 abbrev pub BeginsNumber : List ℕ → ℕ → List ℕ → Type 0
 BeginsNumber bytes value rest = (spelling : List ℕ) × (bytes ≡ spelling ++ rest) × IsVarint spelling value

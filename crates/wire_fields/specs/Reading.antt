@@ -1,17 +1,12 @@
--- Reading from the front of bytes, as the private functions are told: a value and the bytes behind it, or what is
+-- Reading from the front of bytes, as the private functions are told: a value and the bytes after it, or what is
 -- wrong. No public contract cites it. Each of these is proved to be what the grammar says.
 use Rattle.std.specs.Prelude.{◌≡◌, ℕ, zero, suc, ◌+◌, ◌*◌, ◌/◌, ◌%◌, ◌^◌, ◌&&◌, List, [], ◌∷◌, ◌++◌, length, take, drop, Result, Ok, Err, nat_lt, nat_le, if◌then◌else◌}
 use Rattle.std.specs.Int.{Width, w32, w64, byte_len, from_le_bytes}
+use Rattle.gw_base.specs.Chains.{◌>>=◌}
 use Rattle.gw_base.specs.declared.wire_kind.WireKind.{WireKind}
 use Rattle.gw_base.specs.declared.wire_kind.WireKind.TheVariants.{Truncated, LongVarint, BadTag, BadGroup, DeepGroup}
 use Rattle.wire_fields.specs.Grammar.{Payload, Varint, Fixed64, Bytes, Group, Fixed32, Item, Holds, Ends, IsItem, IsSpelling}
 use Rattle.wire_fields.specs.Breaks.{IsBreak}
-
--- a step, and the next one where it didn't fail
-infixl 10 ◌>>=◌
-abbrev pub ◌>>=◌ : {A B : Type 0} → Result A WireKind → (A → Result B WireKind) → Result B WireKind
-(Ok x) >>= f = f x
-(Err kind) >>= f = Err kind
 
 -- the number of a chain of so many bytes at most
 unfoldable pub chain_at : ℕ → List ℕ → Result (ℕ × List ℕ) WireKind
@@ -73,14 +68,14 @@ abbrev pub kind_of_block : Item → WireKind
 kind_of_block (Holds field) = DeepGroup
 kind_of_block (Ends number) = BadGroup
 
--- behind the start of a group of this number stand these bytes, and behind its end the rest
+-- after the start of a group of this number stand these bytes, and after its end the rest
 abbrev pub EndsGroup : ℕ → List ℕ → List ℕ → Type 0
 EndsGroup number bytes rest =
     (inside : List ℕ) × (bytes ≡ inside ++ rest)
     × ((start : List ℕ) → IsItem (holding number Group) start
     → IsSpelling 64 (record { number = number; payload = Group }) (start ++ inside))
 
--- behind the start of a group of this number the bytes break in this way
+-- after the start of a group of this number the bytes break in this way
 abbrev pub BreaksInGroup : ℕ → List ℕ → WireKind → Type 0
 BreaksInGroup number bytes kind = (start : List ℕ) → IsItem (holding number Group) start → IsBreak (start ++ bytes) kind
 

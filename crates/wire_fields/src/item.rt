@@ -26,7 +26,7 @@ impl<'a> Item<'a> {
     }
 }
 
-/// The number at the front, of any spelling, with the bytes behind it (protobuf encoding, "Base 128 Varints").
+/// The number at the front, of any spelling, with the bytes after it (protobuf encoding, "Base 128 Varints").
 #[tactic(auto, unfolding(crate::specs::Reading::varint_at, crate::specs::Reading::chain_at))]
 #[inline(always)]
 pub fn read_varint(bytes: &[u8]) -> Result<(u64, &[u8]), WireKind>
@@ -86,7 +86,7 @@ fn read_long_varint(bytes: &[u8]) -> Result<(u64, &[u8]), WireKind>
     Err(WireKind::LongVarint)
 }
 
-/// So many bytes from the front, and the bytes behind them.
+/// So many bytes from the front, and the bytes after them.
 #[tactic(auto, unfolding(crate::specs::Reading::bytes_at))]
 #[inline(always)]
 fn read_bytes(size: u64, bytes: &[u8]) -> Result<(&[u8], &[u8]), WireKind>
@@ -99,7 +99,7 @@ fn read_bytes(size: u64, bytes: &[u8]) -> Result<(&[u8], &[u8]), WireKind>
     Ok(bytes.split_at(size))
 }
 
-/// The number of eight bytes, the least first, and the bytes behind them.
+/// The number of eight bytes, the least first, and the bytes after them.
 #[tactic(auto, unfolding(crate::specs::Reading::fixed_at))]
 fn read_fixed64(bytes: &[u8]) -> Result<(u64, &[u8]), WireKind>
     ensures { Gives (λ x. (x.0, x.1.now)) result (fixed_at w64 bytes.now) }
@@ -114,7 +114,7 @@ fn read_fixed64(bytes: &[u8]) -> Result<(u64, &[u8]), WireKind>
     Ok((number, rest))
 }
 
-/// The number of four bytes, the least first, and the bytes behind them.
+/// The number of four bytes, the least first, and the bytes after them.
 #[tactic(auto, unfolding(crate::specs::Reading::fixed_at))]
 fn read_fixed32(bytes: &[u8]) -> Result<(u32, &[u8]), WireKind>
     ensures { Gives (λ x. (x.0, x.1.now)) result (fixed_at w32 bytes.now) }
@@ -127,7 +127,7 @@ fn read_fixed32(bytes: &[u8]) -> Result<(u32, &[u8]), WireKind>
     Ok((number, rest))
 }
 
-/// The payload of an item of this number and wire type, and the bytes behind it.
+/// The payload of an item of this number and wire type, and the bytes after it.
 #[tactic(auto, unfolding(crate::specs::Reading::payload_at))]
 #[inline(always)]
 fn read_payload(number: u32, wire_type: u64, bytes: &[u8]) -> Result<(Item<'_>, &[u8]), WireKind>
@@ -201,7 +201,7 @@ fn read_other_payload(
     }
 }
 
-/// The item at the front, and the bytes behind it.
+/// The item at the front, and the bytes after it.
 #[tactic(auto, unfolding(crate::specs::Reading::item_at))]
 #[inline(always)]
 pub fn read_item(bytes: &[u8]) -> Result<(Item<'_>, &[u8]), WireKind>

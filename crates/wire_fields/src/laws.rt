@@ -40,7 +40,7 @@ pub fn a_break_is_told()
         kind ≡ WireKind.Truncated }
 {}
 
-/// A list of fields behind a list of fields is a list of fields.
+/// A list of fields after a list of fields is a list of fields.
 pub fn fields_join()
     ensures { (front back : List ℕ) (fields others : List WireField) →
         AreFields front fields → AreFields back others → AreFields (front ++ back) (fields ++ others) }

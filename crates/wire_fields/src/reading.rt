@@ -11,7 +11,7 @@ use crate::groups::OpenGroups;
 use crate::item::{Item, read_group_item, read_item, read_varint};
 use gw_base::WireKind;
 
-/// The bytes behind the end of a group of this number, whose start stands before these bytes.
+/// The bytes after the end of a group of this number, whose start stands before these bytes.
 #[inline(always)]
 fn skip_group(number: u32, bytes: &[u8]) -> Result<&[u8], WireKind>
     ensures found { IfOk result (λ rest. EndsGroup number bytes.now rest.now) }
@@ -36,7 +36,7 @@ fn skip_group_apart(number: u32, bytes: &[u8]) -> Result<&[u8], WireKind>
     Ok(rest)
 }
 
-/// The field at the front, and the bytes behind it.
+/// The field at the front, and the bytes after it.
 #[inline(always)]
 fn first_field(bytes: &[u8]) -> Result<(Field<'_>, &[u8]), WireKind>
     ensures found { IfOk result (λ x. BeginsField bytes.now (field_of x.0) x.1.now) }
@@ -52,7 +52,7 @@ fn first_field(bytes: &[u8]) -> Result<(Field<'_>, &[u8]), WireKind>
     }
 }
 
-/// The next field of a message, and the place behind it: of bytes whose first `at` are a list of fields.
+/// The next field of a message, and the place after it: of bytes whose first `at` are a list of fields.
 /// None at the end of the bytes. A fault names this place. Takes no memory.
 #[inline(always)]
 pub fn next_field<'a>(bytes: &'a [u8], at: usize) -> Result<Option<(Field<'a>, usize)>, WireFault>
@@ -76,7 +76,7 @@ pub fn next_field<'a>(bytes: &'a [u8], at: usize) -> Result<Option<(Field<'a>, u
     }
 }
 
-/// The number with which the bytes begin, of any spelling, and the bytes behind it (protobuf encoding, "Base 128
+/// The number with which the bytes begin, of any spelling, and the bytes after it (protobuf encoding, "Base 128
 /// Varints"). None exactly where they begin with none. Takes no memory.
 pub fn first_number(bytes: &[u8]) -> Option<(u64, &[u8])>
     ensures found { IfSome result (λ x. BeginsNumber bytes.now x.0 x.1.now) }

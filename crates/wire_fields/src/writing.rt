@@ -1,4 +1,4 @@
-//! Numbers and fields behind what stands in a buffer, in the spellings of `specs/Spelling.antt`.
+//! Numbers and fields after what stands in a buffer, in the spellings of `specs/Spelling.antt`.
 ghost use Rattle.std.specs.Prelude.{◌≡◌, ◌++◌, ◌+◌, ◌-◌, ◌*◌, ◌<◌, ◌≤◌, length};
 ghost use Rattle.gw_base.specs.Written.{Written};
 ghost use Rattle.wire_fields.specs.Spelling.{varint, varint_field, bytes_field};
@@ -80,7 +80,7 @@ fn put_each(buf: &mut Buf, value: u64)
     buf.put(rest as u8);
 }
 
-/// Writes two numbers, one behind the other.
+/// Writes two numbers, one after the other.
 #[inline(always)]
 fn put_both(buf: &mut Buf, first: u64, second: u64)
     requires room { length (varint first ++ varint second) ≤ buf.old.spare }

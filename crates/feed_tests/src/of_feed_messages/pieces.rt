@@ -157,7 +157,7 @@ fn only_bodies_are_held(rt: HostRuntime) -> Result<(), Fail> {
     bytes.extend(&[0; 1_000])?;
     bytes.extend(&LATE)?;
     let bytes = bytes.as_slice();
-    // in a field of 1,000 bytes that isn't known, behind it, in an entity, and behind that
+    // in a field of 1,000 bytes that isn't known, after it, in an entity, and after that
     for (count, held) in [(500, 0), (1_004, 0), (1_026, 20), (1_069, 0)] {
         assert_eq!(rt; held_after(rt.alloc(), bytes, count), Some(held));
     }

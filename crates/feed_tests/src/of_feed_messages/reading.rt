@@ -39,7 +39,7 @@ fn broken_bytes_are_told(rt: HostRuntime) {
             b"\x08\xff\xff\xff\xff\xff\xff\xff\xff\xff\xff\x01",
             wire(0, LongVarint),
         ),
-        // in the header, in an entity behind a missing id, and in the second piece of a trip update
+        // in the header, in an entity after a missing id, and in the second piece of a trip update
         (b"\x0a\x05\x0a\x032.", wire(0, Truncated)),
         (b"\x0a\x05\x0a\x042.0", wire(2, Truncated)),
         (b"\x0a\x05\x0a\x032.0\x12\x01\x0a", wire(9, Truncated)),
@@ -75,7 +75,7 @@ fn missing_fields_are_told(rt: HostRuntime) {
             b"\x0a\x05\x0a\x032.0\x12\x07\x0a\x01a\x1a\x00\x1a\x00",
             FeedFault::MissingField(12, Required::Trip),
         ),
-        // and though the entity breaks behind it
+        // and though the entity breaks after it
         (
             b"\x0a\x05\x0a\x032.0\x12\x06\x0a\x01a\x1a\x00\x0a",
             FeedFault::MissingField(12, Required::Trip),
@@ -99,7 +99,7 @@ fn missing_fields_are_told(rt: HostRuntime) {
         ),
         // a version, at the end, and an entity that breaks before it
         (b"\x0a\x00\x12\x01\x0a", wire(4, WireKind::Truncated)),
-        // an id, a trip and a text, and behind each a message in the same one that breaks
+        // an id, a trip and a text, and after each a message in the same one that breaks
         (
             b"\x0a\x05\x0a\x032.0\x12\x04\x1a\x02\x0a\x05",
             FeedFault::MissingField(7, Required::Id),
@@ -134,7 +134,7 @@ fn texts_and_lengths_are_told(rt: HostRuntime) {
         (b"\x0c\x0a\x05\x0a\x032.\xff", wire(0, WireKind::BadGroup)),
         // an entity that is too long, at the place of a break
         (b"\x12\x81\x80\x40", FeedFault::EntityTooLong(0)),
-        // and behind a text that isn't UTF-8
+        // and after a text that isn't UTF-8
         (
             b"\x0a\x05\x0a\x032.\xff\x12\x81\x80\x40",
             FeedFault::NotText(2),
@@ -145,7 +145,7 @@ fn texts_and_lengths_are_told(rt: HostRuntime) {
     }
 }
 
-/// The fault of a feed with an entity of so many bytes, which begin with these, behind a header.
+/// The fault of a feed with an entity of so many bytes, which begin with these, after a header.
 fn of_length(alloc: Global, front: &[u8], length: u64) -> Option<FeedFault> {
     let mut bytes = List::new(alloc);
     bytes.extend(b"\x0a\x05\x0a\x032.0\x12").ok()?;
@@ -202,7 +202,7 @@ fn a_split_feed_is_read(rt: HostRuntime) {
     }
 }
 
-/// A relation of -1, and behind it the same field with four bytes, which is no number.
+/// A relation of -1, and after it the same field with four bytes, which is no number.
 static NEGATIVE: [u8; 32] =
     *b"\x0a\x05\x0a\x032.0\x12\x17\x0a\x01x\x1a\x12\x0a\x10\x20\xff\xff\xff\xff\xff\xff\xff\xff\xff\x01\x25\x00\x00\
         \x00\x00";

@@ -176,7 +176,7 @@ fn first_written(alloc: Global, entities: &[Entity]) -> Option<Bytes> {
     }
 }
 
-/// Both readers give back the entity behind a header.
+/// Both readers give back the entity after a header.
 fn is_given_back(rt: &impl Abort, alloc: Global, moment: Moment, entity: &[u8]) {
     let mut bytes = List::new(alloc);
     assert!(rt; bytes.extend(header_bytes(moment).as_slice()).is_ok());

@@ -30,7 +30,7 @@ type Row = (
 // The moment of the deliveries, 2024-05-01T06:00:00Z.
 const AT: i64 = 1_714_543_200;
 
-// The last second of 9998, and the one behind it.
+// The last second of 9998, and the one after it.
 const LAST: u64 = 253_370_764_799;
 
 const PAST: u64 = 253_370_764_800;

@@ -1,7 +1,7 @@
 //! Feeds that arrive. The functions meet `specs/FeedTexts.antt`.
 ghost use Rattle.std.specs.Prelude.{◌≡◌, ◌≤◌, ◌∷◌, [], ℕ, List, length, IfErr, IfOk, OnErr};
 ghost use Rattle.gw_base.specs.declared.messages.Entity.{Entity};
-ghost use Rattle.journey_model.specs.Schedules.{schedule_of};
+ghost use Rattle.gw_base.specs.Limits.{body_limit};
 ghost use Rattle.propagation.specs.Folding as folding;
 ghost use Rattle.gateway_core.specs.Arrivals.{Arrival, moments_of, window_at};
 ghost use Rattle.gateway_core.specs.Arriving.{Reads, StandsFor};
@@ -43,9 +43,9 @@ fn of_head(
     head: &FeedHead,
     fold: ReadingFold,
 ) -> Result<(Bytes, Report), FeedRefusal>
-    requires stands { (given : List Entity) × folding.StandsFor (schedule_of context.now) fold given }
-    ensures { (given : List Entity) → folding.StandsFor (schedule_of context.now) fold given
-        → spec.IsEnded (schedule_of context.now) moment (folding.feed_with head.now given) result }
+    requires stands { (given : List Entity) × folding.StandsFor context.now fold given }
+    ensures { (given : List Entity) → folding.StandsFor context.now fold given
+        → spec.IsEnded context.now moment (folding.feed_with head.now given) result }
 {
     if head.incrementality == DIFFERENTIAL {
         return Err(FeedRefusal::Differential);
@@ -69,11 +69,11 @@ fn siri_text(
     reader: FeedReader,
     fold: ReadingFold,
 ) -> Result<(Bytes, Report), FeedRefusal>
-    requires stands { (bytes : List ℕ) × Reads (schedule_of context.now) reader fold bytes }
-    ensures says { (bytes : List ℕ) → Reads (schedule_of context.now) reader fold bytes
-        → IfOk result (λ both. spec.SaysFeed (schedule_of context.now) moment bytes both.0 both.1) }
-    ensures refuses { (bytes : List ℕ) → Reads (schedule_of context.now) reader fold bytes
-        → IfErr result (spec.IsRefusedFeed (schedule_of context.now) bytes) }
+    requires stands { (bytes : List ℕ) × Reads context.now reader fold bytes }
+    ensures says { (bytes : List ℕ) → Reads context.now reader fold bytes
+        → IfOk result (λ both. spec.SaysFeed context.now moment bytes both.0 both.1) }
+    ensures refuses { (bytes : List ℕ) → Reads context.now reader fold bytes
+        → IfErr result (spec.IsRefusedFeed context.now bytes) }
 {
     match reader.finish() {
         Ok(head) => of_head(alloc, context, moment, &head, fold),
@@ -89,11 +89,11 @@ fn read_text(
     reader: FeedReader,
     fold: ReadingFold,
 ) -> Result<(Bytes, Accepted), FeedRefusal>
-    requires stands { (bytes : List ℕ) × Reads (schedule_of context.now) reader fold bytes }
-    ensures says { (bytes : List ℕ) → Reads (schedule_of context.now) reader fold bytes
-        → IfOk result (λ both. spec.SaysFeed (schedule_of context.now) moment bytes both.0 both.1.report) }
-    ensures refuses { (bytes : List ℕ) → Reads (schedule_of context.now) reader fold bytes
-        → IfErr result (spec.IsRefusedFeed (schedule_of context.now) bytes) }
+    requires stands { (bytes : List ℕ) × Reads context.now reader fold bytes }
+    ensures says { (bytes : List ℕ) → Reads context.now reader fold bytes
+        → IfOk result (λ both. spec.SaysFeed context.now moment bytes both.0 both.1.report) }
+    ensures refuses { (bytes : List ℕ) → Reads context.now reader fold bytes
+        → IfErr result (spec.IsRefusedFeed context.now bytes) }
     ensures text { IfOk result (λ both. both.1.text ≡ report_json both.1.report) }
 {
     let (siri, report) = match siri_text(alloc, context, moment, reader, fold) {
@@ -169,7 +169,7 @@ impl Gateway {
         body: &[u8],
         moment: Moment,
     ) -> Result<Accepted, FeedRefusal>
-        requires small { length body.now ≤ 16777216 }
+        requires small { length body.now ≤ body_limit }
         ensures takes { (arrivals : List Arrival) → Stands self.old arrivals
             → FeedAnswer self.old arrivals moment body.now result self.new }
         ensures text { IfOk result (λ accepted. accepted.text ≡ report_json accepted.report) }

@@ -3,10 +3,8 @@ ghost use Rattle.std.specs.Prelude.{◌≡◌, List, map, IfErr, IfOk, OnErr};
 ghost use Rattle.std.specs.Cmp.Lexicographic.{slice_cmp};
 ghost use Rattle.std.specs.Ordering.{nat_cmp};
 ghost use Rattle.feed_index.specs.Entries.{put_all};
-ghost use Rattle.journey_model.specs.Schedules.{schedule_of};
 ghost use Rattle.journey_model.specs.declared.situation.Situation as of_journeys;
 ghost use Rattle.siri_json.specs.declared.delivery.DeliveryFault.TheVariants as DeliveryFault;
-ghost use Rattle.stop_schedule.specs.Seen.{seen};
 ghost use Rattle.gateway_core.specs.Arrivals.{Arrival};
 ghost use Rattle.gateway_core.specs.SituationSteps as spec;
 ghost use Rattle.gateway_core.specs.Standing.{KeepsSituations, Stands, situation_seen};
@@ -45,10 +43,10 @@ fn read_into(
 ) -> Result<Accepted, TakeFault>
     ensures same { draft.new.kept ≡ draft.old.kept }
     ensures takes { (before : List of_journeys.Situation)
-        → KeepsSituations (seen context.now.table.now) before (spec.alerts_after draft.old)
-        → IfOk result (λ accepted. spec.TakesBody (schedule_of context.now) before body.now
+        → KeepsSituations context.now.table before (spec.alerts_after draft.old)
+        → IfOk result (λ accepted. spec.TakesBody context.now before body.now
         (spec.alerts_after draft.new) accepted.report) }
-    ensures refuses { IfErr result (spec.IsRefused (schedule_of context.now) body.now) }
+    ensures refuses { IfErr result (spec.IsRefused context.now body.now) }
     ensures text { IfOk result (λ accepted. accepted.text ≡ report_json accepted.report) }
 {
     let delivery = match read_situations(alloc, body, context) {
@@ -76,11 +74,11 @@ fn made_of(
     kept: &FeedIndex<Text, Edition>,
 ) -> Result<Made, TakeFault>
     ensures takes { (before : List of_journeys.Situation)
-        → KeepsSituations (seen context.now.table.now) before (map situation_seen kept.now.entries)
-        → IfOk result (λ made. spec.TakesBody (schedule_of context.now) before body.now
+        → KeepsSituations context.now.table before (map situation_seen kept.now.entries)
+        → IfOk result (λ made. spec.TakesBody context.now before body.now
         (map situation_seen (put_all (slice_cmp nat_cmp) kept.now.entries made.batch))
         made.accepted.report) }
-    ensures refuses { IfErr result (spec.IsRefused (schedule_of context.now) body.now) }
+    ensures refuses { IfErr result (spec.IsRefused context.now body.now) }
     ensures text { IfOk result (λ made. made.accepted.text ≡ report_json made.accepted.report) }
 {
     let mut draft = Draft::over(alloc, kept, 0);

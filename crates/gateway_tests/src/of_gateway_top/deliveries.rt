@@ -1,6 +1,6 @@
 //! Several deliveries, and none: of all records of a journey the latest counts (SIRI 2.0, RecordedAtTime).
 use super::entities::{L1_FIRST, T1_FIRST, T1_LATE, feed_of};
-use super::runs::{Given, Other, assert_run, json};
+use super::runs::{CANCELLED, Given, Other, assert_run};
 use std::alloc::Global;
 use std::process::Abort;
 
@@ -8,19 +8,48 @@ use std::process::Abort;
 const BARE: &str =
     "to-gtfsrt --gtfs g --zone-rule CET-1CEST,M3.5.0,M10.5.0/3 --from 2024-05-01 --days 2 --at 2024-05-01T06:00:00Z";
 
-// Deliveries of T1: a minute late, cancelled then, cancelled before, and without a call a second later.
-const LATE: &str =
-    "$<{$R,$1,$({$P:'A',$d:'$@08:01:00'},{$P:'B',$a:'$@08:11:00'},{$P:'C',$a:'$@08:21:00'}$)}$>";
+/// A delivery of the journey that CANCELLED cancels, recorded at the same moment: a minute late.
+pub const DELAYED: &str = concat!(
+    r#"{"ServiceDelivery":{"EstimatedTimetableDelivery":[{"EstimatedJourneyVersionFrame":[{"#,
+    r#""EstimatedVehicleJourney":["#,
+    r#"{"RecordedAtTime":"2024-05-01T06:00:00Z","#,
+    r#""FramedVehicleJourneyRef":{"DataFrameRef":"2024-05-01","DatedVehicleJourneyRef":"T1"},"#,
+    r#""EstimatedCalls":{"EstimatedCall":["#,
+    r#"{"StopPointRef":"A","ExpectedDepartureTime":"2024-05-01T08:01:00"},"#,
+    r#"{"StopPointRef":"B","ExpectedArrivalTime":"2024-05-01T08:11:00"},"#,
+    r#"{"StopPointRef":"C","ExpectedArrivalTime":"2024-05-01T08:21:00"}]}}"#,
+    "]}]}]}}",
+);
 
-const CANCELLED: &str = "$<{$R,$1,$C}$>";
+// The same journey cancelled before, and without a call a second later.
+const OLDER: &str = concat!(
+    r#"{"ServiceDelivery":{"EstimatedTimetableDelivery":[{"EstimatedJourneyVersionFrame":[{"#,
+    r#""EstimatedVehicleJourney":["#,
+    r#"{"RecordedAtTime":"2024-05-01T05:59:59.999Z","#,
+    r#""FramedVehicleJourneyRef":{"DataFrameRef":"2024-05-01","DatedVehicleJourneyRef":"T1"},"Cancellation":true}"#,
+    "]}]}]}}",
+);
 
-const OLDER: &str = "$<{'RecordedAtTime':'2024-05-01T05:59:59.999Z',$1,$C}$>";
-
-const SILENT: &str = "$<{'RecordedAtTime':'2024-05-01T06:00:01Z',$1}$>";
+const SILENT: &str = concat!(
+    r#"{"ServiceDelivery":{"EstimatedTimetableDelivery":[{"EstimatedJourneyVersionFrame":[{"#,
+    r#""EstimatedVehicleJourney":["#,
+    r#"{"RecordedAtTime":"2024-05-01T06:00:01Z","#,
+    r#""FramedVehicleJourneyRef":{"DataFrameRef":"2024-05-01","DatedVehicleJourneyRef":"T1"}}"#,
+    "]}]}]}}",
+);
 
 // Of three journeys one is unknown.
-const THREE: &str = "$<{$R,$1,$C},{$R,$F:{$D:'2024-05-01',$I:'NOPE'},$C},\
-    {'RecordedAtTime':'2024-05-01T05:00:00Z',$2,$C}$>";
+const THREE: &str = concat!(
+    r#"{"ServiceDelivery":{"EstimatedTimetableDelivery":[{"EstimatedJourneyVersionFrame":[{"#,
+    r#""EstimatedVehicleJourney":["#,
+    r#"{"RecordedAtTime":"2024-05-01T06:00:00Z","#,
+    r#""FramedVehicleJourneyRef":{"DataFrameRef":"2024-05-01","DatedVehicleJourneyRef":"T1"},"Cancellation":true},"#,
+    r#"{"RecordedAtTime":"2024-05-01T06:00:00Z","#,
+    r#""FramedVehicleJourneyRef":{"DataFrameRef":"2024-05-01","DatedVehicleJourneyRef":"NOPE"},"Cancellation":true},"#,
+    r#"{"RecordedAtTime":"2024-05-01T05:00:00Z","#,
+    r#""FramedVehicleJourneyRef":{"DataFrameRef":"2024-05-01","DatedVehicleJourneyRef":"L1"},"Cancellation":true}"#,
+    "]}]}]}}",
+);
 
 const F_TAKEN: &str = "f taken 1 passed 0 aside 0\n";
 
@@ -31,10 +60,10 @@ const H_F: &str = "h taken 1 passed 0 aside 0\nf taken 1 passed 0 aside 0\n";
 const F_H_F: &str =
     "f taken 1 passed 0 aside 0\nh taken 1 passed 0 aside 0\nf taken 1 passed 0 aside 0\n";
 
-// The words behind those, the deliveries `f` and `h`, the entities of the feed, and the report.
+// The words after those, the deliveries `f` and `h`, the entities of the feed, and the report.
 static TAKEN: [(&str, &str, &str, &[&[u8]], &str); 9] = [
-    ("", LATE, OLDER, &[], ""),
-    (" --et f", LATE, OLDER, &[T1_LATE], F_TAKEN),
+    ("", DELAYED, OLDER, &[], ""),
+    (" --et f", DELAYED, OLDER, &[T1_LATE], F_TAKEN),
     (
         " --et f",
         THREE,
@@ -43,21 +72,21 @@ static TAKEN: [(&str, &str, &str, &[&[u8]], &str); 9] = [
         "f aside 1 UnknownJourney\nf taken 2 passed 0 aside 1\n",
     ),
     // The older one doesn't count, in both orders.
-    (" --et f --et h", LATE, OLDER, &[T1_LATE], F_H),
-    (" --et h --et f", LATE, OLDER, &[T1_LATE], H_F),
+    (" --et f --et h", DELAYED, OLDER, &[T1_LATE], F_H),
+    (" --et h --et f", DELAYED, OLDER, &[T1_LATE], H_F),
     // Of two of one moment the later arrival counts.
-    (" --et f --et h", LATE, CANCELLED, &[T1_FIRST], F_H),
-    (" --et h --et f", LATE, CANCELLED, &[T1_LATE], H_F),
+    (" --et f --et h", DELAYED, CANCELLED, &[T1_FIRST], F_H),
+    (" --et h --et f", DELAYED, CANCELLED, &[T1_LATE], H_F),
     // A later one without a call takes the entity away, and the first doesn't bring it back.
-    (" --et f --et h", LATE, SILENT, &[], F_H),
-    (" --et f --et h --et f", LATE, SILENT, &[], F_H_F),
+    (" --et f --et h", DELAYED, SILENT, &[], F_H),
+    (" --et f --et h --et f", DELAYED, SILENT, &[], F_H_F),
 ];
 
-// The words behind those, the deliveries, and the run that these are.
+// The name of a run, the words after those, the deliveries, and the run that these are.
 fn assert_deliveries(
     rt: &impl Abort,
     alloc: Global,
-    more: &str,
+    (name, more): (&str, &str),
     (others, fails): (&[Other], &[u64]),
     expected: (u8, &[u8], &str),
 ) {
@@ -67,26 +96,25 @@ fn assert_deliveries(
         others,
         fails,
     };
-    assert_run(rt, alloc, more, &given, expected);
+    assert_run(rt, alloc, name, &given, expected);
 }
 
-/// The deliveries `f` and `h`, given by their short texts, come to a feed of these entities and this report.
+/// The deliveries `f` and `h` come to a feed of these entities and this report.
 pub fn assert_taken(
     rt: &impl Abort,
     alloc: Global,
     more: &str,
-    shorts: (&str, &str),
+    (first, second): (&str, &str),
     (entities, report): (&[&[u8]], &str),
 ) {
-    let first = json(alloc, shorts.0).expect(rt, "memory");
-    let second = json(alloc, shorts.1).expect(rt, "memory");
     let feed = feed_of(alloc, entities).expect(rt, "memory");
     let others = [
-        ("f", Some(first.as_str().as_bytes())),
-        ("h", Some(second.as_str().as_bytes())),
+        ("f", Some(first.as_bytes())),
+        ("h", Some(second.as_bytes())),
     ];
+    let name = format!(in alloc; "{more} over {first} and {second}").expect(rt, "memory");
     let expected = (0, feed.as_slice(), report);
-    assert_deliveries(rt, alloc, more, (&others, &[]), expected);
+    assert_deliveries(rt, alloc, (name.as_str(), more), (&others, &[]), expected);
 }
 
 // Each row is as it says. A loop over the table itself would have its text in each goal.
@@ -102,8 +130,8 @@ fn try_taken(
     )],
 ) {
     for (more, first, second, entities, report) in rows {
-        let shorts = (*first, *second);
-        assert_taken(rt, alloc, more, shorts, (entities, report));
+        let deliveries = (*first, *second);
+        assert_taken(rt, alloc, more, deliveries, (entities, report));
     }
 }
 
@@ -112,10 +140,10 @@ fn the_latest_record_of_a_journey_counts(rt: HostRuntime) {
     try_taken(&rt, rt.alloc(), &TAKEN);
 }
 
-// The number of the read of the second delivery, which comes behind those of the folder and the first.
+// The number of the read of the second delivery, which comes after those of the folder and the first.
 const SECOND: u64 = 10;
 
-// The words behind those, the files, the reads that fail, and the status and the text of the run.
+// The words after those, the files, the reads that fail, and the status and the text of the run.
 static REFUSED: [(&str, &[Other], &[u64], u8, &str); 4] = [
     (" --et f --et h", &[], &[], 66, "gateway: Missing h\n"),
     (
@@ -149,7 +177,7 @@ fn try_refused(
 ) {
     for (more, others, fails, status, text) in rows {
         let expected = (*status, b"".as_slice(), *text);
-        assert_deliveries(rt, alloc, more, (others, fails), expected);
+        assert_deliveries(rt, alloc, (more, more), (others, fails), expected);
     }
 }
 

@@ -61,8 +61,14 @@ pub fn feed_of(alloc: Global, entities: &[&[u8]]) -> Result<Vec<u8>, AllocError>
     Ok(feed)
 }
 
-/// A delivery, which is given by its short text, comes to the feed of these entities and this report.
-pub fn assert_feed(rt: &impl Abort, alloc: Global, short: &str, entities: &[&[u8]], report: &str) {
+/// A delivery comes to the feed of these entities and this report.
+pub fn assert_feed(
+    rt: &impl Abort,
+    alloc: Global,
+    delivery: &str,
+    entities: &[&[u8]],
+    report: &str,
+) {
     let feed = feed_of(alloc, entities).expect(rt, "memory");
-    assert_delivery(rt, alloc, short, (0, feed.as_slice(), report));
+    assert_delivery(rt, alloc, delivery, (0, feed.as_slice(), report));
 }

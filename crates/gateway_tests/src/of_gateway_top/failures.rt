@@ -5,7 +5,7 @@ use std::process::Abort;
 
 const FAILED: &str = "gateway: failed\n";
 
-// The number of the read of the delivery, which comes behind those of the folder.
+// The number of the read of the delivery, which comes after those of the folder.
 const DELIVERY: u64 = 9;
 
 // Reads that fail, each list with what the run leaves.

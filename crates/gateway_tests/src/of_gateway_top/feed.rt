@@ -3,21 +3,34 @@ use super::entities::{
     L1_FIRST, L1_SECOND, LONG_FIRST, T1_EARLY, T1_FIRST, T1_LATE, T1_SECOND, T2_SECOND,
     ZURICH_FIRST, assert_feed, feed_of,
 };
-use super::runs::{Given, JOURNEY, ONE_TAKEN, WORDS, assert_run, json, run_given, sink};
+use super::runs::{CANCELLED, Given, ONE_TAKEN, WORDS, assert_run, run_given, sink};
 use feed_messages::plain_feed;
 use gw_base::{Entity, MemorySink, Text, TripUpdate};
 use std::alloc::{AllocError, Global};
 use std::process::Abort;
 
 // The trips of the sample, in no order of the file, with items that are set aside between them.
-const MIXED: &str = "$<{'RecordedAtTime':'2024-04-30T00:00:00Z',$F:{$D:'2024-05-02',$I:'T2'},$C},\
-    {$R,$F:{$D:'2024-05-03',$I:'T1'},$C},\
-    {$R,$F:{$D:'2024-05-02',$I:'L1'},$C},\
-    {'RecordedAtTime':'2024-05-01T05:00:00Z',$F:{$D:'2024-05-01',$I:'L1'},$C},\
-    {$R,$F:{$D:'2024-05-01',$I:'NOPE'},$C},\
-    {$R,$F:{$D:'2024-05-02',$I:'T1'},$C},\
-    {$R,$1,$C},\
-    {$R,$F:{$D:'2024-05-02',$I:'L1'},$C}$>";
+const MIXED: &str = concat!(
+    r#"{"ServiceDelivery":{"EstimatedTimetableDelivery":[{"EstimatedJourneyVersionFrame":[{"#,
+    r#""EstimatedVehicleJourney":["#,
+    r#"{"RecordedAtTime":"2024-04-30T00:00:00Z","#,
+    r#""FramedVehicleJourneyRef":{"DataFrameRef":"2024-05-02","DatedVehicleJourneyRef":"T2"},"Cancellation":true},"#,
+    r#"{"RecordedAtTime":"2024-05-01T06:00:00Z","#,
+    r#""FramedVehicleJourneyRef":{"DataFrameRef":"2024-05-03","DatedVehicleJourneyRef":"T1"},"Cancellation":true},"#,
+    r#"{"RecordedAtTime":"2024-05-01T06:00:00Z","#,
+    r#""FramedVehicleJourneyRef":{"DataFrameRef":"2024-05-02","DatedVehicleJourneyRef":"L1"},"Cancellation":true},"#,
+    r#"{"RecordedAtTime":"2024-05-01T05:00:00Z","#,
+    r#""FramedVehicleJourneyRef":{"DataFrameRef":"2024-05-01","DatedVehicleJourneyRef":"L1"},"Cancellation":true},"#,
+    r#"{"RecordedAtTime":"2024-05-01T06:00:00Z","#,
+    r#""FramedVehicleJourneyRef":{"DataFrameRef":"2024-05-01","DatedVehicleJourneyRef":"NOPE"},"Cancellation":true},"#,
+    r#"{"RecordedAtTime":"2024-05-01T06:00:00Z","#,
+    r#""FramedVehicleJourneyRef":{"DataFrameRef":"2024-05-02","DatedVehicleJourneyRef":"T1"},"Cancellation":true},"#,
+    r#"{"RecordedAtTime":"2024-05-01T06:00:00Z","#,
+    r#""FramedVehicleJourneyRef":{"DataFrameRef":"2024-05-01","DatedVehicleJourneyRef":"T1"},"Cancellation":true},"#,
+    r#"{"RecordedAtTime":"2024-05-01T06:00:00Z","#,
+    r#""FramedVehicleJourneyRef":{"DataFrameRef":"2024-05-02","DatedVehicleJourneyRef":"L1"},"Cancellation":true}"#,
+    "]}]}]}}",
+);
 
 const MIXED_REPORT: &str =
     "f aside 1 OutOfWindow\nf aside 4 UnknownJourney\nf taken 6 passed 0 aside 2\n";
@@ -28,29 +41,59 @@ const OTHER_TRIPS: &[u8] =
 
 const NO_STOP_TIMES: &[u8] = b"trip_id,arrival_time,departure_time,stop_id,stop_sequence\n";
 
-const OTHER_JOURNEYS: &str =
-    "$<{$R,$F:{$D:'2024-05-01',$I:'a-trip-whose-entity-has-more-than-127-bytes-0123'},$C},\
-    {$R,$F:{$D:'2024-05-01',$I:'Z\\u00fcrich'},$C}$>";
+const OTHER_JOURNEYS: &str = concat!(
+    r#"{"ServiceDelivery":{"EstimatedTimetableDelivery":[{"EstimatedJourneyVersionFrame":[{"#,
+    r#""EstimatedVehicleJourney":["#,
+    r#"{"RecordedAtTime":"2024-05-01T06:00:00Z","#,
+    r#""FramedVehicleJourneyRef":{"DataFrameRef":"2024-05-01","#,
+    r#""DatedVehicleJourneyRef":"a-trip-whose-entity-has-more-than-127-bytes-0123"},"Cancellation":true},"#,
+    r#"{"RecordedAtTime":"2024-05-01T06:00:00Z","#,
+    r#""FramedVehicleJourneyRef":{"DataFrameRef":"2024-05-01","DatedVehicleJourneyRef":"Z\u00fcrich"},"#,
+    r#""Cancellation":true}"#,
+    "]}]}]}}",
+);
 
 // Deliveries of T1, each with its entity.
 static ONE: [(&str, &[u8]); 3] = [
-    (JOURNEY, T1_FIRST),
+    (CANCELLED, T1_FIRST),
     (
-        "$<{$R,$1,$({$P:'A',$a:'$@08:01:00',$d:'$@08:01:00'},\
-        {$P:'B',$a:'$@08:11:00',$d:'$@08:12:00'},{$P:'C',$a:'$@08:21:00'}$)}$>",
+        concat!(
+            r#"{"ServiceDelivery":{"EstimatedTimetableDelivery":[{"EstimatedJourneyVersionFrame":[{"#,
+            r#""EstimatedVehicleJourney":["#,
+            r#"{"RecordedAtTime":"2024-05-01T06:00:00Z","#,
+            r#""FramedVehicleJourneyRef":{"DataFrameRef":"2024-05-01","DatedVehicleJourneyRef":"T1"},"#,
+            r#""EstimatedCalls":{"EstimatedCall":["#,
+            r#"{"StopPointRef":"A","ExpectedArrivalTime":"2024-05-01T08:01:00","#,
+            r#""ExpectedDepartureTime":"2024-05-01T08:01:00"},"#,
+            r#"{"StopPointRef":"B","ExpectedArrivalTime":"2024-05-01T08:11:00","#,
+            r#""ExpectedDepartureTime":"2024-05-01T08:12:00"},"#,
+            r#"{"StopPointRef":"C","ExpectedArrivalTime":"2024-05-01T08:21:00"}]}}"#,
+            "]}]}]}}",
+        ),
         T1_LATE,
     ),
     (
-        "$<{$R,$1,$({$P:'A',$a:'$@07:59:59',$d:'$@07:59:59'},\
-        {$P:'B',$a:'$@08:09:59',$d:'$@08:10:59'},{$P:'C',$a:'$@08:19:59'}$)}$>",
+        concat!(
+            r#"{"ServiceDelivery":{"EstimatedTimetableDelivery":[{"EstimatedJourneyVersionFrame":[{"#,
+            r#""EstimatedVehicleJourney":["#,
+            r#"{"RecordedAtTime":"2024-05-01T06:00:00Z","#,
+            r#""FramedVehicleJourneyRef":{"DataFrameRef":"2024-05-01","DatedVehicleJourneyRef":"T1"},"#,
+            r#""EstimatedCalls":{"EstimatedCall":["#,
+            r#"{"StopPointRef":"A","ExpectedArrivalTime":"2024-05-01T07:59:59","#,
+            r#""ExpectedDepartureTime":"2024-05-01T07:59:59"},"#,
+            r#"{"StopPointRef":"B","ExpectedArrivalTime":"2024-05-01T08:09:59","#,
+            r#""ExpectedDepartureTime":"2024-05-01T08:10:59"},"#,
+            r#"{"StopPointRef":"C","ExpectedArrivalTime":"2024-05-01T08:19:59"}]}}"#,
+            "]}]}]}}",
+        ),
         T1_EARLY,
     ),
 ];
 
 // Each row is as it says. A loop over the table itself would have its text in each goal.
 fn try_one(rt: &impl Abort, alloc: Global, rows: &[(&'static str, &'static [u8])]) {
-    for (short, entity) in rows {
-        assert_feed(rt, alloc, short, &[entity], ONE_TAKEN);
+    for (delivery, entity) in rows {
+        assert_feed(rt, alloc, delivery, &[entity], ONE_TAKEN);
     }
 }
 
@@ -68,11 +111,10 @@ fn journeys_are_written_by_day_and_then_trip_number(rt: HostRuntime) {
 #[test]
 fn long_ids_and_ids_of_any_letters_are_written(rt: HostRuntime) {
     let feed = feed_of(rt.alloc(), &[ZURICH_FIRST, LONG_FIRST]).expect(&rt, "memory");
-    let delivery = json(rt.alloc(), OTHER_JOURNEYS).expect(&rt, "memory");
     let others = [
         ("g/trips.txt", Some(OTHER_TRIPS)),
         ("g/stop_times.txt", Some(NO_STOP_TIMES)),
-        ("f", Some(delivery.as_str().as_bytes())),
+        ("f", Some(OTHER_JOURNEYS.as_bytes())),
     ];
     let given = Given {
         words: WORDS,

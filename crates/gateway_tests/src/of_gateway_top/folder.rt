@@ -161,7 +161,7 @@ fn spellings_of_one_table_say_the_same(rt: HostRuntime) {
     try_same(&rt, rt.alloc(), &SAME);
 }
 
-// A zone in the words, other files, and the status and the text of the run: the zone comes behind the folder and before
+// A zone in the words, other files, and the status and the text of the run: the zone comes after the folder and before
 // the delivery.
 static ZONES: [(&str, &[Other], u8, &str); 7] = [
     (

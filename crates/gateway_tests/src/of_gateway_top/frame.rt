@@ -1,6 +1,6 @@
 //! The delivery's file: frames that are read, and bodies that are refused. The crate `siri_calls` tests the form of
 //! each member.
-use super::runs::{JOURNEY, NO_ENTITY, ONE_ENTITY, ONE_TAKEN, assert_delivery, assert_other, json};
+use super::runs::{CANCELLED, NO_ENTITY, ONE_ENTITY, ONE_TAKEN, assert_delivery, assert_other};
 use std::alloc::{AllocError, Global};
 use std::process::Abort;
 
@@ -9,27 +9,37 @@ const MOST: usize = 16_777_216;
 
 const NONE_TAKEN: &str = "f taken 0 passed 0 aside 0\n";
 
-// Frames without a journey. The letters are those of `json`.
+// Frames without a journey.
 static EMPTY: [&str; 4] = [
-    "$<$>",
-    "{$S:{$T:[]}}",
-    "{'Siri':{$S:{$T:[]}}}",
-    " { $S : { $T : { $V : {} } } } ",
+    concat!(
+        r#"{"ServiceDelivery":{"EstimatedTimetableDelivery":[{"EstimatedJourneyVersionFrame":[{"#,
+        r#""EstimatedVehicleJourney":[]}]}]}}"#,
+    ),
+    r#"{"ServiceDelivery":{"EstimatedTimetableDelivery":[]}}"#,
+    r#"{"Siri":{"ServiceDelivery":{"EstimatedTimetableDelivery":[]}}}"#,
+    r#" { "ServiceDelivery" : { "EstimatedTimetableDelivery" : { "EstimatedJourneyVersionFrame" : {} } } } "#,
 ];
 
 // Bodies that are JSON, but of no frame, each with what standard error is told.
 static NO_FRAME: [(&str, &str); 4] = [
     ("[]", "gateway: f NotDelivery Siri\n"),
     (
-        "{'Siri':{},$S:{$T:[]}}",
+        r#"{"Siri":{},"ServiceDelivery":{"EstimatedTimetableDelivery":[]}}"#,
         "gateway: f NotDelivery ServiceDelivery\n",
     ),
     (
-        "{$S:{$T:null}}",
+        r#"{"ServiceDelivery":{"EstimatedTimetableDelivery":null}}"#,
         "gateway: f NotDelivery EstimatedTimetableDelivery\n",
     ),
     (
-        "{$S:{$T:[{$V:[{$J:[{$R,$1,$C}]},7]}]}}",
+        concat!(
+            r#"{"ServiceDelivery":{"EstimatedTimetableDelivery":[{"EstimatedJourneyVersionFrame":[{"#,
+            r#""EstimatedVehicleJourney":["#,
+            r#"{"RecordedAtTime":"2024-05-01T06:00:00Z","#,
+            r#""FramedVehicleJourneyRef":{"DataFrameRef":"2024-05-01","DatedVehicleJourneyRef":"T1"},"#,
+            r#""Cancellation":true}"#,
+            "]},7]}]}}",
+        ),
         "gateway: f NotDelivery EstimatedJourneyVersionFrame\n",
     ),
 ];
@@ -44,8 +54,8 @@ static NO_JSON: [(&str, &[u8]); 4] = [
 
 // Each row is as it says. A loop over the table itself would have its text in each goal.
 fn try_empty(rt: &impl Abort, alloc: Global, rows: &[&'static str]) {
-    for short in rows {
-        assert_delivery(rt, alloc, short, (0, NO_ENTITY, NONE_TAKEN));
+    for delivery in rows {
+        assert_delivery(rt, alloc, delivery, (0, NO_ENTITY, NONE_TAKEN));
     }
 }
 
@@ -56,8 +66,8 @@ fn a_frame_may_be_empty(rt: HostRuntime) {
 
 // Each row is as it says. A loop over the table itself would have its text in each goal.
 fn try_no_frame(rt: &impl Abort, alloc: Global, rows: &[(&'static str, &'static str)]) {
-    for (short, err) in rows {
-        assert_delivery(rt, alloc, short, (65, b"", err));
+    for (delivery, err) in rows {
+        assert_delivery(rt, alloc, delivery, (65, b"", err));
     }
 }
 
@@ -79,9 +89,9 @@ fn a_body_that_is_no_json_is_refused(rt: HostRuntime) {
     try_no_json(&rt, rt.alloc(), &NO_JSON);
 }
 
-// A delivery of one journey with spaces behind it, up to that many bytes.
+// A delivery of one journey with spaces after it, up to that many bytes.
 fn spaced(alloc: Global, length: usize) -> Result<Vec<u8>, AllocError> {
-    let mut body = Vec::from_slice(alloc, json(alloc, JOURNEY)?.as_str().as_bytes())?;
+    let mut body = Vec::from_slice(alloc, CANCELLED.as_bytes())?;
     body.resize(length, b' ')?;
     Ok(body)
 }

@@ -131,7 +131,7 @@ static CASES: [Case; 19] = [
         kind: Answer::Refused(Refusal::NeedLength),
         body: b"H411 NeedLength\n",
     },
-    // bytes behind the body are no part of it
+    // bytes after the body are no part of it
     Case {
         front: b"POST /siri/et HTTP/1.1\r\nContent-Length: 2\r\n\r\n{}",
         piece: b"x",
@@ -222,7 +222,7 @@ fn input_of(alloc: Global, case: &Case) -> Result<Bytes, AllocError> {
     Ok(input)
 }
 
-// The cases' inputs, one behind the other.
+// The cases' inputs, one after the other.
 fn inputs(rt: &impl Abort, alloc: Global, cases: &[Case]) -> List<Bytes> {
     let mut list = List::new(alloc);
     for case in cases {

@@ -76,7 +76,7 @@ fn add_time(alloc: Global, text: &mut String, name: &str, time: &str) -> Result<
     text.push_str(member.as_str())
 }
 
-// Adds the calls of a journey, each two minutes late, a comma behind each.
+// Adds the calls of a journey, each two minutes late, a comma after each.
 fn add_calls(alloc: Global, text: &mut String, trip: u32) -> Result<(), AllocError> {
     for call in 0..CALLS {
         let planned = time_of(alloc, trip, call, 0)?;

@@ -1,6 +1,6 @@
 //! Going round: what a delivery says is shown of its feed, and of the feed of the delivery that the feed becomes. The
 //! table is made by `bench/lines.py`, apart from the program.
-use super::runs::{Given, Left, json, left_by};
+use super::runs::{CANCELLED, Given, Left, delivery_of_calls, left_by};
 use std::alloc::Global;
 use std::process::Abort;
 
@@ -15,190 +15,301 @@ const TO_SIRI: &str =
 const SHOW: &str =
     "show --gtfs g --zone-rule CET-1CEST,M3.5.0,M10.5.0/3 --from 2024-05-01 --days 2 --feed f";
 
-// Deliveries of one journey, each with the lines of its stops.
-static ROUNDS: [(&str, &str); 26] = [
-    ("$<{$R,$1,$C}$>", "2024-05-01 T1 cancelled\n"),
+// A trip and the calls of its journey, each with the lines of its stops.
+static ROUNDS: [(&str, &str, &str); 25] = [
     (
-        "$<{$R,$1,$({$P:'A',$O:1,$a:'2024-05-01T06:01:00Z',$d:'2024-05-01T06:01:00Z'},\
-        {$P:'B',$O:2,$a:'2024-05-01T06:11:00Z',$d:'2024-05-01T06:12:00Z'},\
-        {$P:'C',$O:3,$a:'2024-05-01T06:21:00Z',$d:'2024-05-01T06:21:00Z'}$)}$>",
+        "T1",
+        concat!(
+            r#"{"StopPointRef":"A","Order":1,"ExpectedArrivalTime":"2024-05-01T06:01:00Z","#,
+            r#""ExpectedDepartureTime":"2024-05-01T06:01:00Z"},"#,
+            r#"{"StopPointRef":"B","Order":2,"ExpectedArrivalTime":"2024-05-01T06:11:00Z","#,
+            r#""ExpectedDepartureTime":"2024-05-01T06:12:00Z"},"#,
+            r#"{"StopPointRef":"C","Order":3,"ExpectedArrivalTime":"2024-05-01T06:21:00Z","#,
+            r#""ExpectedDepartureTime":"2024-05-01T06:21:00Z"}"#,
+        ),
         "2024-05-01 T1 1 A 2024-05-01T06:01:00Z 2024-05-01T06:01:00Z\n\
         2024-05-01 T1 2 B 2024-05-01T06:11:00Z 2024-05-01T06:12:00Z\n\
         2024-05-01 T1 3 C 2024-05-01T06:21:00Z 2024-05-01T06:21:00Z\n",
     ),
     (
-        "$<{$R,$1,$({$P:'A',$O:1,$a:'2024-05-01T06:01:00Z',$d:'2024-05-01T06:01:00Z'},\
-        {$P:'B',$O:2,$a:'2024-05-01T06:11:00Z',$d:'2024-05-01T06:12:00Z'}$)}$>",
+        "T1",
+        concat!(
+            r#"{"StopPointRef":"A","Order":1,"ExpectedArrivalTime":"2024-05-01T06:01:00Z","#,
+            r#""ExpectedDepartureTime":"2024-05-01T06:01:00Z"},"#,
+            r#"{"StopPointRef":"B","Order":2,"ExpectedArrivalTime":"2024-05-01T06:11:00Z","#,
+            r#""ExpectedDepartureTime":"2024-05-01T06:12:00Z"}"#,
+        ),
         "2024-05-01 T1 1 A 2024-05-01T06:01:00Z 2024-05-01T06:01:00Z\n\
         2024-05-01 T1 2 B 2024-05-01T06:11:00Z 2024-05-01T06:12:00Z\n\
         2024-05-01 T1 3 C absent\n",
     ),
     (
-        "$<{$R,$1,$({$P:'B',$O:2,$a:'2024-05-01T06:11:00Z',$d:'2024-05-01T06:11:00Z'},\
-        {$P:'C',$O:3,$a:'2024-05-01T06:20:00Z',$d:'2024-05-01T06:20:00Z'}$)}$>",
+        "T1",
+        concat!(
+            r#"{"StopPointRef":"B","Order":2,"ExpectedArrivalTime":"2024-05-01T06:11:00Z","#,
+            r#""ExpectedDepartureTime":"2024-05-01T06:11:00Z"},"#,
+            r#"{"StopPointRef":"C","Order":3,"ExpectedArrivalTime":"2024-05-01T06:20:00Z","#,
+            r#""ExpectedDepartureTime":"2024-05-01T06:20:00Z"}"#,
+        ),
         "2024-05-01 T1 1 A absent\n\
         2024-05-01 T1 2 B 2024-05-01T06:11:00Z 2024-05-01T06:11:00Z\n\
         2024-05-01 T1 3 C 2024-05-01T06:20:00Z 2024-05-01T06:20:00Z\n",
     ),
     (
-        "$<{$R,$1,$({$P:'A',$O:1,$a:'2024-05-01T06:02:00Z',$d:'2024-05-01T06:02:00Z'},\
-        {$P:'B',$O:2,$C},\
-        {$P:'C',$O:3,$a:'2024-05-01T06:22:00Z',$d:'2024-05-01T06:22:00Z'}$)}$>",
+        "T1",
+        concat!(
+            r#"{"StopPointRef":"A","Order":1,"ExpectedArrivalTime":"2024-05-01T06:02:00Z","#,
+            r#""ExpectedDepartureTime":"2024-05-01T06:02:00Z"},"#,
+            r#"{"StopPointRef":"B","Order":2,"Cancellation":true},"#,
+            r#"{"StopPointRef":"C","Order":3,"ExpectedArrivalTime":"2024-05-01T06:22:00Z","#,
+            r#""ExpectedDepartureTime":"2024-05-01T06:22:00Z"}"#,
+        ),
         "2024-05-01 T1 1 A 2024-05-01T06:02:00Z 2024-05-01T06:02:00Z\n\
         2024-05-01 T1 2 B skipped\n\
         2024-05-01 T1 3 C 2024-05-01T06:22:00Z 2024-05-01T06:22:00Z\n",
     ),
     (
-        "$<{$R,$1,$({$P:'C',$O:3,$a:'2024-05-01T06:21:00Z',$d:'2024-05-01T06:21:00Z'}$)}$>",
+        "T1",
+        concat!(
+            r#"{"StopPointRef":"C","Order":3,"ExpectedArrivalTime":"2024-05-01T06:21:00Z","#,
+            r#""ExpectedDepartureTime":"2024-05-01T06:21:00Z"}"#,
+        ),
         "2024-05-01 T1 1 A absent\n\
         2024-05-01 T1 2 B absent\n\
         2024-05-01 T1 3 C 2024-05-01T06:21:00Z 2024-05-01T06:21:00Z\n",
     ),
     (
-        "$<{$R,$1,$({$P:'A',$O:1,$a:'2024-05-01T05:59:59Z',$d:'2024-05-01T05:59:59Z'},\
-        {$P:'B',$O:2,$a:'2024-05-01T06:09:59Z',$d:'2024-05-01T06:10:59Z'},\
-        {$P:'C',$O:3,$a:'2024-05-01T06:19:59Z',$d:'2024-05-01T06:19:59Z'}$)}$>",
+        "T1",
+        concat!(
+            r#"{"StopPointRef":"A","Order":1,"ExpectedArrivalTime":"2024-05-01T05:59:59Z","#,
+            r#""ExpectedDepartureTime":"2024-05-01T05:59:59Z"},"#,
+            r#"{"StopPointRef":"B","Order":2,"ExpectedArrivalTime":"2024-05-01T06:09:59Z","#,
+            r#""ExpectedDepartureTime":"2024-05-01T06:10:59Z"},"#,
+            r#"{"StopPointRef":"C","Order":3,"ExpectedArrivalTime":"2024-05-01T06:19:59Z","#,
+            r#""ExpectedDepartureTime":"2024-05-01T06:19:59Z"}"#,
+        ),
         "2024-05-01 T1 1 A 2024-05-01T05:59:59Z 2024-05-01T05:59:59Z\n\
         2024-05-01 T1 2 B 2024-05-01T06:09:59Z 2024-05-01T06:10:59Z\n\
         2024-05-01 T1 3 C 2024-05-01T06:19:59Z 2024-05-01T06:19:59Z\n",
     ),
     (
-        "$<{$R,$1,$({$P:'A',$O:1,$C},\
-        {$P:'B',$O:2,$C},\
-        {$P:'C',$O:3,$C}$)}$>",
+        "T1",
+        concat!(
+            r#"{"StopPointRef":"A","Order":1,"Cancellation":true},"#,
+            r#"{"StopPointRef":"B","Order":2,"Cancellation":true},"#,
+            r#"{"StopPointRef":"C","Order":3,"Cancellation":true}"#,
+        ),
         "2024-05-01 T1 1 A skipped\n\
         2024-05-01 T1 2 B skipped\n\
         2024-05-01 T1 3 C skipped\n",
     ),
     (
-        "$<{$R,$1,$({$P:'A',$O:1,$C}$)}$>",
+        "T1",
+        r#"{"StopPointRef":"A","Order":1,"Cancellation":true}"#,
         "2024-05-01 T1 1 A skipped\n\
         2024-05-01 T1 2 B absent\n\
         2024-05-01 T1 3 C absent\n",
     ),
     (
-        "$<{$R,$1,$({$P:'B',$O:2,$C}$)}$>",
+        "T1",
+        r#"{"StopPointRef":"B","Order":2,"Cancellation":true}"#,
         "2024-05-01 T1 1 A absent\n\
         2024-05-01 T1 2 B skipped\n\
         2024-05-01 T1 3 C absent\n",
     ),
     (
-        "$<{$R,$1,$({$P:'B',$O:2,$C},\
-        {$P:'C',$O:3,$a:'2024-05-01T06:20:00Z',$d:'2024-05-01T06:20:00Z'}$)}$>",
+        "T1",
+        concat!(
+            r#"{"StopPointRef":"B","Order":2,"Cancellation":true},"#,
+            r#"{"StopPointRef":"C","Order":3,"ExpectedArrivalTime":"2024-05-01T06:20:00Z","#,
+            r#""ExpectedDepartureTime":"2024-05-01T06:20:00Z"}"#,
+        ),
         "2024-05-01 T1 1 A absent\n\
         2024-05-01 T1 2 B skipped\n\
         2024-05-01 T1 3 C 2024-05-01T06:20:00Z 2024-05-01T06:20:00Z\n",
     ),
     (
-        "$<{$R,$1,$({$P:'A',$O:1,$a:'2024-05-01T06:00:00Z',$d:'2024-05-01T06:00:00Z'},\
-        {$P:'B',$O:2,$a:'2024-05-01T06:10:00Z',$d:'2024-05-01T06:11:00Z'},\
-        {$P:'C',$O:3,$a:'2024-05-01T06:20:00Z',$d:'2024-05-01T06:20:00Z'}$)}$>",
+        "T1",
+        concat!(
+            r#"{"StopPointRef":"A","Order":1,"ExpectedArrivalTime":"2024-05-01T06:00:00Z","#,
+            r#""ExpectedDepartureTime":"2024-05-01T06:00:00Z"},"#,
+            r#"{"StopPointRef":"B","Order":2,"ExpectedArrivalTime":"2024-05-01T06:10:00Z","#,
+            r#""ExpectedDepartureTime":"2024-05-01T06:11:00Z"},"#,
+            r#"{"StopPointRef":"C","Order":3,"ExpectedArrivalTime":"2024-05-01T06:20:00Z","#,
+            r#""ExpectedDepartureTime":"2024-05-01T06:20:00Z"}"#,
+        ),
         "2024-05-01 T1 1 A 2024-05-01T06:00:00Z 2024-05-01T06:00:00Z\n\
         2024-05-01 T1 2 B 2024-05-01T06:10:00Z 2024-05-01T06:11:00Z\n\
         2024-05-01 T1 3 C 2024-05-01T06:20:00Z 2024-05-01T06:20:00Z\n",
     ),
     (
-        "$<{$R,$1,$({$P:'A',$O:1,$a:'2024-05-01T06:00:00Z',$d:'2024-05-01T06:00:00Z'},\
-        {$P:'C',$O:3,$a:'2024-05-01T06:20:00Z',$d:'2024-05-01T06:20:00Z'}$)}$>",
+        "T1",
+        concat!(
+            r#"{"StopPointRef":"A","Order":1,"ExpectedArrivalTime":"2024-05-01T06:00:00Z","#,
+            r#""ExpectedDepartureTime":"2024-05-01T06:00:00Z"},"#,
+            r#"{"StopPointRef":"C","Order":3,"ExpectedArrivalTime":"2024-05-01T06:20:00Z","#,
+            r#""ExpectedDepartureTime":"2024-05-01T06:20:00Z"}"#,
+        ),
         "2024-05-01 T1 1 A 2024-05-01T06:00:00Z 2024-05-01T06:00:00Z\n\
         2024-05-01 T1 2 B absent\n\
         2024-05-01 T1 3 C 2024-05-01T06:20:00Z 2024-05-01T06:20:00Z\n",
     ),
     (
-        "$<{$R,$1,$({$P:'A',$O:1,$a:'2024-05-01T06:10:00Z',$d:'2024-05-01T06:10:00Z'},\
-        {$P:'B',$O:2,$a:'2024-05-01T06:10:00Z',$d:'2024-05-01T06:11:00Z'},\
-        {$P:'C',$O:3,$a:'2024-05-01T06:19:00Z',$d:'2024-05-01T06:19:00Z'}$)}$>",
+        "T1",
+        concat!(
+            r#"{"StopPointRef":"A","Order":1,"ExpectedArrivalTime":"2024-05-01T06:10:00Z","#,
+            r#""ExpectedDepartureTime":"2024-05-01T06:10:00Z"},"#,
+            r#"{"StopPointRef":"B","Order":2,"ExpectedArrivalTime":"2024-05-01T06:10:00Z","#,
+            r#""ExpectedDepartureTime":"2024-05-01T06:11:00Z"},"#,
+            r#"{"StopPointRef":"C","Order":3,"ExpectedArrivalTime":"2024-05-01T06:19:00Z","#,
+            r#""ExpectedDepartureTime":"2024-05-01T06:19:00Z"}"#,
+        ),
         "2024-05-01 T1 1 A 2024-05-01T06:10:00Z 2024-05-01T06:10:00Z\n\
         2024-05-01 T1 2 B 2024-05-01T06:10:00Z 2024-05-01T06:11:00Z\n\
         2024-05-01 T1 3 C 2024-05-01T06:19:00Z 2024-05-01T06:19:00Z\n",
     ),
     (
-        "$<{$R,$1,$({$P:'A',$O:1,$a:'2024-05-01T06:00:30Z'},\
-        {$P:'B',$O:2,$d:'2024-05-01T06:11:45Z'},\
-        {$P:'C',$O:3,$a:'2024-05-01T06:20:15Z'}$)}$>",
+        "T1",
+        concat!(
+            r#"{"StopPointRef":"A","Order":1,"ExpectedArrivalTime":"2024-05-01T06:00:30Z"},"#,
+            r#"{"StopPointRef":"B","Order":2,"ExpectedDepartureTime":"2024-05-01T06:11:45Z"},"#,
+            r#"{"StopPointRef":"C","Order":3,"ExpectedArrivalTime":"2024-05-01T06:20:15Z"}"#,
+        ),
         "2024-05-01 T1 1 A 2024-05-01T06:00:30Z 2024-05-01T06:00:30Z\n\
         2024-05-01 T1 2 B 2024-05-01T06:10:45Z 2024-05-01T06:11:45Z\n\
         2024-05-01 T1 3 C 2024-05-01T06:20:15Z 2024-05-01T06:20:15Z\n",
     ),
     (
-        "$<{$R,$1,$({$P:'A',$O:1,$d:'2024-05-01T06:00:30Z'},\
-        {$P:'B',$O:2,$a:'2024-05-01T06:10:45Z'},\
-        {$P:'C',$O:3,$d:'2024-05-01T06:20:15Z'}$)}$>",
+        "T1",
+        concat!(
+            r#"{"StopPointRef":"A","Order":1,"ExpectedDepartureTime":"2024-05-01T06:00:30Z"},"#,
+            r#"{"StopPointRef":"B","Order":2,"ExpectedArrivalTime":"2024-05-01T06:10:45Z"},"#,
+            r#"{"StopPointRef":"C","Order":3,"ExpectedDepartureTime":"2024-05-01T06:20:15Z"}"#,
+        ),
         "2024-05-01 T1 1 A 2024-05-01T06:00:30Z 2024-05-01T06:00:30Z\n\
         2024-05-01 T1 2 B 2024-05-01T06:10:45Z 2024-05-01T06:11:45Z\n\
         2024-05-01 T1 3 C 2024-05-01T06:20:15Z 2024-05-01T06:20:15Z\n",
     ),
     (
-        "$<{$R,$1,$({$P:'A',$O:1,$a:'2024-05-08T06:00:00Z',$d:'2024-05-08T06:00:00Z'},\
-        {$P:'B',$O:2,$a:'2024-05-01T06:10:00Z',$d:'2024-05-01T06:11:00Z'},\
-        {$P:'C',$O:3,$a:'2024-04-24T06:20:00Z',$d:'2024-04-24T06:20:00Z'}$)}$>",
+        "T1",
+        concat!(
+            r#"{"StopPointRef":"A","Order":1,"ExpectedArrivalTime":"2024-05-08T06:00:00Z","#,
+            r#""ExpectedDepartureTime":"2024-05-08T06:00:00Z"},"#,
+            r#"{"StopPointRef":"B","Order":2,"ExpectedArrivalTime":"2024-05-01T06:10:00Z","#,
+            r#""ExpectedDepartureTime":"2024-05-01T06:11:00Z"},"#,
+            r#"{"StopPointRef":"C","Order":3,"ExpectedArrivalTime":"2024-04-24T06:20:00Z","#,
+            r#""ExpectedDepartureTime":"2024-04-24T06:20:00Z"}"#,
+        ),
         "2024-05-01 T1 1 A 2024-05-08T06:00:00Z 2024-05-08T06:00:00Z\n\
         2024-05-01 T1 2 B 2024-05-01T06:10:00Z 2024-05-01T06:11:00Z\n\
         2024-05-01 T1 3 C 2024-04-24T06:20:00Z 2024-04-24T06:20:00Z\n",
     ),
     (
-        "$<{$R,$1,$({$P:'A',$O:1,$a:'2024-05-01T06:01:40Z',$d:'2024-05-01T06:03:20Z'},\
-        {$P:'B',$O:2,$a:'2024-05-01T06:15:00Z',$d:'2024-05-01T06:15:10Z'},\
-        {$P:'C',$O:3,$a:'2024-05-01T06:24:10Z',$d:'2024-05-01T06:24:10Z'}$)}$>",
+        "T1",
+        concat!(
+            r#"{"StopPointRef":"A","Order":1,"ExpectedArrivalTime":"2024-05-01T06:01:40Z","#,
+            r#""ExpectedDepartureTime":"2024-05-01T06:03:20Z"},"#,
+            r#"{"StopPointRef":"B","Order":2,"ExpectedArrivalTime":"2024-05-01T06:15:00Z","#,
+            r#""ExpectedDepartureTime":"2024-05-01T06:15:10Z"},"#,
+            r#"{"StopPointRef":"C","Order":3,"ExpectedArrivalTime":"2024-05-01T06:24:10Z","#,
+            r#""ExpectedDepartureTime":"2024-05-01T06:24:10Z"}"#,
+        ),
         "2024-05-01 T1 1 A 2024-05-01T06:01:40Z 2024-05-01T06:03:20Z\n\
         2024-05-01 T1 2 B 2024-05-01T06:15:00Z 2024-05-01T06:15:10Z\n\
         2024-05-01 T1 3 C 2024-05-01T06:24:10Z 2024-05-01T06:24:10Z\n",
     ),
     (
-        "$<{$R,$1,$({$P:'A',$O:1,$a:'2024-05-01T06:01:40Z',$d:'2024-05-01T06:03:20Z'},\
-        {$P:'B',$O:2,$C},\
-        {$P:'C',$O:3,$a:'2024-05-01T06:23:20Z',$d:'2024-05-01T06:23:20Z'}$)}$>",
+        "T1",
+        concat!(
+            r#"{"StopPointRef":"A","Order":1,"ExpectedArrivalTime":"2024-05-01T06:01:40Z","#,
+            r#""ExpectedDepartureTime":"2024-05-01T06:03:20Z"},"#,
+            r#"{"StopPointRef":"B","Order":2,"Cancellation":true},"#,
+            r#"{"StopPointRef":"C","Order":3,"ExpectedArrivalTime":"2024-05-01T06:23:20Z","#,
+            r#""ExpectedDepartureTime":"2024-05-01T06:23:20Z"}"#,
+        ),
         "2024-05-01 T1 1 A 2024-05-01T06:01:40Z 2024-05-01T06:03:20Z\n\
         2024-05-01 T1 2 B skipped\n\
         2024-05-01 T1 3 C 2024-05-01T06:23:20Z 2024-05-01T06:23:20Z\n",
     ),
     (
-        "$<{$R,$1,$({$P:'A',$O:1,$a:'2024-05-01T06:01:40Z',$d:'2024-05-01T06:03:20Z'},\
-        {$P:'B',$O:2,$C},\
-        {$P:'C',$O:3,$a:'2024-05-01T06:21:40Z',$d:'2024-05-01T06:21:40Z'}$)}$>",
+        "T1",
+        concat!(
+            r#"{"StopPointRef":"A","Order":1,"ExpectedArrivalTime":"2024-05-01T06:01:40Z","#,
+            r#""ExpectedDepartureTime":"2024-05-01T06:03:20Z"},"#,
+            r#"{"StopPointRef":"B","Order":2,"Cancellation":true},"#,
+            r#"{"StopPointRef":"C","Order":3,"ExpectedArrivalTime":"2024-05-01T06:21:40Z","#,
+            r#""ExpectedDepartureTime":"2024-05-01T06:21:40Z"}"#,
+        ),
         "2024-05-01 T1 1 A 2024-05-01T06:01:40Z 2024-05-01T06:03:20Z\n\
         2024-05-01 T1 2 B skipped\n\
         2024-05-01 T1 3 C 2024-05-01T06:21:40Z 2024-05-01T06:21:40Z\n",
     ),
     (
-        "$<{$R,$1,$({$P:'B',$O:2,$a:'2024-05-01T06:11:00Z',$d:'2024-05-01T06:12:00Z'},\
-        {$P:'C',$O:3,$C}$)}$>",
+        "T1",
+        concat!(
+            r#"{"StopPointRef":"B","Order":2,"ExpectedArrivalTime":"2024-05-01T06:11:00Z","#,
+            r#""ExpectedDepartureTime":"2024-05-01T06:12:00Z"},"#,
+            r#"{"StopPointRef":"C","Order":3,"Cancellation":true}"#,
+        ),
         "2024-05-01 T1 1 A absent\n\
         2024-05-01 T1 2 B 2024-05-01T06:11:00Z 2024-05-01T06:12:00Z\n\
         2024-05-01 T1 3 C skipped\n",
     ),
     (
-        "$<{$R,$2,$({$P:'A',$O:1,$a:'2024-05-01T07:01:00Z',$d:'2024-05-01T07:01:00Z'},\
-        {$P:'B',$O:2,$a:'2024-05-01T07:12:00Z',$d:'2024-05-01T07:12:00Z'},\
-        {$P:'A',$O:3,$a:'2024-05-01T07:20:00Z',$d:'2024-05-01T07:20:00Z'}$)}$>",
+        "L1",
+        concat!(
+            r#"{"StopPointRef":"A","Order":1,"ExpectedArrivalTime":"2024-05-01T07:01:00Z","#,
+            r#""ExpectedDepartureTime":"2024-05-01T07:01:00Z"},"#,
+            r#"{"StopPointRef":"B","Order":2,"ExpectedArrivalTime":"2024-05-01T07:12:00Z","#,
+            r#""ExpectedDepartureTime":"2024-05-01T07:12:00Z"},"#,
+            r#"{"StopPointRef":"A","Order":3,"ExpectedArrivalTime":"2024-05-01T07:20:00Z","#,
+            r#""ExpectedDepartureTime":"2024-05-01T07:20:00Z"}"#,
+        ),
         "2024-05-01 L1 1 A 2024-05-01T07:01:00Z 2024-05-01T07:01:00Z\n\
         2024-05-01 L1 2 B 2024-05-01T07:12:00Z 2024-05-01T07:12:00Z\n\
         2024-05-01 L1 3 A 2024-05-01T07:20:00Z 2024-05-01T07:20:00Z\n",
     ),
     (
-        "$<{$R,$2,$({$P:'A',$O:3,$a:'2024-05-01T07:21:00Z',$d:'2024-05-01T07:21:00Z'}$)}$>",
+        "L1",
+        concat!(
+            r#"{"StopPointRef":"A","Order":3,"ExpectedArrivalTime":"2024-05-01T07:21:00Z","#,
+            r#""ExpectedDepartureTime":"2024-05-01T07:21:00Z"}"#,
+        ),
         "2024-05-01 L1 1 A absent\n\
         2024-05-01 L1 2 B absent\n\
         2024-05-01 L1 3 A 2024-05-01T07:21:00Z 2024-05-01T07:21:00Z\n",
     ),
     (
-        "$<{$R,$2,$({$P:'A',$O:1,$a:'2024-05-01T07:01:00Z',$d:'2024-05-01T07:01:00Z'}$)}$>",
+        "L1",
+        concat!(
+            r#"{"StopPointRef":"A","Order":1,"ExpectedArrivalTime":"2024-05-01T07:01:00Z","#,
+            r#""ExpectedDepartureTime":"2024-05-01T07:01:00Z"}"#,
+        ),
         "2024-05-01 L1 1 A 2024-05-01T07:01:00Z 2024-05-01T07:01:00Z\n\
         2024-05-01 L1 2 B absent\n\
         2024-05-01 L1 3 A absent\n",
     ),
     (
-        "$<{$R,$2,$({$P:'A',$O:1,$C},\
-        {$P:'B',$O:2,$a:'2024-05-01T07:11:00Z',$d:'2024-05-01T07:11:00Z'},\
-        {$P:'A',$O:3,$C}$)}$>",
+        "L1",
+        concat!(
+            r#"{"StopPointRef":"A","Order":1,"Cancellation":true},"#,
+            r#"{"StopPointRef":"B","Order":2,"ExpectedArrivalTime":"2024-05-01T07:11:00Z","#,
+            r#""ExpectedDepartureTime":"2024-05-01T07:11:00Z"},"#,
+            r#"{"StopPointRef":"A","Order":3,"Cancellation":true}"#,
+        ),
         "2024-05-01 L1 1 A skipped\n\
         2024-05-01 L1 2 B 2024-05-01T07:11:00Z 2024-05-01T07:11:00Z\n\
         2024-05-01 L1 3 A skipped\n",
     ),
     (
-        "$<{$R,$2,$({$P:'A',$O:1,$a:'2024-05-01T07:00:01Z',$d:'2024-05-01T07:00:01Z'},\
-        {$P:'B',$O:2,$C},\
-        {$P:'A',$O:3,$a:'2024-05-01T07:20:01Z',$d:'2024-05-01T07:20:01Z'}$)}$>",
+        "L1",
+        concat!(
+            r#"{"StopPointRef":"A","Order":1,"ExpectedArrivalTime":"2024-05-01T07:00:01Z","#,
+            r#""ExpectedDepartureTime":"2024-05-01T07:00:01Z"},"#,
+            r#"{"StopPointRef":"B","Order":2,"Cancellation":true},"#,
+            r#"{"StopPointRef":"A","Order":3,"ExpectedArrivalTime":"2024-05-01T07:20:01Z","#,
+            r#""ExpectedDepartureTime":"2024-05-01T07:20:01Z"}"#,
+        ),
         "2024-05-01 L1 1 A 2024-05-01T07:00:01Z 2024-05-01T07:00:01Z\n\
         2024-05-01 L1 2 B skipped\n\
         2024-05-01 L1 3 A 2024-05-01T07:20:01Z 2024-05-01T07:20:01Z\n",
@@ -218,32 +329,37 @@ fn left_of(rt: &impl Abort, alloc: Global, words: &str, bytes: &[u8]) -> Left {
     left
 }
 
-// These lines are shown of a feed of one journey.
-fn assert_shown(rt: &impl Abort, alloc: Global, feed: &[u8], lines: &str) {
+// These lines are shown of the feed of one journey to which that delivery came.
+fn assert_shown(rt: &impl Abort, alloc: Global, delivery: &str, feed: &[u8], lines: &str) {
     let left = left_of(rt, alloc, SHOW, feed);
     let text = str::from_utf8(left.out.written()).expect(rt, "UTF-8");
     let expected = format!(in alloc; "{lines}taken 1 passed 0 aside 0\n").expect(rt, "memory");
-    assert_eq!(rt; text, expected.as_str());
+    assert_eq!(rt; text, expected.as_str(), "lines of {delivery}");
 }
 
 // A delivery's feed, and the feed of the delivery that it becomes, show these lines.
-fn assert_round(rt: &impl Abort, alloc: Global, short: &str, lines: &str) {
-    let delivery = json(alloc, short).expect(rt, "memory");
-    let feed = left_of(rt, alloc, TO_GTFSRT, delivery.as_str().as_bytes());
-    assert_shown(rt, alloc, feed.out.written(), lines);
+fn assert_round(rt: &impl Abort, alloc: Global, delivery: &str, lines: &str) {
+    let feed = left_of(rt, alloc, TO_GTFSRT, delivery.as_bytes());
+    assert_shown(rt, alloc, delivery, feed.out.written(), lines);
     let again = left_of(rt, alloc, TO_SIRI, feed.out.written());
     let feed = left_of(rt, alloc, TO_GTFSRT, again.out.written());
-    assert_shown(rt, alloc, feed.out.written(), lines);
+    assert_shown(rt, alloc, delivery, feed.out.written(), lines);
 }
 
 // Each row is as it says. A loop over the table itself would have its text in each goal.
-fn try_rounds(rt: &impl Abort, alloc: Global, rows: &[(&'static str, &'static str)]) {
-    for (short, lines) in rows {
-        assert_round(rt, alloc, short, lines);
+fn try_rounds(rt: &impl Abort, alloc: Global, rows: &[(&'static str, &'static str, &'static str)]) {
+    for (trip, calls, lines) in rows {
+        let delivery = delivery_of_calls(alloc, trip, calls).expect(rt, "memory");
+        assert_round(rt, alloc, delivery.as_str(), lines);
     }
 }
 
 #[test]
 fn what_a_delivery_says_goes_round(rt: HostRuntime) {
     try_rounds(&rt, rt.alloc(), &ROUNDS);
+}
+
+#[test]
+fn a_cancelled_journey_goes_round(rt: HostRuntime) {
+    assert_round(&rt, rt.alloc(), CANCELLED, "2024-05-01 T1 cancelled\n");
 }

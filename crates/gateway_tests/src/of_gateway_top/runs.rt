@@ -43,8 +43,14 @@ pub static SAMPLE: [(&str, &[u8]); 8] = [
     ),
 ];
 
-/// A journey of the trip T1 on the first day of the window. The letters are those of `json`.
-pub const JOURNEY: &str = "$<{$R,$1,$C}$>";
+/// The delivery of that run: a cancelled journey of the trip T1 on the first day of the window.
+pub const CANCELLED: &str = concat!(
+    r#"{"ServiceDelivery":{"EstimatedTimetableDelivery":[{"EstimatedJourneyVersionFrame":[{"#,
+    r#""EstimatedVehicleJourney":["#,
+    r#"{"RecordedAtTime":"2024-05-01T06:00:00Z","#,
+    r#""FramedVehicleJourneyRef":{"DataFrameRef":"2024-05-01","DatedVehicleJourneyRef":"T1"},"Cancellation":true}"#,
+    "]}]}]}}",
+);
 
 /// The feed that is made at the moment of the words, with no entity.
 pub const NO_ENTITY: &[u8] = b"\x0a\x0d\x0a\x032.0\x10\x00\x18\xe0\xb4\xc7\xb1\x06";
@@ -57,7 +63,7 @@ pub const ONE_ENTITY: &[u8] =
 /// The report on a delivery of one journey that is taken.
 pub const ONE_TAKEN: &str = "f taken 1 passed 0 aside 0\n";
 
-/// The words of a text, which stand behind single spaces, with another word in one place.
+/// The words of a text, which stand after single spaces, with another word in one place.
 pub fn words_with(
     alloc: Global,
     text: &str,
@@ -72,73 +78,38 @@ pub fn words_with(
     Ok(words)
 }
 
-/// The words of a text, which stand behind single spaces.
+/// The words of a text, which stand after single spaces.
 pub fn words_of(alloc: Global, text: &str) -> Result<Vec<Text>, AllocError> {
     words_with(alloc, text, usize::MAX, "")
 }
 
-// What a letter behind a dollar sign stands for.
-fn meaning(letter: char) -> &'static str {
-    match letter {
-        'S' => "\"ServiceDelivery\"",
-        'T' => "\"EstimatedTimetableDelivery\"",
-        'V' => "\"EstimatedJourneyVersionFrame\"",
-        'J' => "\"EstimatedVehicleJourney\"",
-        '<' => {
-            "{\"ServiceDelivery\":{\"EstimatedTimetableDelivery\":[{\"EstimatedJourneyVersionFrame\":[{\
-              \"EstimatedVehicleJourney\":["
-        }
-        '>' => "]}]}]}}",
-        'R' => "\"RecordedAtTime\":\"2024-05-01T06:00:00Z\"",
-        'F' => "\"FramedVehicleJourneyRef\"",
-        'D' => "\"DataFrameRef\"",
-        'I' => "\"DatedVehicleJourneyRef\"",
-        '1' => {
-            "\"FramedVehicleJourneyRef\":{\"DataFrameRef\":\"2024-05-01\",\"DatedVehicleJourneyRef\":\"T1\"}"
-        }
-        '2' => {
-            "\"FramedVehicleJourneyRef\":{\"DataFrameRef\":\"2024-05-01\",\"DatedVehicleJourneyRef\":\"L1\"}"
-        }
-        'C' => "\"Cancellation\":true",
-        '(' => "\"EstimatedCalls\":{\"EstimatedCall\":[",
-        ')' => "]}",
-        'P' => "\"StopPointRef\"",
-        'O' => "\"Order\"",
-        'a' => "\"ExpectedArrivalTime\"",
-        'd' => "\"ExpectedDepartureTime\"",
-        '@' => "2024-05-01T",
-        '[' => {
-            "{\"ServiceDelivery\":{\"SituationExchangeDelivery\":[{\"Situations\":{\"PtSituationElement\":["
-        }
-        ']' => "]}}]}}",
-        'N' => "\"SituationNumber\"",
-        'W' => "\"Version\"",
-        'E' => "\"Consequences\"",
-        'L' => {
-            "\"Affects\":{\"Networks\":{\"AffectedNetwork\":{\"AffectedLine\":{\"LineRef\":\"R1\"}}}}"
-        }
-        _ => "?",
-    }
+// The way down to the journeys of a delivery, and up again.
+const TO_JOURNEYS: &str = concat!(
+    r#"{"ServiceDelivery":{"EstimatedTimetableDelivery":[{"EstimatedJourneyVersionFrame":[{"#,
+    r#""EstimatedVehicleJourney":["#,
+);
+
+const BEHIND_JOURNEYS: &str = "]}]}]}}";
+
+/// The delivery of these journeys, which stand after each other with commas.
+pub fn delivery_of(alloc: Global, journeys: &str) -> Result<String, AllocError> {
+    format!(in alloc; "{TO_JOURNEYS}{journeys}{BEHIND_JOURNEYS}")
 }
 
-/// The JSON that a short text stands for: an apostrophe for a quote, and `$` with a letter for a name or
-/// for a piece that comes often, as `meaning` says.
-pub fn json(alloc: Global, short: &str) -> Result<String, AllocError> {
-    let mut json = String::new(alloc);
-    let mut is_behind = false;
-    for letter in short.chars() {
-        if is_behind {
-            json.push_str(meaning(letter))?;
-            is_behind = false;
-        } else if letter == '$' {
-            is_behind = true;
-        } else if letter == '\'' {
-            json.push('"')?;
-        } else {
-            json.push(letter)?;
-        }
-    }
-    Ok(json)
+// A journey on the first day of the window: what stands before its trip, from there to its calls, and after them.
+const TO_TRIP: &str = concat!(
+    r#"{"RecordedAtTime":"2024-05-01T06:00:00Z","#,
+    r#""FramedVehicleJourneyRef":{"DataFrameRef":"2024-05-01","DatedVehicleJourneyRef":""#,
+);
+
+const TO_CALLS: &str = r#""},"EstimatedCalls":{"EstimatedCall":["#;
+
+const BEHIND_CALLS: &str = "]}}";
+
+/// The delivery of one journey, of that trip on the first day of the window with these calls.
+pub fn delivery_of_calls(alloc: Global, trip: &str, calls: &str) -> Result<String, AllocError> {
+    let journey = format!(in alloc; "{TO_TRIP}{trip}{TO_CALLS}{calls}{BEHIND_CALLS}")?;
+    delivery_of(alloc, journey.as_str())
 }
 
 /// These numbers as a list.
@@ -300,9 +271,13 @@ pub fn assert_other(
     assert_run(rt, alloc, name, &given, expected);
 }
 
-/// The run on a delivery, which is given by its short text, leaves exactly this.
-pub fn assert_delivery(rt: &impl Abort, alloc: Global, short: &str, expected: (u8, &[u8], &str)) {
-    let delivery = json(alloc, short).expect(rt, "memory");
-    let other = ("f", Some(delivery.as_str().as_bytes()));
-    assert_other(rt, alloc, short, other, expected);
+/// The run on a delivery leaves exactly this.
+pub fn assert_delivery(
+    rt: &impl Abort,
+    alloc: Global,
+    delivery: &str,
+    expected: (u8, &[u8], &str),
+) {
+    let other = ("f", Some(delivery.as_bytes()));
+    assert_other(rt, alloc, delivery, other, expected);
 }

@@ -1,8 +1,8 @@
 //! Situations in a run: of all situations of a number the newest counts (SIRI 2.0, Version), and it is an alert of the
 //! feed where it is served. `bench/entities.py` makes the expected entities.
-use super::deliveries::assert_taken;
+use super::deliveries::{DELAYED, assert_taken};
 use super::entities::{T1_FIRST, T1_LATE};
-use super::runs::assert_delivery;
+use super::runs::{CANCELLED, assert_delivery};
 use std::alloc::Global;
 use std::process::Abort;
 
@@ -20,30 +20,72 @@ const S2_BARE: &[u8] = b"\x12\x16\x0a\x08alert:S2*\x0a*\x04\x12\x02R10\x018\x08"
 const S10_BARE: &[u8] = b"\x12\x17\x0a\x09alert:S10*\x0a*\x04\x12\x02R10\x018\x08";
 
 // The situation of the first alert, a closed one of a second version, and situations of equal and of lesser versions.
-const LATE: &str = "$[{$N:'S1',$W:1,'ValidityPeriod':[{'StartTime':'$@00:00:00Z'}],$L,\
-    'EquipmentReason':'signalFailure',$E:{'Consequence':[{'Condition':'delayed'}]},'Summary':'Late'}$]";
+const LATE: &str = concat!(
+    r#"{"ServiceDelivery":{"SituationExchangeDelivery":[{"Situations":{"PtSituationElement":["#,
+    r#"{"SituationNumber":"S1","Version":1,"ValidityPeriod":[{"StartTime":"2024-05-01T00:00:00Z"}],"#,
+    r#""Affects":{"Networks":{"AffectedNetwork":{"AffectedLine":{"LineRef":"R1"}}}},"#,
+    r#""EquipmentReason":"signalFailure","Consequences":{"Consequence":[{"Condition":"delayed"}]},"Summary":"Late"}"#,
+    "]}}]}}",
+);
 
-const CLOSED: &str = "$[{$N:'S1',$W:2,'Progress':'closed',$L}$]";
+const CLOSED: &str = concat!(
+    r#"{"ServiceDelivery":{"SituationExchangeDelivery":[{"Situations":{"PtSituationElement":["#,
+    r#"{"SituationNumber":"S1","Version":2,"Progress":"closed","#,
+    r#""Affects":{"Networks":{"AffectedNetwork":{"AffectedLine":{"LineRef":"R1"}}}}}"#,
+    "]}}]}}",
+);
 
-const LATER: &str = "$[{$N:'S1',$W:1,$L,'Summary':'Later'}$]";
+const LATER: &str = concat!(
+    r#"{"ServiceDelivery":{"SituationExchangeDelivery":[{"Situations":{"PtSituationElement":["#,
+    r#"{"SituationNumber":"S1","Version":1,"#,
+    r#""Affects":{"Networks":{"AffectedNetwork":{"AffectedLine":{"LineRef":"R1"}}}},"Summary":"Later"}"#,
+    "]}}]}}",
+);
 
-const DRAFT: &str = "$[{$N:'S1',$W:'1','Progress':{'value':'DRAFT'},$L}$]";
+const DRAFT: &str = concat!(
+    r#"{"ServiceDelivery":{"SituationExchangeDelivery":[{"Situations":{"PtSituationElement":["#,
+    r#"{"SituationNumber":"S1","Version":"1","Progress":{"value":"DRAFT"},"#,
+    r#""Affects":{"Networks":{"AffectedNetwork":{"AffectedLine":{"LineRef":"R1"}}}}}"#,
+    "]}}]}}",
+);
 
-const TWO_EQUAL: &str = "$[{$N:'S1',$L,'Summary':'Late'},{$N:'S1',$L,'Summary':'Later'}$]";
+const TWO_EQUAL: &str = concat!(
+    r#"{"ServiceDelivery":{"SituationExchangeDelivery":[{"Situations":{"PtSituationElement":["#,
+    r#"{"SituationNumber":"S1","Affects":{"Networks":{"AffectedNetwork":{"AffectedLine":{"LineRef":"R1"}}}},"#,
+    r#""Summary":"Late"},"#,
+    r#"{"SituationNumber":"S1","Affects":{"Networks":{"AffectedNetwork":{"AffectedLine":{"LineRef":"R1"}}}},"#,
+    r#""Summary":"Later"}"#,
+    "]}}]}}",
+);
 
-const FALLING: &str = "$[{$N:'S1',$W:1,$L,'Summary':'Later'},{$N:'S1',$L,'Summary':'Late'}$]";
+const FALLING: &str = concat!(
+    r#"{"ServiceDelivery":{"SituationExchangeDelivery":[{"Situations":{"PtSituationElement":["#,
+    r#"{"SituationNumber":"S1","Version":1,"#,
+    r#""Affects":{"Networks":{"AffectedNetwork":{"AffectedLine":{"LineRef":"R1"}}}},"Summary":"Later"},"#,
+    r#"{"SituationNumber":"S1","Affects":{"Networks":{"AffectedNetwork":{"AffectedLine":{"LineRef":"R1"}}}},"#,
+    r#""Summary":"Late"}"#,
+    "]}}]}}",
+);
 
 // Situations of three numbers, of which one isn't served, and such as are set aside.
-const NUMBERS: &str = "$[{$N:'S2',$L},{$N:'S3',$L,'Progress':'Closed'},{$N:'S10',$L}$]";
+const NUMBERS: &str = concat!(
+    r#"{"ServiceDelivery":{"SituationExchangeDelivery":[{"Situations":{"PtSituationElement":["#,
+    r#"{"SituationNumber":"S2","Affects":{"Networks":{"AffectedNetwork":{"AffectedLine":{"LineRef":"R1"}}}}},"#,
+    r#"{"SituationNumber":"S3","Affects":{"Networks":{"AffectedNetwork":{"AffectedLine":{"LineRef":"R1"}}}},"#,
+    r#""Progress":"Closed"},"#,
+    r#"{"SituationNumber":"S10","Affects":{"Networks":{"AffectedNetwork":{"AffectedLine":{"LineRef":"R1"}}}}}"#,
+    "]}}]}}",
+);
 
-const ASIDE: &str =
-    "$[{$N:'S1','Affects':{}},{$N:'S1','Affects':{'Networks':{'AffectedNetwork':{'AffectedLine':{'LineRef':'R9'}}}}},\
-    {$N:'S2','Affects':{'Networks':{'AffectedNetwork':{'AffectedLine':[{'LineRef':'R9'},{'LineRef':'R1'}]}}}},{$N:7}$]";
-
-const CANCELLED: &str = "$<{$R,$1,$C}$>";
-
-const DELAYED: &str =
-    "$<{$R,$1,$({$P:'A',$d:'$@08:01:00'},{$P:'B',$a:'$@08:11:00'},{$P:'C',$a:'$@08:21:00'}$)}$>";
+const ASIDE: &str = concat!(
+    r#"{"ServiceDelivery":{"SituationExchangeDelivery":[{"Situations":{"PtSituationElement":["#,
+    r#"{"SituationNumber":"S1","Affects":{}},"#,
+    r#"{"SituationNumber":"S1","Affects":{"Networks":{"AffectedNetwork":{"AffectedLine":{"LineRef":"R9"}}}}},"#,
+    r#"{"SituationNumber":"S2","#,
+    r#""Affects":{"Networks":{"AffectedNetwork":{"AffectedLine":[{"LineRef":"R9"},{"LineRef":"R1"}]}}}},"#,
+    r#"{"SituationNumber":7}"#,
+    "]}}]}}",
+);
 
 const F: &str = "f taken 1 passed 0 aside 0\n";
 
@@ -83,7 +125,7 @@ static TAKEN: [(&str, &str, &str, &[&[u8]], &str); 14] = [
         "f taken 3 passed 0 aside 0\n",
     ),
     (" --sx f", ASIDE, LATE, &[S2_BARE], ASIDE_REPORT),
-    // They stand behind the journeys, in whatever order the files come.
+    // They stand after the journeys, in whatever order the files come.
     (" --sx f --et h", LATE, CANCELLED, &[T1_FIRST, S1_LATE], F_H),
     (" --et h --sx f", LATE, DELAYED, &[T1_LATE, S1_LATE], H_F),
 ];
@@ -101,8 +143,8 @@ fn try_taken(
     )],
 ) {
     for (more, first, second, entities, report) in rows {
-        let shorts = (*first, *second);
-        assert_taken(rt, alloc, more, shorts, (entities, report));
+        let deliveries = (*first, *second);
+        assert_taken(rt, alloc, more, deliveries, (entities, report));
     }
 }
 

@@ -1,5 +1,5 @@
 //! Feeds as short texts, by the reader of feeds.
-use super::runs::{Given, Left, Other, WORDS, json, left_by};
+use super::runs::{Given, Left, Other, WORDS, left_by};
 use feed_messages::read_feed;
 use gw_base::{Entity, Event, Feed, StopUpdate};
 use std::alloc::{AllocError, Global};
@@ -56,10 +56,10 @@ fn told(alloc: Global, feed: &Feed) -> Result<String, AllocError> {
 }
 
 // The bytes of a feed say this.
-fn assert_said(rt: &impl Abort, alloc: Global, short: &str, bytes: &[u8], expected: &str) {
+fn assert_said(rt: &impl Abort, alloc: Global, delivery: &str, bytes: &[u8], expected: &str) {
     let feed = read_feed(alloc, bytes).expect(rt, "a feed");
     let text = told(alloc, &feed).expect(rt, "memory");
-    assert_eq!(rt; text.as_str(), expected, "feed of {short}");
+    assert_eq!(rt; text.as_str(), expected, "feed of {delivery}");
 }
 
 // What the run over these files in place of the sample's left.
@@ -72,18 +72,16 @@ fn left_over(alloc: Global, others: &[Other]) -> Result<Left, AllocError> {
     left_by(alloc, &given)
 }
 
-/// The run on a delivery, which is given by its short text, leaves that report and a feed that says this: for each
-/// entity a line `ID RELATION`, and behind it `|SEQUENCE RELATION ARRIVAL DEPARTURE` for each update, with `DELAY@TIME`
-/// or `-`.
-pub fn assert_told(rt: &impl Abort, alloc: Global, short: &str, expected: &str, report: &str) {
-    let delivery = json(alloc, short).expect(rt, "memory");
-    let others = [("f", Some(delivery.as_str().as_bytes()))];
+/// The run on a delivery leaves that report and a feed that says this: for each entity a line `ID RELATION`, and after
+/// it `|SEQUENCE RELATION ARRIVAL DEPARTURE` for each update, with `DELAY@TIME` or `-`.
+pub fn assert_told(rt: &impl Abort, alloc: Global, delivery: &str, expected: &str, report: &str) {
+    let others = [("f", Some(delivery.as_bytes()))];
     let left = left_over(alloc, &others).expect(rt, "memory");
     assert_eq!(rt;
         left.err.written(),
         report.as_bytes(),
-        "standard error of {short}"
+        "standard error of {delivery}"
     );
-    assert_eq!(rt; left.status, 0, "status of {short}");
-    assert_said(rt, alloc, short, left.out.written(), expected);
+    assert_eq!(rt; left.status, 0, "status of {delivery}");
+    assert_said(rt, alloc, delivery, left.out.written(), expected);
 }

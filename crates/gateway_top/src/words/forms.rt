@@ -40,7 +40,7 @@ pub const MOST_STOPS: u64 = 100;
 /// The most digits of a number.
 pub const MOST_DIGITS: usize = 10;
 
-/// The form of the value behind a flag.
+/// The form of the value after a flag.
 #[derive(Clone, Copy, Debug, PartialEq, Eq)]
 pub enum Form {
     /// A text that isn't empty.
@@ -182,7 +182,7 @@ pub fn moment(word: &Text) -> Option<Moment>
     Moment::new(read_utc(word.as_str())?)
 }
 
-/// The word has the form, behind the value before it.
+/// The word has the form, after the value before it.
 pub fn has_form(form: Form, before: &Text, word: &Text) -> bool
     ensures { result ≡ form_of form before.now word.now }
 {

@@ -10,7 +10,7 @@ use super::BadWord;
 use super::forms::{Form, has_form};
 use gw_base::Text;
 
-/// A pair of words: one of some flags, and behind it a value of a form.
+/// A pair of words: one of some flags, and after it a value of a form.
 #[derive(Clone, Copy, Debug)]
 pub struct Pair {
     /// The flags.
@@ -26,7 +26,7 @@ pub struct Command {
     pub name: &'static str,
     /// Its pairs.
     pub pairs: &'static [Pair],
-    /// The pair behind them that there may be any number of: none where it has no flag.
+    /// The pair after them that there may be any number of: none where it has no flag.
     pub repeated: Pair,
 }
 
@@ -46,7 +46,7 @@ fn named<'a>(commands: &'a [Command], name: &Text) -> Option<&'a Command>
         .find(|command| command.name == name.as_str())
 }
 
-// The pair of that number: behind the last one, the repeated one.
+// The pair of that number: after the last one, the repeated one.
 fn pair_at(command: &Command, number: usize) -> &Pair
     ensures { pair_of result.now ≡ spec.pair_at (row_of command.now) number }
 {
@@ -56,7 +56,7 @@ fn pair_at(command: &Command, number: usize) -> &Pair
     }
 }
 
-// The value of the pair that the words begin with and the words behind it, or the number of the wrong word.
+// The value of the pair that the words begin with and the words after it, or the number of the wrong word.
 fn split_pair<'a>(
     pair: &Pair,
     before: &Text,
@@ -81,7 +81,7 @@ fn split_pair<'a>(
     }
 }
 
-// The number of the first wrong word behind a command's name, if there is one.
+// The number of the first wrong word after a command's name, if there is one.
 fn wrong_word(command: &Command, name: &Text, words: &[Text]) -> Option<usize>
     requires { IsSatisfiable (row_of command.now) }
     ensures { MatchOption result

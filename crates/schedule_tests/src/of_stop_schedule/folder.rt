@@ -11,7 +11,7 @@ use stop_schedule::{StopRow, TableFault, TableFile, Timetable, TripNo, read_time
 pub enum Given<'a> {
     /// It isn't there.
     Absent,
-    /// These rows behind its header.
+    /// These rows after its header.
     Rows(&'a [u8]),
     /// These bytes.
     Whole(&'a [u8]),

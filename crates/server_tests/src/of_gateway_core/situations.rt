@@ -75,7 +75,7 @@ const BEYOND: &[u8] =
     b"{\"aside\":[{\"fault\":\"EntityTooLong 70035\",\"index\":5000},{\"fault\":\"Full\",\"index\":5001}],\
       \"passed\":0,\"taken\":5000}";
 
-// Adds as many situations as are kept, a comma behind each.
+// Adds as many situations as are kept, a comma after each.
 fn add_most(alloc: Global, body: &mut Bytes) -> Result<(), AllocError> {
     for number in 0..MOST {
         let name = format!(in alloc; "N{number}")?;

@@ -4,7 +4,7 @@ ghost use Rattle.gw_base.specs.Moments.{IsMoment};
 ghost use Rattle.stop_schedule.specs.Seen.{seen};
 ghost use Rattle.stop_schedule.specs.Stops.{are_known};
 ghost use Rattle.journey_model.specs.Readings.{fits_trip};
-ghost use Rattle.journey_model.specs.Schedules.{FitsSchedule, run_on, schedule_of};
+ghost use Rattle.journey_model.specs.Schedules.{FitsSchedule, run_on};
 ghost use Rattle.serde_json.specs.Written.{comma_if};
 ghost use Rattle.siri_calls.specs.DeliveryTree.{is_cancelled_journey};
 ghost use Rattle.siri_calls.specs.DeliveryTexts.{closing_text, frame_ref_text, journey_text, journey_text_on, journeys_text, opening_text};
@@ -29,7 +29,7 @@ fn put_opening(out: &mut Bytes, cancelled: bool) -> Result<(), AllocError>
     }
 }
 
-// Adds the trip and its service day, behind the calls.
+// Adds the trip and its service day, after the calls.
 fn put_frame_ref(out: &mut Bytes, day: Day, trip_id: &str) -> Result<(), AllocError>
     ensures { OnOk result (out.new ≡ out.old ++ frame_ref_text day trip_id.now) }
 {
@@ -93,9 +93,9 @@ fn put_journey(
     one: &DatedReading,
     moment: Moment,
 ) -> Result<(), AllocError>
-    requires { FitsSchedule (schedule_of context.now) one.now.trip.0 one.now.day one.now.reading }
-    ensures { OnOk result (out.new ≡ out.old ++ journey_text_on (schedule_of context.now) moment one.now
-        (run_on (schedule_of context.now) one.now.trip.0 one.now.day)) }
+    requires { FitsSchedule context.now one.now.trip.0 one.now.day one.now.reading }
+    ensures { OnOk result (out.new ≡ out.old ++ journey_text_on context.now moment one.now
+        (run_on context.now one.now.trip.0 one.now.day)) }
 {
     let _stops = context.table.stops_of(one.trip);
     let Some(dated) = context.dated(one.trip, one.day) else {
@@ -115,8 +115,8 @@ pub(crate) fn put_journeys(
     journeys: &[DatedReading],
     moment: Moment,
 ) -> Result<(), AllocError>
-    requires { All (λ one. FitsSchedule (schedule_of context.now) one.trip.0 one.day one.reading) journeys.now }
-    ensures { OnOk result (out.new ≡ out.old ++ journeys_text false (schedule_of context.now) moment journeys.now) }
+    requires { All (λ one. FitsSchedule context.now one.trip.0 one.day one.reading) journeys.now }
+    ensures { OnOk result (out.new ≡ out.old ++ journeys_text false context.now moment journeys.now) }
 {
     let mut later = false;
     for one in journeys {

@@ -1,4 +1,4 @@
-//! Strings, moments and numbers of JSON, written behind what leads to them.
+//! Strings, moments and numbers of JSON, written after what leads to them.
 ghost use Rattle.std.specs.Prelude.{◌≡◌, ◌++◌, ◌∷◌, [], ◌<◌, IsTrue, OnOk};
 ghost use Rattle.std.specs.Char.{digit_char};
 ghost use Rattle.json.specs.Print.{escape, escape_byte, escape_letter, quoted};
@@ -118,7 +118,7 @@ pub fn put_moment(out: &mut Bytes, lead: &[u8], secs: &i64) -> Result<(), AllocE
     put_text(out, lead, &write_moment(*secs))
 }
 
-/// Adds an arrival and a departure, in seconds since 1970, each behind what leads to it.
+/// Adds an arrival and a departure, in seconds since 1970, each after what leads to it.
 pub(crate) fn put_times(
     out: &mut Bytes,
     leads: (&[u8], &[u8]),

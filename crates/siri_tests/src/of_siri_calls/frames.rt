@@ -5,106 +5,121 @@ use super::assert_said;
 static FRAMES: [(&str, &str); 34] = [
     ("", "NotJson"),
     ("{", "NotJson"),
-    ("{'a':'\\ud800'}", "NotJson"),
+    (r#"{"a":"\ud800"}"#, "NotJson"),
     ("7", "NotDelivery(Siri)"),
     ("null", "NotDelivery(Siri)"),
     ("[{}]", "NotDelivery(Siri)"),
-    ("{'Siri':7}", "NotDelivery(Siri)"),
-    ("{'Siri':[{}]}", "NotDelivery(Siri)"),
+    (r#"{"Siri":7}"#, "NotDelivery(Siri)"),
+    (r#"{"Siri":[{}]}"#, "NotDelivery(Siri)"),
     ("{}", "NotDelivery(ServiceDelivery)"),
-    ("{'Siri':null}", "NotDelivery(ServiceDelivery)"),
+    (r#"{"Siri":null}"#, "NotDelivery(ServiceDelivery)"),
     (
-        "{'Siri':{},'ServiceDelivery':{'EstimatedTimetableDelivery':[]}}",
+        r#"{"Siri":{},"ServiceDelivery":{"EstimatedTimetableDelivery":[]}}"#,
         "NotDelivery(ServiceDelivery)",
     ),
     (
-        "{'Siri':'','ServiceDelivery':{'EstimatedTimetableDelivery':[]}}",
+        r#"{"Siri":"","ServiceDelivery":{"EstimatedTimetableDelivery":[]}}"#,
         " passed 0",
     ),
     (
-        "{'Siri':{'ServiceDelivery':{'EstimatedTimetableDelivery':[]}}}",
-        " passed 0",
-    ),
-    ("{'ServiceDelivery':null}", "NotDelivery(ServiceDelivery)"),
-    ("{'ServiceDelivery':7}", "NotDelivery(ServiceDelivery)"),
-    ("{'ServiceDelivery':[{}]}", "NotDelivery(ServiceDelivery)"),
-    (
-        "{'ServiceDelivery':{}}",
-        "NotDelivery(EstimatedTimetableDelivery)",
-    ),
-    (
-        "{'ServiceDelivery':{'EstimatedTimetableDelivery':null}}",
-        "NotDelivery(EstimatedTimetableDelivery)",
-    ),
-    (
-        "{'ServiceDelivery':{'EstimatedTimetableDelivery':''}}",
-        "NotDelivery(EstimatedTimetableDelivery)",
-    ),
-    (
-        "{'ServiceDelivery':{'EstimatedTimetableDelivery':7}}",
-        "NotDelivery(EstimatedTimetableDelivery)",
-    ),
-    (
-        "{'ServiceDelivery':{'EstimatedTimetableDelivery':[{},null]}}",
-        "NotDelivery(EstimatedTimetableDelivery)",
-    ),
-    (
-        "{'ServiceDelivery':{'EstimatedTimetableDelivery':{}}}",
+        r#"{"Siri":{"ServiceDelivery":{"EstimatedTimetableDelivery":[]}}}"#,
         " passed 0",
     ),
     (
-        "{'ServiceDelivery':{'EstimatedTimetableDelivery':[{'EstimatedJourneyVersionFrame':7},[]]}}",
+        r#"{"ServiceDelivery":null}"#,
+        "NotDelivery(ServiceDelivery)",
+    ),
+    (r#"{"ServiceDelivery":7}"#, "NotDelivery(ServiceDelivery)"),
+    (
+        r#"{"ServiceDelivery":[{}]}"#,
+        "NotDelivery(ServiceDelivery)",
+    ),
+    (
+        r#"{"ServiceDelivery":{}}"#,
         "NotDelivery(EstimatedTimetableDelivery)",
     ),
     (
-        "{'ServiceDelivery':{'EstimatedTimetableDelivery':{'EstimatedJourneyVersionFrame':null}}}",
+        r#"{"ServiceDelivery":{"EstimatedTimetableDelivery":null}}"#,
+        "NotDelivery(EstimatedTimetableDelivery)",
+    ),
+    (
+        r#"{"ServiceDelivery":{"EstimatedTimetableDelivery":""}}"#,
+        "NotDelivery(EstimatedTimetableDelivery)",
+    ),
+    (
+        r#"{"ServiceDelivery":{"EstimatedTimetableDelivery":7}}"#,
+        "NotDelivery(EstimatedTimetableDelivery)",
+    ),
+    (
+        r#"{"ServiceDelivery":{"EstimatedTimetableDelivery":[{},null]}}"#,
+        "NotDelivery(EstimatedTimetableDelivery)",
+    ),
+    (
+        r#"{"ServiceDelivery":{"EstimatedTimetableDelivery":{}}}"#,
         " passed 0",
     ),
     (
-        "{'ServiceDelivery':{'EstimatedTimetableDelivery':{'EstimatedJourneyVersionFrame':''}}}",
+        r#"{"ServiceDelivery":{"EstimatedTimetableDelivery":[{"EstimatedJourneyVersionFrame":7},[]]}}"#,
+        "NotDelivery(EstimatedTimetableDelivery)",
+    ),
+    (
+        r#"{"ServiceDelivery":{"EstimatedTimetableDelivery":{"EstimatedJourneyVersionFrame":null}}}"#,
         " passed 0",
     ),
     (
-        "{'ServiceDelivery':{'EstimatedTimetableDelivery':{'EstimatedJourneyVersionFrame':[]}}}",
+        r#"{"ServiceDelivery":{"EstimatedTimetableDelivery":{"EstimatedJourneyVersionFrame":""}}}"#,
         " passed 0",
     ),
     (
-        "{'ServiceDelivery':{'EstimatedTimetableDelivery':[{},{'EstimatedJourneyVersionFrame':[{},null]}]}}",
+        r#"{"ServiceDelivery":{"EstimatedTimetableDelivery":{"EstimatedJourneyVersionFrame":[]}}}"#,
+        " passed 0",
+    ),
+    (
+        r#"{"ServiceDelivery":{"EstimatedTimetableDelivery":[{},{"EstimatedJourneyVersionFrame":[{},null]}]}}"#,
         "NotDelivery(EstimatedJourneyVersionFrame)",
     ),
     (
-        "{'ServiceDelivery':{'EstimatedTimetableDelivery':[{'EstimatedJourneyVersionFrame':'x'},{}]}}",
+        r#"{"ServiceDelivery":{"EstimatedTimetableDelivery":[{"EstimatedJourneyVersionFrame":"x"},{}]}}"#,
         "NotDelivery(EstimatedJourneyVersionFrame)",
     ),
     (
-        "{'ServiceDelivery':{'EstimatedTimetableDelivery':{'EstimatedJourneyVersionFrame':{}}}}",
+        r#"{"ServiceDelivery":{"EstimatedTimetableDelivery":{"EstimatedJourneyVersionFrame":{}}}}"#,
         " passed 0",
     ),
     (
-        "{'ServiceDelivery':{'EstimatedTimetableDelivery':{'EstimatedJourneyVersionFrame':{'EstimatedVehicleJourney':\
-          null}}}}",
+        concat!(
+            r#"{"ServiceDelivery":{"EstimatedTimetableDelivery":{"EstimatedJourneyVersionFrame":{"#,
+            r#""EstimatedVehicleJourney":null}}}}"#,
+        ),
         " passed 0",
     ),
     (
-        "{'ServiceDelivery':{'EstimatedTimetableDelivery':{'EstimatedJourneyVersionFrame':{'EstimatedVehicleJourney':\
-          {}}}}}",
+        concat!(
+            r#"{"ServiceDelivery":{"EstimatedTimetableDelivery":{"EstimatedJourneyVersionFrame":{"#,
+            r#""EstimatedVehicleJourney":{}}}}}"#,
+        ),
         "|BadField(RecordedAtTime) passed 0",
     ),
     (
-        "{'ServiceDelivery':{'EstimatedTimetableDelivery':{'EstimatedJourneyVersionFrame':{'EstimatedVehicleJourney':\
-          7}}}}",
+        concat!(
+            r#"{"ServiceDelivery":{"EstimatedTimetableDelivery":{"EstimatedJourneyVersionFrame":{"#,
+            r#""EstimatedVehicleJourney":7}}}}"#,
+        ),
         "|BadField(EstimatedVehicleJourney) passed 0",
     ),
     (
-        "{'ServiceDelivery':{'EstimatedTimetableDelivery':[{'EstimatedJourneyVersionFrame':[{\
-          'EstimatedVehicleJourney':[null,{}]},{'EstimatedVehicleJourney':[[]]}]},\
-          {'EstimatedJourneyVersionFrame':[{'EstimatedVehicleJourney':[{}]}]}]}}",
+        concat!(
+            r#"{"ServiceDelivery":{"EstimatedTimetableDelivery":[{"EstimatedJourneyVersionFrame":[{"#,
+            r#""EstimatedVehicleJourney":[null,{}]},"#,
+            r#"{"EstimatedVehicleJourney":[[]]}]},"#,
+            r#"{"EstimatedJourneyVersionFrame":[{"EstimatedVehicleJourney":[{}]}]}]}}"#,
+        ),
         "|BadField(EstimatedVehicleJourney)|BadField(RecordedAtTime)|BadField(EstimatedVehicleJourney)|BadField(Recor\
           dedAtTime) passed 0",
     ),
     // Of equal names the last counts.
     (
-        "{'ServiceDelivery':7,'ServiceDelivery':{'EstimatedTimetableDelivery':[]}}",
+        r#"{"ServiceDelivery":7,"ServiceDelivery":{"EstimatedTimetableDelivery":[]}}"#,
         " passed 0",
     ),
 ];

@@ -6,105 +6,112 @@ static FRAMES: [(&str, &str); 30] = [
     ("", "NotJson"),
     ("{", "NotJson"),
     ("7", "NotDelivery(Siri)"),
-    ("{'Siri':7}", "NotDelivery(Siri)"),
+    (r#"{"Siri":7}"#, "NotDelivery(Siri)"),
     ("{}", "NotDelivery(ServiceDelivery)"),
-    ("{'ServiceDelivery':[{}]}", "NotDelivery(ServiceDelivery)"),
     (
-        "{'ServiceDelivery':{}}",
+        r#"{"ServiceDelivery":[{}]}"#,
+        "NotDelivery(ServiceDelivery)",
+    ),
+    (
+        r#"{"ServiceDelivery":{}}"#,
         "NotDelivery(SituationExchangeDelivery)",
     ),
     (
-        "{'ServiceDelivery':{'EstimatedTimetableDelivery':[]}}",
+        r#"{"ServiceDelivery":{"EstimatedTimetableDelivery":[]}}"#,
         "NotDelivery(SituationExchangeDelivery)",
     ),
     (
-        "{'ServiceDelivery':{'SituationExchangeDelivery':null}}",
+        r#"{"ServiceDelivery":{"SituationExchangeDelivery":null}}"#,
         "NotDelivery(SituationExchangeDelivery)",
     ),
     (
-        "{'ServiceDelivery':{'SituationExchangeDelivery':''}}",
+        r#"{"ServiceDelivery":{"SituationExchangeDelivery":""}}"#,
         "NotDelivery(SituationExchangeDelivery)",
     ),
     (
-        "{'ServiceDelivery':{'SituationExchangeDelivery':7}}",
+        r#"{"ServiceDelivery":{"SituationExchangeDelivery":7}}"#,
         "NotDelivery(SituationExchangeDelivery)",
     ),
     (
-        "{'ServiceDelivery':{'SituationExchangeDelivery':[{},null]}}",
+        r#"{"ServiceDelivery":{"SituationExchangeDelivery":[{},null]}}"#,
         "NotDelivery(SituationExchangeDelivery)",
     ),
     (
-        "{'ServiceDelivery':{'SituationExchangeDelivery':[{'Situations':7},[]]}}",
+        r#"{"ServiceDelivery":{"SituationExchangeDelivery":[{"Situations":7},[]]}}"#,
         "NotDelivery(SituationExchangeDelivery)",
     ),
     (
-        "{'ServiceDelivery':{'SituationExchangeDelivery':[]}}",
+        r#"{"ServiceDelivery":{"SituationExchangeDelivery":[]}}"#,
         " passed 0",
     ),
     (
-        "{'ServiceDelivery':{'SituationExchangeDelivery':{}}}",
+        r#"{"ServiceDelivery":{"SituationExchangeDelivery":{}}}"#,
         " passed 0",
     ),
     (
-        "{'Siri':{'ServiceDelivery':{'SituationExchangeDelivery':[{}]}}}",
+        r#"{"Siri":{"ServiceDelivery":{"SituationExchangeDelivery":[{}]}}}"#,
         " passed 0",
     ),
     (
-        "{'ServiceDelivery':{'SituationExchangeDelivery':{'Situations':null}}}",
+        r#"{"ServiceDelivery":{"SituationExchangeDelivery":{"Situations":null}}}"#,
         " passed 0",
     ),
     (
-        "{'ServiceDelivery':{'SituationExchangeDelivery':{'Situations':''}}}",
+        r#"{"ServiceDelivery":{"SituationExchangeDelivery":{"Situations":""}}}"#,
         " passed 0",
     ),
     (
-        "{'ServiceDelivery':{'SituationExchangeDelivery':{'Situations':[]}}}",
+        r#"{"ServiceDelivery":{"SituationExchangeDelivery":{"Situations":[]}}}"#,
         " passed 0",
     ),
     (
-        "{'ServiceDelivery':{'SituationExchangeDelivery':{'Situations':{}}}}",
+        r#"{"ServiceDelivery":{"SituationExchangeDelivery":{"Situations":{}}}}"#,
         " passed 0",
     ),
     (
-        "{'ServiceDelivery':{'SituationExchangeDelivery':{'Situations':7}}}",
+        r#"{"ServiceDelivery":{"SituationExchangeDelivery":{"Situations":7}}}"#,
         "NotDelivery(Situations)",
     ),
     (
-        "{'ServiceDelivery':{'SituationExchangeDelivery':{'Situations':'x'}}}",
+        r#"{"ServiceDelivery":{"SituationExchangeDelivery":{"Situations":"x"}}}"#,
         "NotDelivery(Situations)",
     ),
     (
-        "{'ServiceDelivery':{'SituationExchangeDelivery':{'Situations':[{}]}}}",
+        r#"{"ServiceDelivery":{"SituationExchangeDelivery":{"Situations":[{}]}}}"#,
         "NotDelivery(Situations)",
     ),
     (
-        "{'ServiceDelivery':{'SituationExchangeDelivery':[{'Situations':{'PtSituationElement':7}},\
-          {'Situations':true}]}}",
+        concat!(
+            r#"{"ServiceDelivery":{"SituationExchangeDelivery":[{"Situations":{"PtSituationElement":7}},"#,
+            r#"{"Situations":true}]}}"#,
+        ),
         "NotDelivery(Situations)",
     ),
     (
-        "{'ServiceDelivery':{'SituationExchangeDelivery':{'Situations':{'PtSituationElement':null}}}}",
+        r#"{"ServiceDelivery":{"SituationExchangeDelivery":{"Situations":{"PtSituationElement":null}}}}"#,
         " passed 0",
     ),
     (
-        "{'ServiceDelivery':{'SituationExchangeDelivery':{'Situations':{'PtSituationElement':''}}}}",
+        r#"{"ServiceDelivery":{"SituationExchangeDelivery":{"Situations":{"PtSituationElement":""}}}}"#,
         " passed 0",
     ),
     (
-        "{'ServiceDelivery':{'SituationExchangeDelivery':{'Situations':{'PtSituationElement':[]}}}}",
+        r#"{"ServiceDelivery":{"SituationExchangeDelivery":{"Situations":{"PtSituationElement":[]}}}}"#,
         " passed 0",
     ),
     (
-        "{'ServiceDelivery':{'SituationExchangeDelivery':{'Situations':{'PtSituationElement':7}}}}",
+        r#"{"ServiceDelivery":{"SituationExchangeDelivery":{"Situations":{"PtSituationElement":7}}}}"#,
         "|BadField(PtSituationElement) passed 0",
     ),
     (
-        "{'ServiceDelivery':{'SituationExchangeDelivery':{'Situations':{'PtSituationElement':{}}}}}",
+        r#"{"ServiceDelivery":{"SituationExchangeDelivery":{"Situations":{"PtSituationElement":{}}}}}"#,
         "|BadField(SituationNumber) passed 0",
     ),
     (
-        "{'ServiceDelivery':{'SituationExchangeDelivery':[{'Situations':{'PtSituationElement':[null,{}]}},{},\
-          {'Situations':{'PtSituationElement':[{'SituationNumber':'S1'},[]]}}]}}",
+        concat!(
+            r#"{"ServiceDelivery":{"SituationExchangeDelivery":[{"Situations":{"PtSituationElement":[null,{}]}},{},"#,
+            r#"{"Situations":{"PtSituationElement":[{"SituationNumber":"S1"},[]]}}]}}"#,
+        ),
         "|BadField(PtSituationElement)|BadField(SituationNumber)|NoAffects|BadField(PtSituationElement) passed 0",
     ),
 ];

@@ -6,6 +6,7 @@ ghost use Rattle.wire_fields.specs.TopSteps.{IsTurnInBounds, with_taken, passed,
 ghost use Rattle.wire_fields.specs.Grammar.{Group};
 ghost use Rattle.wire_fields.specs.Breaks.{open_after_field, open_after_end};
 ghost use Rattle.gw_base.specs.declared.wire_kind.WireKind.{WireKind as Kind};
+ghost use Rattle.gw_base.specs.Limits.{body_limit};
 
 use crate::field::WireFault;
 use crate::groups::OpenGroups;
@@ -54,7 +55,7 @@ impl TopReader {
     /// step. After an answer `Broken` a further answer says nothing. At most 16,777,216 bytes are read in all.
     pub fn step(&mut self, piece: &[u8]) -> Step
         requires some { 0 < length piece.now }
-        requires room { self.old.taken + length piece.now ≤ 16777216 }
+        requires room { self.old.taken + length piece.now ≤ body_limit }
         ensures some { 1 ≤ result.used }
         ensures most { result.used ≤ length piece.now }
         ensures taken { self.new.taken ≡ self.old.taken + result.used }
@@ -100,7 +101,7 @@ impl TopReader {
         requires open { self.old.part ≡ parts.Payload number len left }
         requires left { 0 < left }
         requires some { 0 < length piece.now }
-        requires room { self.old.taken + length piece.now ≤ 16777216 }
+        requires room { self.old.taken + length piece.now ≤ body_limit }
         ensures some { 1 ≤ result }
         ensures most { result ≤ length piece.now }
         ensures within { result ≤ left }
@@ -123,7 +124,7 @@ impl TopReader {
     /// Reads on in anything but the payload of a field of the top level.
     fn read_on(&mut self, piece: &[u8]) -> Step
         requires some { 0 < length piece.now }
-        requires room { self.old.taken + length piece.now ≤ 16777216 }
+        requires room { self.old.taken + length piece.now ≤ body_limit }
         ensures some { 1 ≤ result.used }
         ensures most { result.used ≤ length piece.now }
         ensures taken { self.new.taken ≡ self.old.taken + result.used }
@@ -148,7 +149,7 @@ impl TopReader {
     /// The same up to the next end of a tag, a length, an item or the piece.
     fn go_on(&mut self, piece: &[u8]) -> (usize, Option<TopEvent>)
         requires some { 0 < length piece.now }
-        requires room { self.old.taken + length piece.now ≤ 16777216 }
+        requires room { self.old.taken + length piece.now ≤ body_limit }
         ensures some { 1 ≤ result.0 }
         ensures most { result.0 ≤ length piece.now }
         ensures taken { self.new.taken ≡ self.old.taken + result.0 }

@@ -1,6 +1,6 @@
--- The bytes behind the tag begin with the length of the body.
+-- The bytes after the tag begin with the length of the body.
 use Rattle.std.proofs.Common.{◌<◌, ◌^◌, length, arith}
-use Rattle.feed_messages.specs.Written.{feed_entity}
+use Rattle.feed_writing.specs.Written.{feed_entity}
 use Rattle.alert_map.proofs.AlertLemmas.{begins_len, one_number, some_bytes}
 use Rattle.alert_map.proofs.entities.entity_body_len.Goals as goal
 

@@ -1,9 +1,7 @@
 use Rattle.std.proofs.Common.{[], ◌≡◌, ◌∙◌, ◌++◌, ◌+◌, ℕ, false, true, List, arith, ap, length, length-append, take, Result, Ok, Err, refl, sym, subst, append-nil}
 use Rattle.std.specs.Prelude.{OnOk}
 use Rattle.std.specs.Result.{is_err}
-use Rattle.door_talk.specs.Bodies.{StandsOn}
-use Rattle.door_talk.proofs.ReadLemmas.{read_nothing, stands_on, takes_end, takes_none, takes_on}
-use Rattle.door_talk.proofs.bodies.read_body.Given.{Over}
+use Rattle.door_talk.proofs.ReadLemmas.{read_nothing, stands_on, takes_on}
 use Rattle.door_talk.proofs.bodies.read_body.Goals as goal
 
 more : (x piece came : List ℕ) (from done count : ℕ) → from + length x ≡ done → came ≡ take count piece → length came ≡ count

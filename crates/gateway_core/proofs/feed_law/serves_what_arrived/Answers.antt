@@ -1,4 +1,4 @@
--- The header means itself, and what stands behind it is what the gateway keeps.
+-- The header means itself, and what stands after it is what the gateway keeps.
 use Rattle.gateway_core.proofs.ServingLemmas.{stands_gives, stands_rebuilt}
 use Rattle.gateway_core.proofs.feed_law.serves_what_arrived.Goals as goal
 

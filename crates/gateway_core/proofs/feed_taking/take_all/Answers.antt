@@ -1,7 +1,6 @@
 use Rattle.std.proofs.Common.{◌≡◌, ◌∙◌, ◌+◌, ◌++◌, List, ℕ, ap, arith, drop, subst, sym, take}
 use Rattle.std.proofs.Math.Seq.{take-add}
 use Rattle.std.proofs.lemmas.List.{append_assoc}
-use Rattle.journey_model.specs.Schedules.{schedule_of}
 use Rattle.gateway_core.specs.Arriving.{Reads}
 use Rattle.gateway_core.proofs.feed_taking.take_all.Goals as goal
 
@@ -15,6 +14,6 @@ loop-done-preserved c = record {
   within = omega (arith, c.in_ok-done.ensures.used.1, c.split_at.ensures.back_len, c.loop-done.invariant.within);
   counted = omega (arith, c.in_ok-done.ensures.counted, c.loop-done.invariant.counted);
   takes = λ bytes h.
-      subst (Reads (schedule_of c.args.context.now) c.take_front.new.reader c.take_front.new.fold) (further bytes c.args.piece.now c.split_at.result.1.now c.loop-done.done c.in_ok-done.field-0 c.split_at.ensures.back)
+      subst (Reads c.args.context.now c.take_front.new.reader c.take_front.new.fold) (further bytes c.args.piece.now c.split_at.result.1.now c.loop-done.done c.in_ok-done.field-0 c.split_at.ensures.back)
       (c.in_ok-done.ensures.takes (bytes ++ take c.loop-done.done c.args.piece.now) (c.loop-done.invariant.takes bytes h));
 }

@@ -1,5 +1,4 @@
 use Rattle.std.proofs.Common.{◌≡◌, ◌≤◌, ◌+◌, ◌-◌, ◌++◌, List, ℕ, length, take}
-use Rattle.journey_model.specs.Schedules.{schedule_of}
 use Rattle.gateway_core.specs.Arriving.{Reads}
 use Rattle.gateway_core.proofs.feed_taking.take_all.Given as goal
 
@@ -7,8 +6,8 @@ abbrev pub invariant-loop-done : goal.invariant-loop-done
 invariant-loop-done l = record {
   within : l.done ≤ length l.piece;
   counted : l.reader.taken ≡ l.fn.reader.taken + l.done;
-  takes : (bytes : List ℕ) → Reads (schedule_of l.context) l.fn.reader l.fn.fold bytes
-      → Reads (schedule_of l.context) l.reader l.fold (bytes ++ take l.done l.piece);
+  takes : (bytes : List ℕ) → Reads l.context l.fn.reader l.fn.fold bytes
+      → Reads l.context l.reader l.fold (bytes ++ take l.done l.piece);
 }
 
 abbrev pub decreases-loop-done : goal.decreases-loop-done

@@ -1,6 +1,6 @@
 use Rattle.std.proofs.Common.{◌∷◌, ◌++◌, [], ℕ, Option, Some, None, subst}
 use Rattle.gw_base.specs.declared.messages.Entity.{Entity}
-use Rattle.feed_messages.specs.FeedPieces.{GoesOn}
+use Rattle.feed_reading.specs.FeedPieces.{GoesOn}
 use Rattle.gateway_core.proofs.feed_taking.take_front.Goals as goal
 
 pub returns-in_ok-add-clause-takes : goal.returns-in_ok-add-clause-takes

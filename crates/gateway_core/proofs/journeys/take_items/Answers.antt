@@ -1,6 +1,5 @@
 -- One item more is gone through.
 use Rattle.std.proofs.Common.{◌∙◌, ◌++◌, ap, arith, List, reverse, subst, sym, take, ℕ, Option}
-use Rattle.journey_model.specs.Schedules.{schedule_of}
 use Rattle.journey_model.specs.declared.fault.Fault.{Fault}
 use Rattle.journey_model.specs.declared.readings.JourneyRecord.{JourneyRecord}
 use Rattle.siri_calls.specs.Deliveries.{CanServe}
@@ -11,7 +10,7 @@ use Rattle.gateway_core.proofs.journeys.take_items.Goals as goal
 
 pub loop-item-preserved : goal.loop-item-preserved
 loop-item-preserved c =
-    let schedule = schedule_of c.args.context.now in
+    let schedule = c.args.context.now in
     let n = c.loop-item.number in
     let one = c.in-Some.item in
     let rest = reverse c.pop.new.self.items in

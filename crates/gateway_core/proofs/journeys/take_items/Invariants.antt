@@ -2,7 +2,6 @@
 use Rattle.std.proofs.Common.{◌≡◌, ◌+◌, ◌≤◌, List, drop, length, reverse, take, vec_len}
 use Rattle.std.specs.Prelude.{filter}
 use Rattle.journey_model.specs.Records.{Recorded}
-use Rattle.journey_model.specs.Schedules.{schedule_of}
 use Rattle.gateway_core.specs.Arrivals.{is_within}
 use Rattle.gateway_core.specs.JourneySteps.{GathersItems, seen_after}
 use Rattle.gateway_core.specs.Standing.{KeepsJourneys}
@@ -14,8 +13,8 @@ invariant-loop-item l = record {
   left_are : reverse l.left.items ≡ drop l.number l.fn.items;
   same : l.draft.kept ≡ l.fn.draft.kept;
   few : length l.aside ≤ l.number;
-  gathered : (before : List Recorded) → KeepsJourneys (schedule_of l.context) (filter (is_within (schedule_of l.context).window) before) (seen_after l.fn.draft)
-      → GathersItems (schedule_of l.context) before (take l.number l.fn.items) (seen_after l.draft) l.aside;
+  gathered : (before : List Recorded) → KeepsJourneys l.context (filter (is_within l.context.window) before) (seen_after l.fn.draft)
+      → GathersItems l.context before (take l.number l.fn.items) (seen_after l.draft) l.aside;
 }
 
 abbrev pub decreases-loop-item : goal.decreases-loop-item

@@ -1,4 +1,4 @@
--- The first item, and each other behind a comma.
+-- The first item, and each other after a comma.
 use Rattle.std.proofs.Common.{◌≡◌, ◌∙◌, ◌++◌, ℕ, List, ap, sym, subst, map, OnOk}
 use Rattle.std.proofs.lemmas.List.{append_assoc}
 use Rattle.std.specs.Prelude.{codes}

@@ -1,4 +1,4 @@
--- Three pieces, one behind the other.
+-- Three pieces, one after the other.
 use Rattle.std.proofs.Common.{◌≡◌, ◌∙◌, ◌++◌, ◌≤◌, ℕ, true, List, Option, ap, refl}
 use Rattle.gw_base.specs.Count.{Rose}
 use Rattle.gw_base.specs.Told.{PutsUnless, with_bytes}

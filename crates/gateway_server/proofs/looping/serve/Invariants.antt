@@ -3,6 +3,7 @@ use Rattle.std.proofs.Common.{◌≡◌, ◌≤◌, ◌-◌, false, List, length
 use Rattle.gw_base.specs.Changes.{change}
 use Rattle.gw_base.specs.Connections.{Connections}
 use Rattle.gw_base.specs.Count.{Rose}
+use Rattle.gw_base.specs.Limits.{body_limit}
 use Rattle.gateway_core.specs.Arrivals.{Arrival}
 use Rattle.gateway_core.specs.Standing.{Stands}
 use Rattle.gateway_server.specs.Serving.{ServesAll, Tells}
@@ -16,7 +17,7 @@ invariant-loop-left g l = record {
   door : g.D.Sink.faults l.fn.door ≤ g.D.Sink.faults l.door;
   clock : g.C.Clock.faults l.fn.clock ≤ g.C.Clock.faults l.clock;
   few : l.left ≤ l.connections;
-  held : length l.fn.body ≤ 16777216 → length l.body ≤ 16777216;
+  held : length l.fn.body ≤ body_limit → length l.body ≤ body_limit;
   serves : (told : Connections) → Tells (g.D.Sink.told l.fn.door) (g.D.Sink.beside l.fn.door) told → (arrivals : List Arrival) → Stands l.fn.gate arrivals
       → ServesAll (Rose (g.D.Sink.faults l.fn.door) (g.D.Sink.faults l.door)) l.fn.gate arrivals told (change g.C.Clock.told g.C.Clock.faults l.fn.clock l.clock)
       (g.D.Sink.told l.door) (g.D.Sink.beside l.door) l.gate (l.connections - l.left);

@@ -1,12 +1,9 @@
 -- A feed was read on the way, and is ended; what else was posted is a delivery.
-use Rattle.std.proofs.Common.{◌≡◌, ◌⊎◌, ℕ, List, Option, Some, None, subst, sym}
-use Rattle.http_talk.specs.declared.target.Target.{Target}
-use Rattle.http_talk.specs.declared.target.Target.TheVariants.{EtPost, SxPost, RtPost}
+use Rattle.std.proofs.Common.{◌≡◌, ℕ, List, Option, subst, sym}
+use Rattle.http_talk.specs.declared.target.Target.TheVariants.{RtPost}
 use Rattle.gateway_core.specs.Arriving.{Arriving}
-use Rattle.gateway_core.specs.Arrivals.{moments_of, window_at}
-use Rattle.gateway_core.specs.Taking.{FeedAnswer}
 use Rattle.gateway_server.specs.Posted.{FeedStands, StandsForBody}
-use Rattle.gateway_server.specs.Taking.{TookBody, of_feed}
+use Rattle.gateway_server.specs.Taking.{TookBody}
 use Rattle.gateway_server.specs.declared.took.Took.{Took}
 use Rattle.gateway_server.proofs.PostedLemmas.{body_of, delivery_of, feed_of}
 use Rattle.gateway_server.proofs.TookLemmas.{took_arrived}

@@ -1,4 +1,4 @@
--- What arrived of the words so far, and what the words left say behind it.
+-- What arrived of the words so far, and what the words left say after it.
 use Rattle.std.proofs.Common.{◌∙◌, arith}
 use Rattle.gateway_top.proofs.DeliveryLemmas.{ends_with, goes_on, none_left}
 use Rattle.gateway_top.proofs.deliveries.deliveries.Goals as goal

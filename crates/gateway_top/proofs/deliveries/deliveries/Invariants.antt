@@ -1,4 +1,4 @@
--- what arrived so far stands, and what the words left say behind it is what all words say
+-- what arrived so far stands, and what the words left say after it is what all words say
 use Rattle.std.proofs.Common.{◌≡◌, ◌≤◌, length, IfSome}
 use Rattle.gateway_top.proofs.DeliveryLemmas.{HasArrived}
 use Rattle.gateway_top.proofs.deliveries.deliveries.Given as goal

@@ -1,8 +1,9 @@
 -- The bytes of the file, and then the feed that they mean.
 use Rattle.gw_base.proofs.AnswerLemmas.{went_on}
 use Rattle.gw_base.specs.Answers.{UnlessFree}
+use Rattle.gw_base.specs.Limits.{body_limit}
 use Rattle.gateway_top.specs.Exits.{is_free}
-use Rattle.gateway_top.specs.Work.{BodyFeed, FurtherFile, body_limit}
+use Rattle.gateway_top.specs.Work.{IsBodyFeed, IsFurtherFile}
 use Rattle.gateway_top.proofs.FeedSteps.{whatever}
 use Rattle.gateway_top.proofs.feeds.feed_file.Goals as goal
 
@@ -11,5 +12,5 @@ returns-clause-told g c =
     let told = g.F.Files.told c.args.files.now in
     let name = c.args.name.now in
     let second = rw c.as_slice.ensures.same at c.body_feed.ensures.told in
-    went_on told is_free (λ files. FurtherFile body_limit name files) (λ files body. BodyFeed name body) c.in_ok-body.body c.body_feed.result
-    c.in_ok-body.ensures.told (whatever told (UnlessFree is_free c.body_feed.result (BodyFeed name c.in_ok-body.body)) second)
+    went_on told is_free (λ files. IsFurtherFile body_limit name files) (λ files body. IsBodyFeed name body) c.in_ok-body.body c.body_feed.result
+    c.in_ok-body.ensures.told (whatever told (UnlessFree is_free c.body_feed.result (IsBodyFeed name c.in_ok-body.body)) second)

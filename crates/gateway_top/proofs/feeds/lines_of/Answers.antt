@@ -2,12 +2,12 @@
 use Rattle.std.proofs.Common.{◌∙◌, Ok, ap, subst, sym}
 use Rattle.show_command.specs.Lines.{shown}
 use Rattle.gateway_top.specs.Done.{Done}
-use Rattle.gateway_top.specs.Work.{LinesOf}
+use Rattle.gateway_top.specs.Work.{IsLinesOf}
 use Rattle.gateway_top.proofs.feeds.lines_of.Goals as goal
 
 pub returns : goal.returns
 returns c =
-    subst (λ (done : Done). LinesOf c.args.setting.now c.args.feed.now (Ok done)) (sym c.texts.ensures) (
+    subst (λ (done : Done). IsLinesOf c.args.setting.now c.args.feed.now (Ok done)) (sym c.texts.ensures) (
       c.in_ok-reading.reading,
       rw c.context.ensures.shows at c.in_ok-reading.ensures,
       c.in_ok-out.ensures ∙ ap (λ schedule. shown schedule c.in_ok-reading.reading) c.context-2.ensures.shows,

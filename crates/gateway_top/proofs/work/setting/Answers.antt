@@ -1,7 +1,7 @@
--- The timetable, and what is behind it.
+-- The timetable, and what is after it.
 use Rattle.gw_base.proofs.AnswerLemmas.{went_on}
 use Rattle.gateway_top.specs.Exits.{is_free}
-use Rattle.gateway_top.specs.Work.{Folder, Over}
+use Rattle.gateway_top.specs.Work.{IsFolder, IsSettingOver}
 use Rattle.gateway_top.specs.Works.{zone_of}
 use Rattle.gateway_top.proofs.StepLemmas.{ended}
 use Rattle.gateway_top.proofs.work.setting.Goals as goal
@@ -11,12 +11,12 @@ returns-in-Ok-clause-told g c =
     let scope = c.args.scope.now in
     let first = rw c.as_str.ensures.same at c.in-Ok.ensures.told in
     let second = rw c.folder.ensures.same at c.over.ensures.told in
-    went_on (g.F.Files.told c.args.files.now) is_free (λ files. Folder scope.gtfs.now files)
-    (λ files table. Over table (zone_of scope.zone) scope.from scope.days c.args.keep files) c.in-Ok.table c.over.result first second
+    went_on (g.F.Files.told c.args.files.now) is_free (λ files. IsFolder scope.gtfs.now files)
+    (λ files table. IsSettingOver table (zone_of scope.zone) scope.from scope.days c.args.keep files) c.in-Ok.table c.over.result first second
 
 pub returns-in-Err-clause-told : goal.returns-in-Err-clause-told
 returns-in-Err-clause-told g c =
     let scope = c.args.scope.now in
     let first = rw c.as_str.ensures.same at c.in-Err.ensures.told in
-    ended (g.F.Files.told c.args.files.now) is_free (λ files. Folder scope.gtfs.now files)
-    (λ files table. Over table (zone_of scope.zone) scope.from scope.days c.args.keep files) c.in-Err.end first
+    ended (g.F.Files.told c.args.files.now) is_free (λ files. IsFolder scope.gtfs.now files)
+    (λ files table. IsSettingOver table (zone_of scope.zone) scope.from scope.days c.args.keep files) c.in-Err.end first

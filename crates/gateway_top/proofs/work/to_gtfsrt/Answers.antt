@@ -1,8 +1,8 @@
--- The setting, and then the conversion of the deliveries that the words behind name.
+-- The setting, and then the conversion of the deliveries that the words after name.
 use Rattle.std.proofs.Common.{None}
 use Rattle.gw_base.proofs.AnswerLemmas.{went_on}
 use Rattle.gateway_top.specs.Exits.{is_free}
-use Rattle.gateway_top.specs.Work.{Conversion, SettingOf}
+use Rattle.gateway_top.specs.Work.{IsConversion, IsSettingOf}
 use Rattle.gateway_top.specs.Works.{scope_of}
 use Rattle.gateway_top.proofs.StepLemmas.{ended}
 use Rattle.gateway_top.proofs.work.to_gtfsrt.Goals as goal
@@ -10,10 +10,10 @@ use Rattle.gateway_top.proofs.work.to_gtfsrt.Goals as goal
 pub returns-in-Ok-clause-told : goal.returns-in-Ok-clause-told
 returns-in-Ok-clause-told g c =
     let second = rw c.setting.ensures.same at c.conversion.ensures.told in
-    went_on (g.F.Files.told c.args.files.now) is_free (λ files. SettingOf (scope_of c.args.scope.now) None files)
-    (λ files setting. Conversion c.args.at setting c.args.more.now files) c.in-Ok.setting c.conversion.result c.in-Ok.ensures.told second
+    went_on (g.F.Files.told c.args.files.now) is_free (λ files. IsSettingOf (scope_of c.args.scope.now) None files)
+    (λ files setting. IsConversion c.args.at setting c.args.more.now files) c.in-Ok.setting c.conversion.result c.in-Ok.ensures.told second
 
 pub returns-in-Err-clause-told : goal.returns-in-Err-clause-told
 returns-in-Err-clause-told g c =
-    ended (g.F.Files.told c.args.files.now) is_free (λ files. SettingOf (scope_of c.args.scope.now) None files)
-    (λ files setting. Conversion c.args.at setting c.args.more.now files) c.in-Err.end c.in-Err.ensures.told
+    ended (g.F.Files.told c.args.files.now) is_free (λ files. IsSettingOf (scope_of c.args.scope.now) None files)
+    (λ files setting. IsConversion c.args.at setting c.args.more.now files) c.in-Err.end c.in-Err.ensures.told

@@ -2,7 +2,7 @@
 use Rattle.std.proofs.Common.{None}
 use Rattle.gw_base.proofs.AnswerLemmas.{went_on}
 use Rattle.gateway_top.specs.Exits.{is_free}
-use Rattle.gateway_top.specs.Work.{SettingOf, SxOfFile}
+use Rattle.gateway_top.specs.Work.{IsSettingOf, IsSxOfFile}
 use Rattle.gateway_top.specs.Works.{scope_of}
 use Rattle.gateway_top.proofs.StepLemmas.{ended}
 use Rattle.gateway_top.proofs.work.to_siri_sx.Goals as goal
@@ -10,10 +10,10 @@ use Rattle.gateway_top.proofs.work.to_siri_sx.Goals as goal
 pub returns-in-Ok-clause-told : goal.returns-in-Ok-clause-told
 returns-in-Ok-clause-told g c =
     let second = rw c.setting.ensures.same at c.sx_of_file.ensures.told in
-    went_on (g.F.Files.told c.args.files.now) is_free (λ files. SettingOf (scope_of c.args.scope.now) None files)
-    (λ files setting. SxOfFile c.args.at setting c.args.feed.now files) c.in-Ok.setting c.sx_of_file.result c.in-Ok.ensures.told second
+    went_on (g.F.Files.told c.args.files.now) is_free (λ files. IsSettingOf (scope_of c.args.scope.now) None files)
+    (λ files setting. IsSxOfFile c.args.at setting c.args.feed.now files) c.in-Ok.setting c.sx_of_file.result c.in-Ok.ensures.told second
 
 pub returns-in-Err-clause-told : goal.returns-in-Err-clause-told
 returns-in-Err-clause-told g c =
-    ended (g.F.Files.told c.args.files.now) is_free (λ files. SettingOf (scope_of c.args.scope.now) None files)
-    (λ files setting. SxOfFile c.args.at setting c.args.feed.now files) c.in-Err.end c.in-Err.ensures.told
+    ended (g.F.Files.told c.args.files.now) is_free (λ files. IsSettingOf (scope_of c.args.scope.now) None files)
+    (λ files setting. IsSxOfFile c.args.at setting c.args.feed.now files) c.in-Err.end c.in-Err.ensures.told

@@ -1,4 +1,4 @@
--- The lines, one behind the other, are the head.
+-- The lines, one after the other, are the head.
 use Rattle.std.proofs.Common.{◌≡◌, ℕ, List, [], ◌++◌, ap, codes}
 use Rattle.http_talk.specs.Answers as answers
 use Rattle.http_talk.proofs.answer.head_of.Goals as goal

@@ -1,7 +1,6 @@
 use Rattle.std.proofs.Common.{◌∙◌, None, Some, Ok, Err, sym, ap, arith}
 use Rattle.std.proofs.lemmas.List.{append-nil}
 use Rattle.journey_model.specs.FeedReadings.{given_all, passed_count, aside_from}
-use Rattle.journey_model.specs.Schedules.{schedule_of}
 use Rattle.propagation.proofs.FeedLemmas.{said_to, sorted_none, sorted_more, sorted_all, passed-most}
 use Rattle.propagation.proofs.feeds.sorted_out.Goals as goal
 use Rattle.propagation.proofs.feeds.sorted_out.Goals.{in-None, in-Some-Ok+in_ok-push-in-Some-Ok, in-Some-Err+in_ok-push-in-Some-Err}
@@ -13,17 +12,17 @@ overflow_add-passed c =
       arith,
       so_far.passed_is,
       so_far.many,
-      passed-most (said_to (schedule_of c.args.context.now) c.args.feed.now c.loop-number.number),
+      passed-most (said_to c.args.context.now c.args.feed.now c.loop-number.number),
     )
 
 pub loop-number-init : goal.loop-number-init
 loop-number-init c =
     rw (c.new-given.ensures.empty, c.new-aside.ensures.empty)
-    (sorted_none (schedule_of c.args.context.now) c.args.feed.now)
+    (sorted_none c.args.context.now c.args.feed.now)
 
 pub loop-number-preserved : goal.loop-number-preserved
 loop-number-preserved c =
-    let schedule = schedule_of c.args.context.now in
+    let schedule = c.args.context.now in
     let so_far = c.loop-number.invariant in
     let number = c.loop-number.number in
     let within = rw c.as_slice-entity-items.ensures.same at c.loop-number-test.true in
@@ -56,7 +55,7 @@ loop-number-preserved c =
 pub returns : goal.returns
 returns c =
     let so_far = c.loop-number.invariant in
-    let all = sorted_all (schedule_of c.args.context.now) c.args.feed.now c.loop-number.number
+    let all = sorted_all c.args.context.now c.args.feed.now c.loop-number.number
     (rw c.as_slice-entity-items.ensures.same at c.loop-number-test.false) in
     record {
       given = so_far.given_is ∙ ap given_all all;

@@ -1,6 +1,5 @@
-use Rattle.journey_model.specs.Schedules.{schedule_of}
 use Rattle.propagation.proofs.FeedLemmas.{SortedTo}
 use Rattle.propagation.proofs.feeds.sorted_out.Given as goal
 
 abbrev pub invariant-loop-number : goal.invariant-loop-number
-invariant-loop-number l = SortedTo (schedule_of l.context) l.feed l.number l.given l.passed l.aside
+invariant-loop-number l = SortedTo l.context l.feed l.number l.given l.passed l.aside

@@ -1,7 +1,6 @@
-use Rattle.journey_model.specs.Schedules.{schedule_of}
 use Rattle.propagation.specs.Folding.{bare_feed}
 use Rattle.propagation.proofs.FoldLemmas.{LateTo}
 use Rattle.propagation.proofs.folding.sorted_late.Given as goal
 
 abbrev pub invariant-loop-number : goal.invariant-loop-number
-invariant-loop-number l = LateTo (schedule_of l.context) (bare_feed l.timestamp) l.yielded l.given l.aside
+invariant-loop-number l = LateTo l.context (bare_feed l.timestamp) l.yielded l.given l.aside

@@ -1,4 +1,4 @@
--- what was found, and behind it what the selectors that are left name
+-- what was found, and after it what the selectors that are left name
 use Rattle.std.proofs.Common.{◌≡◌, drop}
 use Rattle.stop_schedule.specs.Seen.{seen}
 use Rattle.reverse_alerts.specs.Kept.{all_named}

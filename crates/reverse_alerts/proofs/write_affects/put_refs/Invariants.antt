@@ -1,4 +1,4 @@
--- what was written, and behind it the text of the others
+-- what was written, and after it the text of the others
 use Rattle.std.proofs.Common.{◌≡◌, ◌++◌, false, drop}
 use Rattle.stop_schedule.specs.Seen.{seen}
 use Rattle.reverse_alerts.specs.SituationTexts.{refs_text}

@@ -1,4 +1,4 @@
--- the periods so far, and behind them the text of the others
+-- the periods so far, and after them the text of the others
 use Rattle.std.proofs.Common.{◌≡◌, ◌++◌, false, drop, map}
 use Rattle.reverse_alerts.specs.Senses.{valid_period}
 use Rattle.reverse_alerts.specs.SituationTexts.{periods_text}

@@ -1,7 +1,6 @@
 use Rattle.std.proofs.Common.{All, take}
-use Rattle.journey_model.specs.Schedules.{schedule_of}
 use Rattle.siri_calls.specs.Sayable.{IsSayable}
 use Rattle.reverse_calls.proofs.sayable.are_sayable.Given as goal
 
 abbrev pub invariant-loop-one : goal.invariant-loop-one
-invariant-loop-one l = All (IsSayable (schedule_of l.context)) (take l.one-index l.journeys)
+invariant-loop-one l = All (IsSayable l.context) (take l.one-index l.journeys)

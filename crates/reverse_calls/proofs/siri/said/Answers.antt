@@ -1,10 +1,12 @@
 use Rattle.std.proofs.Common.{subst}
 use Rattle.gw_base.specs.Moments.{IsMoment}
-use Rattle.journey_model.specs.Schedules.{schedule_of}
+use Rattle.stop_schedule.specs.Sound.{IsSound}
+use Rattle.journey_model.specs.Schedules.{Schedule}
 use Rattle.reverse_calls.proofs.SaidLemmas.{says_all}
 use Rattle.reverse_calls.proofs.siri.said.Goals as goal
 
 pub returns-clause-again : goal.returns-clause-again
 returns-clause-again c =
     let at = subst IsMoment c.secs.ensures.value c.secs.ensures.range in
-    says_all (schedule_of c.args.context.now) c.args.moment c.args.journeys.now c.write_delivery.result c.write_delivery.ensures.text c.is_sound.ensures at c.are_sayable.ensures
+    says_all c.args.context.now c.args.moment c.args.journeys.now c.write_delivery.result c.write_delivery.ensures.text
+    (subst (λ (lent : Schedule). IsSound lent.table) c.context.view_is c.is_sound.ensures) at c.are_sayable.ensures

@@ -1,4 +1,4 @@
--- the journeys so far, and what the generator holds behind them
+-- the journeys so far, and what the generator holds after them
 use Rattle.std.proofs.Common.{◌≡◌, ◌++◌}
 use Rattle.sample_maker.specs.Deliveries.{journeys}
 use Rattle.sample_maker.specs.Draws.{after_trips}

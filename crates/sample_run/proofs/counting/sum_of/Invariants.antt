@@ -1,7 +1,6 @@
 -- the trips so far are counted, and the readings left say what is said of the others
 use Rattle.std.proofs.Common.{◌≡◌, ◌*◌, ℕ, Option}
 use Rattle.std.specs.List.{AllByRecursion}
-use Rattle.journey_model.specs.Schedules.{schedule_of}
 use Rattle.journey_model.specs.declared.readings.JourneyReading.{JourneyReading}
 use Rattle.propagation.specs.Feeds.{IsServable}
 use Rattle.sample_maker.specs.Pieces.{all_below}
@@ -11,7 +10,7 @@ use Rattle.sample_run.proofs.counting.sum_of.Given as goal
 abbrev pub invariant-loop-trip : goal.invariant-loop-trip
 invariant-loop-trip l = record {
   counted : (said : ℕ → Option JourneyReading) → AreSaid said 0 l.journeys
-      → (l.sum ≡ tally (all_below (λ trip. stops_said (schedule_of l.context) trip (said trip)) l.trip)) × AreSaid said l.trip l.rest;
-  servable : AllByRecursion (IsServable (schedule_of l.context)) l.rest;
+      → (l.sum ≡ tally (all_below (λ trip. stops_said l.context trip (said trip)) l.trip)) × AreSaid said l.trip l.rest;
+  servable : AllByRecursion (IsServable l.context) l.rest;
   few : IsWithin (250 * l.trip) l.sum;
 }

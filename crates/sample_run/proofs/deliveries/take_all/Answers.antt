@@ -1,4 +1,4 @@
--- What arrived of the texts so far, and what the texts left say behind it.
+-- What arrived of the texts so far, and what the texts left say after it.
 use Rattle.std.proofs.Common.{◌∙◌, drop, sym}
 use Rattle.sample_maker.specs.Deliveries.{deliveries}
 use Rattle.sample_run.proofs.ArrivalLemmas.{all_arrived, ends_with, gave, gave_all, goes_on}

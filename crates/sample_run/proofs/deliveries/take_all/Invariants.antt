@@ -1,4 +1,4 @@
--- what arrived so far stands, and what the texts left say behind it is what all texts say
+-- what arrived so far stands, and what the texts left say after it is what all texts say
 use Rattle.std.proofs.Common.{◌≡◌, ◌-◌, drop}
 use Rattle.sample_maker.specs.Deliveries.{deliveries, delivery_count}
 use Rattle.sample_run.proofs.ArrivalLemmas.{HasArrived}

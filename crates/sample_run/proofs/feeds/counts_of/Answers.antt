@@ -1,7 +1,7 @@
 -- The counts of the feed that was read, over what the deliveries were read over.
 use Rattle.std.proofs.Common.{◌≡◌, ap, arith, subst, sym, length, refl}
 use Rattle.std.specs.Prelude.{sum_by}
-use Rattle.journey_model.specs.Schedules.{Schedule, schedule_of}
+use Rattle.journey_model.specs.Schedules.{Schedule}
 use Rattle.service_day.specs.Windows.{DayStarts}
 use Rattle.gateway_core.specs.Arrivals.{moments_of}
 use Rattle.sample_run.specs.Counts.{updates_of}
@@ -22,5 +22,5 @@ returns-clause-told c = λ arrivals stands.
     let few = few_updates c.args.bytes.now c.in-Ok.feed c.requires.feed.0 c.requires.feed.1 same in
     let counted = rw c.as_slice.ensures.same at c.updates_in.ensures in
     let updates : c.updates_in.result ≡ sum_by updates_of c.in-Ok.feed.entities = omega arith in
-    counts_found c.args.gate.now.setting arrivals (schedule_of c.context.result) c.args.bytes.now c.in-Ok.feed c.in_ok-tally.tally c.updates_in.result (length c.args.bytes.now)
+    counts_found c.args.gate.now.setting arrivals c.context.result c.args.bytes.now c.in-Ok.feed c.in_ok-tally.tally c.updates_in.result (length c.args.bytes.now)
     c.in-Ok.ensures.told (c.context.ensures.shows arrivals stands) c.in_ok-tally.ensures updates refl

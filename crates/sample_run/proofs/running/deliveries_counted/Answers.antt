@@ -5,7 +5,7 @@ use Rattle.gateway_core.specs.Arrivals.{Arrival}
 use Rattle.gateway_core.specs.declared.setting.Setting.{Setting}
 use Rattle.sample_maker.specs.Deliveries.{deliveries}
 use Rattle.sample_run.specs.Ends.{is_free}
-use Rattle.sample_run.specs.Sample.{Arrives, Counted}
+use Rattle.sample_run.specs.Sample.{Arrives, IsCounted}
 use Rattle.sample_run.proofs.StepLemmas.{all_counted, then_ended}
 use Rattle.sample_run.proofs.running.deliveries_counted.Goals as goal
 
@@ -20,6 +20,6 @@ pub returns-clause-told : goal.returns-clause-told
 returns-clause-told c =
     let maker = c.args.maker.now in
     let texts = deliveries maker.seed maker.trips maker.stops in
-    then_ended (Arrives c.args.setting (deliveries maker.seed maker.trips maker.stops) []) (Counted c.args.setting) c.in-Err.end
+    then_ended (Arrives c.args.setting (deliveries maker.seed maker.trips maker.stops) []) (IsCounted c.args.setting) c.in-Err.end
     (subst (λ (s : Setting). UnlessFree {T = List Arrival} is_free (Err c.in-Err.end) (Arrives s (deliveries maker.seed maker.trips maker.stops) []))
     c.in_ok-gate.ensures.setting c.in-Err.ensures.told)

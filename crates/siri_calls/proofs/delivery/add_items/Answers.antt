@@ -1,6 +1,5 @@
 use Rattle.std.proofs.Common.{◌∙◌, ap, map}
 use Rattle.journey_model.specs.Records.{recorded}
-use Rattle.journey_model.specs.Schedules.{schedule_of}
 use Rattle.json_tree.specs.Trees.{view}
 use Rattle.siri_json.proofs.DeliveryLemmas.{items_end, items_step, mapped, one_added}
 use Rattle.siri_calls.specs.Frame.{item_place, items_below}
@@ -11,7 +10,7 @@ use Rattle.siri_calls.proofs.delivery.add_items.Goals as goal
 
 pub loop-tree-preserved : goal.loop-tree-preserved
 loop-tree-preserved c =
-    let schedule = schedule_of c.args.context.now in
+    let schedule = c.args.context.now in
     record {
       verdicts = λ earlier has.
           items_step recorded (λ tree. verdict schedule (item_place (place_of c.args.frame.now) (view tree))) _ earlier c.repeated_under-trees.result.now c.loop-tree.tree-index
@@ -25,6 +24,6 @@ pub returns-clause-verdicts : goal.returns-clause-verdicts
 returns-clause-verdicts c = λ earlier has.
     let frame = place_of c.args.frame.now in
     let trees = c.repeated_under-trees.result.now in
-    items_end recorded (verdict (schedule_of c.args.context.now)) (λ tree. item_place frame (view tree)) trees (items_below frame) _ earlier c.loop-tree.tree-index
+    items_end recorded (verdict c.args.context.now) (λ tree. item_place frame (view tree)) trees (items_below frame) _ earlier c.loop-tree.tree-index
     c.loop-tree-test.false (mapped (item_place frame) view trees ∙ ap (map (item_place frame)) c.repeated_under-trees.ensures)
     (c.loop-tree.invariant.verdicts earlier has)

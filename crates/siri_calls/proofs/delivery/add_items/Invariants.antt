@@ -1,6 +1,5 @@
 use Rattle.std.proofs.Common.{List, ℕ, Result, ◌++◌, map, take}
 use Rattle.journey_model.specs.Records.{Recorded, recorded}
-use Rattle.journey_model.specs.Schedules.{schedule_of}
 use Rattle.journey_model.specs.declared.fault.Fault.{Fault}
 use Rattle.json_tree.specs.Trees.{view}
 use Rattle.siri_calls.specs.Deliveries.{AreServable}
@@ -13,6 +12,6 @@ use Rattle.siri_calls.proofs.delivery.add_items.Given as goal
 abbrev pub invariant-loop-tree : goal.invariant-loop-tree
 invariant-loop-tree l = record {
   verdicts : (earlier : List (Result (Recorded × ℕ) Fault)) → HasVerdicts recorded l.fn.delivery earlier
-      → HasVerdicts recorded l.delivery (earlier ++ map (λ tree. verdict (schedule_of l.context) (item_place (place_of l.frame) (view tree))) (take l.tree-index l.trees));
-  servable : AreServable (schedule_of l.context) l.fn.delivery.items → AreServable (schedule_of l.context) l.delivery.items;
+      → HasVerdicts recorded l.delivery (earlier ++ map (λ tree. verdict l.context (item_place (place_of l.frame) (view tree))) (take l.tree-index l.trees));
+  servable : AreServable l.context l.fn.delivery.items → AreServable l.context l.delivery.items;
 }

@@ -1,6 +1,5 @@
 use Rattle.std.proofs.Common.{refl}
 use Rattle.journey_model.specs.Records.{recorded}
-use Rattle.journey_model.specs.Schedules.{schedule_of}
 use Rattle.json_tree.specs.Trees.{view}
 use Rattle.siri_json.proofs.DeliveryLemmas.{frame_fault}
 use Rattle.siri_calls.specs.Frame.{frames_in}
@@ -10,7 +9,7 @@ use Rattle.siri_calls.proofs.delivery.tree_delivery.Goals as goal
 pub returns-in-Err-clause-reads : goal.returns-in-Err-clause-reads
 returns-in-Err-clause-reads c =
     let root = view c.args.root.now in
-    frame_fault recorded (frames_in root) (verdicts (schedule_of c.args.context.now) root) c.in-Err.fault (λ member e. rw e refl) c.in-Err.ensures.fault
+    frame_fault recorded (frames_in root) (verdicts c.args.context.now root) c.in-Err.fault (λ member e. rw e refl) c.in-Err.ensures.fault
 
 pub returns-in-Ok-all_items-clause-reads : goal.returns-in-Ok-all_items-clause-reads
 returns-in-Ok-all_items-clause-reads c = rw (c.in-Ok.ensures.found, ← c.as_slice.ensures.value) c.in-Ok-all_items.ensures.verdicts

@@ -1,6 +1,5 @@
 -- What is recorded can be served.
 use Rattle.std.proofs.Common.{refl}
-use Rattle.journey_model.specs.Schedules.{schedule_of}
 use Rattle.journey_model.specs.declared.readings.JourneyRecord.{JourneyRecord}
 use Rattle.siri_calls.specs.Judged as spec
 use Rattle.siri_calls.specs.Seen.{calls_of, header_of}
@@ -12,4 +11,4 @@ returns-clause-servable c =
     let head = c.args.head.now in
     let all = calls_of c.args.calls.now in
     let found : JourneyRecord = record { trip = c.in_ok-trip.trip; day = head.day; at = head.at; reading = c.in_ok-reading.reading } in
-    servable (schedule_of c.args.context.now) (header_of head) all found (spec.extras all) (rw (← c.in_ok-trip.ensures.value, c.in_ok-reading.ensures.found) refl)
+    servable c.args.context.now (header_of head) all found (spec.extras all) (rw (← c.in_ok-trip.ensures.value, c.in_ok-reading.ensures.found) refl)

@@ -1,4 +1,4 @@
--- A call that has a place goes behind those before it.
+-- A call that has a place goes after those before it.
 use Rattle.std.proofs.Common.{◌≡◌, ◌∙◌, ◌+◌, ◌∷◌, ℕ, ap, arith, drop, map, option_map, subst, sym}
 use Rattle.std.proofs.lemmas.List.{map-append}
 use Rattle.siri_calls.specs.Journeys.{Call}

@@ -1,4 +1,4 @@
--- The four pieces behind the journeys.
+-- The four pieces after the journeys.
 use Rattle.std.proofs.lemmas.Result.{on_ok_weaker}
 use Rattle.siri_calls.proofs.WrittenLemmas.{four_pieces}
 use Rattle.siri_calls.proofs.writing.put_tail.Goals as goal

@@ -1,7 +1,6 @@
 use Rattle.std.proofs.Common.{map, take}
 use Rattle.std.specs.List.{flat_map}
 use Rattle.gw_base.specs.declared.member.Member.{Member}
-use Rattle.journey_model.specs.Schedules.{schedule_of}
 use Rattle.siri_json.specs.Frame.{repeated_under}
 use Rattle.siri_json.specs.Deliveries.{HasVerdicts}
 use Rattle.siri_situations.specs.Deliveries.{same}
@@ -12,4 +11,4 @@ use Rattle.siri_situations.proofs.delivery.all_items.Given as goal
 abbrev pub invariant-loop-group : goal.invariant-loop-group
 invariant-loop-group l =
     HasVerdicts same l.delivery
-    (map (verdict (schedule_of l.context)) (flat_map (repeated_under Member.PtSituationElement) (map seen (take l.group-index l.groups))))
+    (map (verdict l.context) (flat_map (repeated_under Member.PtSituationElement) (map seen (take l.group-index l.groups))))

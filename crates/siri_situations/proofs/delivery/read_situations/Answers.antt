@@ -1,4 +1,3 @@
-use Rattle.journey_model.specs.Schedules.{schedule_of}
 use Rattle.json_tree.specs.Trees.{view}
 use Rattle.siri_json.proofs.DeliveryLemmas.{body_delivery, body_read, body_refused}
 use Rattle.siri_situations.specs.Deliveries.{same}
@@ -7,9 +6,9 @@ use Rattle.siri_situations.proofs.delivery.read_situations.Goals as goal
 
 pub returns-in-Ok-clause-reads : goal.returns-in-Ok-clause-reads
 returns-in-Ok-clause-reads c =
-    body_delivery same (verdicts (schedule_of c.args.context.now)) c.args.body.now (view c.in-Ok.root) _
+    body_delivery same (verdicts c.args.context.now) c.args.body.now (view c.in-Ok.root) _
     (body_read c.args.body.now _ c.in-Ok.ensures.text c.in-Ok.ensures.tree) c.tree_delivery.ensures.reads
 
 pub returns-clause-reads : goal.returns-clause-reads
 returns-clause-reads c =
-    rw c.from.ensures (body_refused same (verdicts (schedule_of c.args.context.now)) c.args.body.now c.in-Err.fault c.in-Err.ensures.fault)
+    rw c.from.ensures (body_refused same (verdicts c.args.context.now) c.args.body.now c.in-Err.fault c.in-Err.ensures.fault)

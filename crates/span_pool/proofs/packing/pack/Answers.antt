@@ -1,4 +1,4 @@
--- One live span more stands behind the others, or a slot without one is passed over.
+-- One live span more stands after the others, or a slot without one is passed over.
 use Rattle.std.proofs.Common.{None, Some, refl, sym, ◌∙◌, ap, cond, get_or}
 use Rattle.std.proofs.lemmas.Bool.{leb-true}
 use Rattle.span_pool.specs.Places.{with_place}

@@ -5,9 +5,19 @@ use Rattle.gateway_core.specs.Arrivals.{admitted, is_within, moments_of, schedul
 use Rattle.gateway_core.specs.Arriving.{Arriving}
 use Rattle.gateway_core.specs.Settings.{IsWindowIn}
 use Rattle.gateway_core.specs.Standing.{JourneyEntry, Kept, KeepsJourneys, journey_seen, situation_seen}
-use Rattle.gateway_core.proofs.FeedAnswers.{answer_refused, answer_taken, parts_refused, parts_say}
+use Rattle.gateway_core.proofs.FeedAnswers.{answer_refused, answer_taken, parts_refused, parts_say, parts_stand}
 use Rattle.gateway_core.proofs.SeenLemmas.{journeys_drop, journeys_long}
 use Rattle.gateway_core.proofs.gateway.Gateway.end_feed.Goals as goal
+
+pub read_text-requires : goal.read_text-requires
+read_text-requires c = record {
+  stands = (
+    c.requires.stands.0,
+    parts_stand c.args.self.now.setting c.self.inside.setting c.args.taking
+        (record { moment = c.taking.inside.moment; window = c.taking.inside.window; reader = c.taking.inside.reader; fold = c.taking.inside.fold })
+        c.requires.stands.0 (ap (λ (k : Kept). k.setting) c.self.view_is) c.taking.view_is c.requires.stands.1,
+  );
+}
 
 pub returns-in-Err-clause-takes : goal.returns-in-Err-clause-takes
 returns-in-Err-clause-takes c = λ arrivals h rolls bytes stands.

@@ -1,4 +1,4 @@
--- What was made is put behind what is left, over the window that rolled.
+-- What was made is put after what is left, over the window that rolled.
 use Rattle.std.proofs.Common.{◌∙◌, ap, drop, List, map, refl, sym}
 use Rattle.feed_index.specs.Entries.{put_all}
 use Rattle.feed_index.specs.declared.entry.Entry.{Entry}
@@ -7,8 +7,13 @@ use Rattle.gateway_core.specs.JourneySteps.{key_order}
 use Rattle.gateway_core.specs.Standing.{Kept, journey_seen}
 use Rattle.gateway_core.specs.contracts.gateway.Gateway.{the_view}
 use Rattle.gateway_core.specs.declared.keys.JourneyKey.{JourneyKey}
-use Rattle.gateway_core.proofs.EstimatedLemmas.{journeys_accepted}
+use Rattle.gateway_core.proofs.EstimatedLemmas.{journeys_accepted, journeys_not_accepted}
 use Rattle.gateway_core.proofs.gateway.Gateway.take_estimated.Goals as goal
+
+pub returns-in-Err-clause-takes : goal.returns-in-Err-clause-takes
+returns-in-Err-clause-takes c = λ arrivals h.
+    journeys_not_accepted c.args.self.now c.args.self.now arrivals c.args.moment c.args.body.now c.self.inside.setting c.rolled_by-window.result.window
+    (ap (λ (k : Kept). k.setting) c.self.view_is) (c.rolled_by-window.ensures.rolls arrivals h) c.in-Err.fault c.in-Err.ensures.refuses
 
 pub returns-clause-takes : goal.returns-clause-takes
 returns-clause-takes c = λ arrivals h.

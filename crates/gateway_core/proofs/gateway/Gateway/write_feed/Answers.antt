@@ -2,7 +2,7 @@
 use Rattle.std.proofs.Common.{◌≡◌, ◌∙◌, [], ℕ, List, OnOk, ap, subst}
 use Rattle.gw_base.specs.Count.{Rose}
 use Rattle.gw_base.specs.Told.{PutsUnless, with_bytes}
-use Rattle.feed_messages.specs.Tables.{MeansFeed, full_dataset}
+use Rattle.feed_reading.specs.Tables.{MeansFeed, full_dataset}
 use Rattle.gateway_core.specs.Standing.{Kept}
 use Rattle.gateway_core.proofs.ServingLemmas.{all_written, stands_gives, stands_rebuilt}
 use Rattle.gateway_core.proofs.gateway.Gateway.write_feed.Goals as goal

@@ -1,12 +1,11 @@
 use Rattle.std.proofs.Common.{◌∙◌}
-use Rattle.journey_model.specs.Schedules.{schedule_of}
 use Rattle.propagation.specs.Folding.{feed_with}
 use Rattle.propagation.proofs.FoldLemmas.{late_sorted}
 use Rattle.propagation.proofs.folding.ReadingFold.finish.Goals as goal
 
 pub returns : goal.returns
 returns c =
-    let schedule = schedule_of c.args.context.now in
+    let schedule = c.args.context.now in
     let sorted = c.in_ok-sorted_late.ensures in
     record {
       reads = λ entities stands. c.reading_of.ensures schedule (feed_with c.args.head.now entities)

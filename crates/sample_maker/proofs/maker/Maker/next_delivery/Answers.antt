@@ -1,4 +1,4 @@
--- The delivery behind those that were given.
+-- The delivery after those that were given.
 use Rattle.std.proofs.Common.{arith}
 use Rattle.sample_maker.proofs.TripLemmas.{held_next, text_next}
 use Rattle.sample_maker.proofs.maker.Maker.next_delivery.Goals as goal

@@ -1,4 +1,4 @@
--- the calls so far, and behind them the text of the others
+-- the calls so far, and after them the text of the others
 use Rattle.std.proofs.Common.{◌≡◌, ◌+◌, ◌++◌, false, drop, nat_lt}
 use Rattle.siri_calls.specs.DeliveryTree.{stop_readings}
 use Rattle.siri_calls.specs.DeliveryTexts.{calls_text}

@@ -1,4 +1,4 @@
--- A span more behind the others, under a slot that none of them has.
+-- A span more after the others, under a slot that none of them has.
 use Rattle.std.proofs.Common.{◌+◌, sym, ◌∙◌, ap, length, arith}
 use Rattle.span_pool.proofs.RegionLemmas.{region_fits, is_put}
 use Rattle.span_pool.proofs.PlaceLemmas.{bytes_of-lacks}

@@ -1,7 +1,0 @@
--- It stands for no bytes.
-use Rattle.feed_messages.proofs.FeedReading.{nothing_yet}
-use Rattle.feed_messages.proofs.feed_reader.reader.FeedReader.make.Goals as goal
-
-pub returns-clause-stands : goal.returns-clause-stands
-returns-clause-stands c =
-    nothing_yet c.make.result c.new.result c.make.ensures.stands c.make.ensures.between c.new.ensures.empty

@@ -1,6 +1,0 @@
--- The faults of its known fields, one after the other.
-use Rattle.feed_messages.proofs.FaultOrder.{least_last}
-use Rattle.feed_messages.proofs.finder.tables.TranslatedStringKnownMessage.faults_inside.Goals as goal
-
-pub returns : goal.returns
-returns c = least_last _ c.in_ok-translations.translations c.in_ok-translations.ensures

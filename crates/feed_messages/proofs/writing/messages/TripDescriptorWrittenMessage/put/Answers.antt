@@ -1,9 +1,0 @@
--- The parts are written one behind the other.
-use Rattle.feed_messages.proofs.SizeLemmas.{appends_both}
-use Rattle.feed_messages.proofs.writing.messages.TripDescriptorWrittenMessage.put.Goals as goal
-
-pub returns-clause-appends : goal.returns-clause-appends
-returns-clause-appends c =
-    appends_both (appends_both
-    (appends_both c.put_optional_text.ensures.appends c.put_optional_text-2.ensures.appends)
-    c.put_enum.ensures.appends) c.put_optional_text-3.ensures.appends

@@ -1,0 +1,13 @@
+pub mod Faults
+pub mod FeedPieces
+pub mod FeedSteps
+pub mod FieldFaults
+pub mod Found
+pub mod Known
+pub mod Limits
+pub mod Meaning
+pub mod Partly
+pub mod Parts
+pub mod Pieces
+pub mod Plain
+pub mod Tables

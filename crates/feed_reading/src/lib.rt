@@ -1,0 +1,26 @@
+//! What bytes mean as a feed of GTFS Realtime 2.0 in protobuf's encoding, by `specs/Tables.antt`, and the readers that
+//! find it: the quick one first; where it finds no feed, the finder of the one fault, by `specs/Faults.antt`. A feed is
+//! read whole, or over any pieces. How messages are written is no part of it.
+#![tactic(auto)]
+
+mod fault;
+mod feed_reader;
+mod finder;
+mod laws;
+mod plain;
+mod plain_fault;
+mod quick;
+mod reading;
+mod whole;
+
+pub use fault::FeedFault;
+pub use feed_reader::{Body, FeedReader, HeadSoFar};
+pub use gw_base::FeedHead;
+pub use laws::{
+    a_fault_or_a_feed, an_entity_is_added, faults_are_found_field_by_field,
+    no_fault_where_a_feed_is_meant, the_feed_is_one, what_is_missing_is_told_at_the_end,
+    what_is_no_field_has_the_fault,
+};
+pub use plain::plain_feed;
+pub use plain_fault::PlainFault;
+pub use reading::read_feed;

@@ -1,0 +1,4 @@
+pub mod Sizes
+pub mod Sound
+pub mod Writable
+pub mod Written

@@ -1,8 +1,0 @@
--- Values that are found one after the other.
-use Rattle.std.specs.Prelude.{Result, Ok, Err}
-
--- a value, and what is found with it: the first fault counts
-infixl 10 ◌>>=◌
-abbrev pub ◌>>=◌ : {A B E : Type 0} → Result A E → (A → Result B E) → Result B E
-Ok value >>= next = next value
-Err fault >>= next = Err fault
