@@ -9,7 +9,7 @@ use Rattle.wire_fields.specs.Spelling.{varint, varint_field, bytes_field}
 use Rattle.wire_fields.proofs.Lists.{Concatenates-append, Concatenates-one}
 use Rattle.wire_fields.proofs.Written.{varint_field_written, bytes_field_written}
 use Rattle.gw_base.specs.declared.messages.Translation.{Translation}
-use Rattle.feed_reading.specs.Meaning.{held}
+use Rattle.feed_reading.specs.Meaning.{payloads}
 use Rattle.feed_writing.specs.Written.{if_there, signed_field, relation_field, deleted_field, translated_string, translated_field}
 
 -- the fields of a number, and those of parts, of which each has a number and what its fields hold
@@ -26,7 +26,7 @@ held_by number [] = []
 held_by number (part ∷ parts) = (if part.0 == number then part.1 else []) ++ held_by number parts
 
 held_with : {X : Type 0} (what : Payload → Option X) (number m : ℕ) (ps : List Payload)
-    → held what number (fields_with m ps) ≡ filter_map (λ p. if m == number then what p else None) ps
+    → payloads what number (fields_with m ps) ≡ filter_map (λ p. if m == number then what p else None) ps
 held_with what number m [] = refl
 held_with {X} what number m (p ∷ ps) =
     ap (λ (l : List X). cons_option (if m == number then what p else None) l) (held_with what number m ps)
@@ -38,11 +38,11 @@ passed what false [] = refl
 passed what false (p ∷ ps) = passed what false ps
 
 pub held_parts : {X : Type 0} (what : Payload → Option X) (number : ℕ) (parts : List (ℕ × List Payload))
-    → held what number (fields_of parts) ≡ filter_map what (held_by number parts)
+    → payloads what number (fields_of parts) ≡ filter_map what (held_by number parts)
 held_parts what number [] = refl
 held_parts {X} what number (part ∷ parts) =
     filter_map-append _ (fields_with part.0 part.1) (fields_of parts)
-    ∙ ap (λ (l : List X). l ++ held what number (fields_of parts))
+    ∙ ap (λ (l : List X). l ++ payloads what number (fields_of parts))
     (held_with what number part.0 part.1 ∙ passed what (part.0 == number) part.1)
     ∙ ap (λ (l : List X). filter_map what (if part.0 == number then part.1 else []) ++ l) (held_parts what number parts)
     ∙ sym (filter_map-append what (if part.0 == number then part.1 else []) (held_by number parts))

@@ -9,12 +9,12 @@ use Rattle.wire_fields.proofs.Lists.{Concatenates-append}
 use Rattle.feed_reading.specs.declared.feed_reader.state.HeadSoFar.{HeadSoFar}
 use Rattle.feed_reading.specs.FeedPieces.{OfHeadSoFar}
 use Rattle.feed_reading.specs.FeedSteps.{head_after}
-use Rattle.feed_reading.specs.Meaning.{number_in, body_in, held, bodies, Means, AreBodies, IsJoined, IsMessage}
+use Rattle.feed_reading.specs.Meaning.{number_in, body_in, payloads, bodies, Means, AreBodies, IsJoined, IsMessage}
 use Rattle.feed_reading.proofs.OneMore.{held_new, found_more, means_one, means_joined}
 use Rattle.wire_fields.proofs.Everywhere.{all_append}
 
 held-append : {X : Type 0} (what : Payload → Option X) (number : ℕ) (fields more : List WireField)
-    → held what number (fields ++ more) ≡ held what number fields ++ held what number more
+    → payloads what number (fields ++ more) ≡ payloads what number fields ++ payloads what number more
 held-append what number fields more = filter_map-append _ fields more
 
 last-append : {X : Type 0} (o : Option X) (xs ys : List X) → last_or o (xs ++ ys) ≡ last_or (last_or o xs) ys
@@ -32,13 +32,13 @@ last_else o (y ∷ ys) = last_there y ys o
 
 -- the last one of two lists of fields
 last_of_both : {X : Type 0} (what : Payload → Option X) (number : ℕ) (fields more : List WireField) (a b : Option X)
-    → a ≡ last_or None (held what number fields) → b ≡ last_or None (held what number more)
-    → option_or b a ≡ last_or None (held what number (fields ++ more))
+    → a ≡ last_or None (payloads what number fields) → b ≡ last_or None (payloads what number more)
+    → option_or b a ≡ last_or None (payloads what number (fields ++ more))
 last_of_both {X} what number fields more a b h k =
     ap (λ (x : Option X). option_or x a) k
-    ∙ ap (λ (x : Option X). option_or (last_or None (held what number more)) x) h
-    ∙ sym (last_else (last_or None (held what number fields)) (held what number more))
-    ∙ sym (last-append None (held what number fields) (held what number more))
+    ∙ ap (λ (x : Option X). option_or (last_or None (payloads what number more)) x) h
+    ∙ sym (last_else (last_or None (payloads what number fields)) (payloads what number more))
+    ∙ sym (last-append None (payloads what number fields) (payloads what number more))
     ∙ ap (λ (l : List X). last_or None l) (sym (held-append what number fields more))
 
 both_said : (a b : List ℕ) (before said : HeadSoFar) → Means OfHeadSoFar a before → Means OfHeadSoFar b said

@@ -8,7 +8,7 @@ use Rattle.std.specs.List.{cons_option, last_or, AllByRecursion, AllZip, concat}
 use Rattle.wire_fields.specs.Grammar.{Payload, WireField, AreFields}
 use Rattle.feed_reading.specs.declared.quick.found.Found.{Found}
 use Rattle.feed_reading.specs.declared.quick.found.Found.TheVariants.{Joined}
-use Rattle.feed_reading.specs.Meaning.{number_in, body_in, held, numbers, bodies, Means, IsJoined, AreBodies, AreMessages, IsUint64, IsText}
+use Rattle.feed_reading.specs.Meaning.{number_in, body_in, payloads, numbers, bodies, Means, IsJoined, AreBodies, AreMessages, IsUint64, IsText}
 use Rattle.feed_reading.specs.Limits.{entity_limit}
 use Rattle.feed_reading.specs.Partly.{AreShort, IsFoundIn, IsFound, AreJoined, AreShortEntities}
 use Rattle.feed_reading.specs.Tables.{OfFeedEntity}
@@ -22,17 +22,17 @@ holds what number field = if field.number == number then what field.payload else
 
 held_more : {X : Type 0} (what : Payload → Option X) (number : ℕ) (fields : List WireField) (field : WireField)
     (o : Option X) → holds what number field ≡ o
-    → held what number (fields ++ field ∷ []) ≡ held what number fields ++ cons_option o []
+    → payloads what number (fields ++ field ∷ []) ≡ payloads what number fields ++ cons_option o []
 held_more {X} what number fields field o e = filter_map-append _ fields (field ∷ [])
-    ∙ ap (λ (x : Option X). held what number fields ++ cons_option x []) e
+    ∙ ap (λ (x : Option X). payloads what number fields ++ cons_option x []) e
 
 pub held_same : {X : Type 0} (what : Payload → Option X) (number : ℕ) (fields : List WireField) (field : WireField)
-    → holds what number field ≡ None → held what number (fields ++ field ∷ []) ≡ held what number fields
-held_same what number fields field e = held_more what number fields field None e ∙ append-nil (held what number fields)
+    → holds what number field ≡ None → payloads what number (fields ++ field ∷ []) ≡ payloads what number fields
+held_same what number fields field e = held_more what number fields field None e ∙ append-nil (payloads what number fields)
 
 pub held_new : {X : Type 0} (what : Payload → Option X) (number : ℕ) (fields : List WireField) (field : WireField)
     (x : X) → holds what number field ≡ Some x
-    → held what number (fields ++ field ∷ []) ≡ held what number fields ++ x ∷ []
+    → payloads what number (fields ++ field ∷ []) ≡ payloads what number fields ++ x ∷ []
 held_new what number fields field x e = held_more what number fields field (Some x) e
 
 last_push : {X : Type 0} (o : Option X) (xs : List X) (x : X) → last_or o (xs ++ x ∷ []) ≡ Some x

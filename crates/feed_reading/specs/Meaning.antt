@@ -21,14 +21,14 @@ body_in Group = None
 body_in (Fixed32 value) = None
 
 -- what all fields of a field number hold, in order; one of another wire type is skipped
-abbrev pub held : {X : Type 0} → (Payload → Option X) → ℕ → List WireField → List X
-held what number fields = filter_map (λ field. if field.number == number then what field.payload else None) fields
+abbrev pub payloads : {X : Type 0} → (Payload → Option X) → ℕ → List WireField → List X
+payloads what number fields = filter_map (λ field. if field.number == number then what field.payload else None) fields
 
 abbrev pub numbers : ℕ → List WireField → List ℕ
-numbers number fields = held number_in number fields
+numbers number fields = payloads number_in number fields
 
 abbrev pub bodies : ℕ → List WireField → List (List ℕ)
-bodies number fields = held body_in number fields
+bodies number fields = payloads body_in number fields
 
 -- a number: that of the last field, if there is one. Of 32 bits it is the low 32 bits; a signed one is in two's
 -- complement

@@ -33,7 +33,7 @@ pub use buffer::Buf;
 pub use clock::Clock;
 pub use door::{Door, Entry, Mark};
 pub use files::{FileFault, Files, Got};
-pub use limits::BODY_LIMIT;
+pub use limits::{BODY_LIMIT, LAST_MOMENT};
 pub use list::{Bytes, List};
 pub use member::Member;
 pub use memory_clock::MemoryClock;

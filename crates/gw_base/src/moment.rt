@@ -2,6 +2,7 @@
 ghost use Rattle.std.specs.Prelude.{◌≡◌, ◌↔◌, ◌≤ℤ◌, pos, IsSome, IfSome};
 ghost use Rattle.gw_base.specs.Moments.{IsMoment};
 
+use crate::limits::LAST_MOMENT;
 use std::marker::Model;
 
 /// A moment: whole seconds since 1970-01-01T00:00:00Z, from 0 to 253,370,764,799, the last second of 9998.
@@ -30,7 +31,7 @@ impl Moment {
         ensures exactly { IsSome result ↔ IsMoment secs }
         ensures value { IfSome result (λ moment. moment ≡ secs) }
     {
-        if 0 <= secs && secs <= 253_370_764_799 {
+        if 0 <= secs && secs <= LAST_MOMENT {
             Some(Moment { secs })
         } else {
             None

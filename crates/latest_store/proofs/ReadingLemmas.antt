@@ -6,6 +6,7 @@ use Rattle.std.specs.Prelude.{position, unsigned_abs}
 use Rattle.std.specs.Str.{bytes_eq}
 use Rattle.gw_base.specs.declared.messages.Feed.{Feed}
 use Rattle.service_day.specs.DayTexts.{compact_text, day_of}
+use Rattle.gw_base.specs.Limits.{last_moment}
 use Rattle.gw_base.specs.Moments.{IsMoment}
 use Rattle.service_day.specs.declared.days.DayForm.TheVariants.{Compact}
 use Rattle.journey_model.specs.Ids.{id_of}
@@ -34,8 +35,8 @@ pub record IsNamed (schedule : Schedule) (one : Recorded) : Type 0 where
 moment_is : (moment : ℤ) → IsMoment moment → moment_in (Some (unsigned_abs moment)) ≡ Some moment
 moment_is (pos n) h =
     let last = h.1 in
-    let le : n ≤ 253370764799 = omega (arith, ints) in
-    rw (le-leb 0 n (omega arith), le-leb n 253370764799 le) refl
+    let le : n ≤ last_moment = omega (arith, ints) in
+    rw (le-leb 0 n (omega arith), le-leb n last_moment le) refl
 moment_is (negsuc n) h = let first = h.0 in absurd (omega (arith, ints))
 
 filled_is : (text : List ℕ) → 1 ≤ length text → filled_text (Some text) ≡ Some text

@@ -13,10 +13,12 @@ use std::alloc::{AllocError, Global};
 pub(crate) fn journey_id(alloc: Global, date: &str, trip_id: &str) -> Result<Text, AllocError>
     ensures { IfOk result (λ id. id ≡ spec.journey_id date.now trip_id.now) }
 {
-    let mut id = Text::copied(alloc, date)?;
-    id.push(":")?;
-    id.push(trip_id)?;
-    Ok(id)
+    let room = trip_id.len().saturating_add(date.len() + 1);
+    let mut id = String::with_capacity(alloc, room)?;
+    id.push_str(date)?;
+    id.push_str(":")?;
+    id.push_str(trip_id)?;
+    Ok(Text::from_string(id))
 }
 
 // The schedule_relationship of a journey.

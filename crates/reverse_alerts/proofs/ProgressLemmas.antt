@@ -10,6 +10,7 @@ use Rattle.std.proofs.lemmas.Bool.Decides.{nat_tests}
 use Rattle.std.proofs.lemmas.Int.{ints}
 use Rattle.serde_json.specs.Written.{comma_if}
 use Rattle.gw_base.specs.Count.{last_count}
+use Rattle.gw_base.specs.Limits.{last_moment}
 use Rattle.gw_base.specs.Moments.{is_moment}
 use Rattle.gw_base.specs.declared.member.Member.{Member}
 use Rattle.gw_base.specs.declared.messages.Alert.{Alert}
@@ -156,9 +157,9 @@ bound_told : (member : Member) (bound : Option ℕ) → bound_fault member bound
 bound_told member None h = tt
 bound_told member (Some secs) h = by (is_moment (pos secs)) refl h
   where
-    by : (b : Bool) → is_moment (pos secs) ≡ b → (if b then None else Some (BadField member)) ≡ None → secs ≤ 253370764799
+    by : (b : Bool) → is_moment (pos secs) ≡ b → (if b then None else Some (BadField member)) ≡ None → secs ≤ last_moment
     by false e h = absurd (cc)
-    by true e h = omega (arith, ints, (both (int_le (pos 0) (pos secs)) (int_le (pos secs) (pos 253370764799)) e).1)
+    by true e h = omega (arith, ints, (both (int_le (pos 0) (pos secs)) (int_le (pos secs) (pos last_moment)) e).1)
 
 first_none : (a b : Option Fault) → option_or a b ≡ None → (a ≡ None) × (b ≡ None)
 first_none None b h = (refl, h)

@@ -3,6 +3,7 @@
 use Rattle.std.specs.Prelude.{◌||◌, ◌≤◌, ℕ, ℤ, pos, Bool, true, false, List, [], ◌∷◌, ◌++◌, codes, Option, Some, None, IfSome}
 use Rattle.std.specs.List.{filter}
 use Rattle.serde_json.specs.Written.{comma_if}
+use Rattle.gw_base.specs.Limits.{last_moment}
 use Rattle.gw_base.specs.declared.messages.Period.{Period}
 use Rattle.service_day.specs.DayTexts.{dashed_text}
 use Rattle.stop_schedule.specs.Table.{Table}
@@ -150,7 +151,7 @@ tail_text = codes "},\"version\":\"2.0\"}]}}}"
 
 -- the bounds of a period, where it has them, are moments
 abbrev pub IsBound : Option ℕ → Type 0
-IsBound bound = IfSome bound (λ secs. secs ≤ 253370764799)
+IsBound bound = IfSome bound (λ secs. secs ≤ last_moment)
 
 abbrev pub IsTold : Period → Type 0
 IsTold period = IsBound period.start × IsBound period.end

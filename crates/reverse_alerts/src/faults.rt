@@ -4,11 +4,8 @@ ghost use Rattle.std.specs.Option.{option_or};
 ghost use Rattle.reverse_alerts.specs.Progress as progress;
 ghost use Rattle.reverse_alerts.specs.Taken as spec;
 
-use gw_base::{Alert, Member, Period};
+use gw_base::{Alert, LAST_MOMENT, Member, Period};
 use journey_model::Fault;
-
-// The last second of the year 9998, since 1970.
-const LAST_MOMENT: u64 = 253_370_764_799;
 
 // The fault of an alert without a number.
 fn number_fault(id: &str) -> Option<Fault>
@@ -25,7 +22,7 @@ fn bound_fault(member: Member, bound: Option<u64>) -> Option<Fault>
     ensures { result ≡ spec.bound_fault member bound }
 {
     match bound {
-        Some(secs) if secs > LAST_MOMENT => Some(Fault::BadField(member)),
+        Some(secs) if secs > LAST_MOMENT as u64 => Some(Fault::BadField(member)),
         _ => None,
     }
 }

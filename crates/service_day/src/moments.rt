@@ -7,8 +7,9 @@ ghost use Rattle.gw_base.specs.Moments.{IsMoment};
 use crate::days::Day;
 use crate::digits::{four_at, has_form, is_digit, two_at};
 use crate::starts::local_second;
-use crate::utc::{LAST_MOMENT, is_clock};
+use crate::utc::is_clock;
 use crate::zones::Zone;
+use gw_base::LAST_MOMENT;
 use std::cmp::Ordering;
 
 /// An instant of the years 1970 to 9998 in UTC: seconds since 1970-01-01T00:00:00Z, and nanoseconds

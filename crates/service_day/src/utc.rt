@@ -7,11 +7,9 @@ ghost use Rattle.service_day.specs.Utc.{utc_of, moment_text};
 use crate::day_texts::day_text;
 use crate::days::Day;
 use crate::digits::{four_at, has_form, two_at, two_digits};
+use gw_base::LAST_MOMENT;
 
 const UTC: &[u8] = b"0000-00-00T00:00:00Z";
-
-/// The last second of the year 9998.
-pub(crate) const LAST_MOMENT: i64 = 253_370_764_799;
 
 /// The seconds since 1970 that the text names in the form `YYYY-MM-DDThh:mm:ssZ` (ISO 8601). None exactly
 /// where the text has another form, the calendar has no such date, a clock no such time, or the year
