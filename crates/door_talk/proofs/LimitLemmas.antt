@@ -80,18 +80,6 @@ pub one_more : (held piece came : List ℕ) (count left : ℕ) → left + length
     → length came ≡ count → length (held ++ take count piece) ≤ 16384
 one_more held piece came count left all most front size = omega (arith, all, most, ap length front, size, length-append held (take count piece))
 
--- the front of a body, and what was read after it
-pub behind_front : (front body : List ℕ) (size : ℕ) → length front ≤ length body → length body ≤ size
-    → length front + length (drop (length front) body) ≤ size
-behind_front front body size long within = omega (arith, long, within, length-drop (length front) body)
-
--- and one piece more
-pub piece_behind : (front body piece came : List ℕ) (count size : ℕ) → length front ≤ length body → length body + count ≤ size
-    → came ≡ take count piece → length came ≡ count
-    → length front + length (drop (length front) body ++ take count piece) ≤ size
-piece_behind front body piece came count size long within is many =
-    omega (arith, long, within, ap length is, many, length-drop (length front) body, length-append (drop (length front) body) (take count piece))
-
 -- after a head that is read with a front of its body
 pub within : (bytes part more : List ℕ) (count : ℕ) (head : Head) → length bytes ≤ 16384
     → ((later : List ℕ) → IsHead (bytes ++ later) count (Ok head)) → is_post head.target ≡ true

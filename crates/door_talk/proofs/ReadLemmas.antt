@@ -1,6 +1,6 @@
 -- What was read of a connection's input, piece by piece.
-use Rattle.std.proofs.Common.{◌≡◌, ◌∙◌, ◌++◌, ◌≤◌, ◌<◌, [], ℕ, ℤ, true, false, inl, inr, Ok, Err, List, Option, Some, None, length, drop, take, ap, sym, refl, subst, arith, length-append, append-nil}
-use Rattle.std.specs.Prelude.{IfSome, MatchOption, ◌↔◌, nat_le, if◌then◌else◌}
+use Rattle.std.proofs.Common.{◌≡◌, ◌∙◌, ◌++◌, ◌≤◌, ◌<◌, [], ℕ, ℤ, true, false, inl, inr, Ok, Err, List, Option, Some, None, length, drop, take, ap, sym, refl, subst, arith, length-append}
+use Rattle.std.specs.Prelude.{MatchOption, ◌↔◌, nat_le, if◌then◌else◌}
 use Rattle.std.proofs.Math.Seq.{take-append_seam}
 use Rattle.std.proofs.lemmas.List.{append_assoc}
 use Rattle.gw_base.specs.Connections.{Beside, Connections, Takes}
@@ -11,7 +11,7 @@ use Rattle.http_talk.specs.declared.refusal.Refusal.TheVariants as refusal
 use Rattle.http_talk.specs.declared.target.Head.{Head}
 use Rattle.http_talk.specs.declared.target.Target.{Target}
 use Rattle.door_talk.specs.Bodies.{StandsOn}
-use Rattle.door_talk.specs.Requests.{HasRead, IsEnded}
+use Rattle.door_talk.specs.Requests.{HasRead}
 
 -- before the first piece
 pub read_nothing : (before : Beside) → HasRead before before []
@@ -85,18 +85,6 @@ pub cut : (input body : List ℕ) (count : ℕ) (head : Head) → IsHead input c
 cut input body count head is_head post behind short = headed count (Ok head) is_head (rw (post, behind) (sym (ends head.target head.length body short)))
 
 -- ---- the end of the input
-
-pub takes_end : (b c : Beside) (y : List ℕ) → Takes b c y → y ≡ [] → IsEnded c
-takes_end b c y t none = by b.told t.1
-  where
-    by : (s : Option Connections)
-        → MatchOption s (c.told ≡ None) (λ told. (rest : List ℕ) × (told.unread ≡ y ++ rest) × ((y ≡ []) ↔ (told.unread ≡ [])) × (c.told ≡ Some (record { coming = told.coming; input = told.input; unread = rest; log = told.log })))
-        → IsEnded c
-    by None told = subst (λ (s : Option Connections). IfSome s (λ t. t.unread ≡ [])) (sym told) tt
-    by (Some k) (rest, unread, end, told) = subst (λ (s : Option Connections). IfSome s (λ t. t.unread ≡ [])) (sym told) (sym (ap (λ (z : List ℕ). z ++ rest) none) ∙ sym unread ∙ end.0 none)
-
-pub takes_none : (a b c : Beside) (x y : List ℕ) → HasRead a b x → Takes b c y → y ≡ [] → HasRead a c x
-takes_none a b c x y h t none = subst (HasRead a c) (ap (λ (z : List ℕ). x ++ z) none ∙ append-nil x) (takes_on a b c x y h t)
 
 -- ---- a body that is taken as it arrives
 

@@ -1,7 +1,7 @@
 -- The spans of a pool when one more is put and when one is given back.
 use Rattle.std.proofs.Common.{◌≡◌, ◌++◌, ◌∷◌, [], ◌+◌, ℕ, Bool, true, false, cond, not, List, Option, Some, None, IsSome, sym, ap, refl, arith, eq-eqb}
 use Rattle.std.proofs.lemmas.Bool.{true≢false}
-use Rattle.std.specs.Prelude.{◌==◌, is_some}
+use Rattle.std.specs.Prelude.{◌==◌}
 use Rattle.span_pool.specs.Spans.{bytes_of, without}
 use Rattle.feed_index.specs.Rows.{lives}
 use borrow.Author.Tests.{eqb-true}
@@ -33,9 +33,6 @@ added_none (one ∷ spans) s b t h e = by (one.0 == t) h (λ g. added_none spans
     by : (c : Bool) → cond c (Some one.1) (bytes_of spans t) ≡ None → (bytes_of spans t ≡ None → bytes_of (spans ++ (s, b) ∷ []) t ≡ None) → cond c (Some one.1) (bytes_of (spans ++ (s, b) ∷ []) t) ≡ None
     by true g more = cc
     by false g more = more g
-
-one_if : Option (List ℕ) → ℕ
-one_if o = cond (is_some o) 1 0
 
 pub lives-added : (spans : List (ℕ × List ℕ)) (s : ℕ) (b : List ℕ) → bytes_of spans s ≡ None → (t : ℕ) → lives (spans ++ (s, b) ∷ []) t ≡ lives spans t + cond (s == t) 1 0
 lives-added spans s b h t = by (s == t) refl

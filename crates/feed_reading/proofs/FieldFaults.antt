@@ -205,9 +205,6 @@ faultless_nothing f has =
       | inr header ↦ (of_header [] f header).0
     ]
 
-pub nothing_clear : Clear []
-nothing_clear = record { fields = []; read = refl; faultless = faultless_nothing }
-
 clear_more : (front spelling : List ℕ) (field : WireField) → Clear front → IsSpelling 64 field spelling
     → ((f : FeedFault) → ¬ Own (length front) spelling f) → Clear (front ++ spelling)
 clear_more front spelling field h spelled none = record {

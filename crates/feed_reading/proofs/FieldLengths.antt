@@ -1,6 +1,6 @@
 -- How long fields are at most.
 use Rattle.std.proofs.Common.{ℕ, ◌+◌, ◌*◌, ◌^◌, ◌<◌, ◌≤◌, List, ◌++◌, length, length-append, arith}
-use Rattle.wire_fields.specs.Spelling.{varint, varint_field, bytes_field}
+use Rattle.wire_fields.specs.Spelling.{varint, bytes_field}
 use Rattle.wire_fields.proofs.Varints.{length-varint_10}
 
 -- a tag and a length have at most ten bytes each
@@ -14,11 +14,3 @@ length-bytes_field number body small short =
       length-append (varint (number * 8 + 2) ++ varint (length body)) body,
       length-append (varint (number * 8 + 2)) (varint (length body)),
     )
-
--- a tag and a value have at most ten bytes each
-pub length-varint_field : (number value : ℕ) → number < 2 ^ 29 → value < 2 ^ 64
-    → length (varint_field number value) ≤ 20
-length-varint_field number value small fits =
-    let tag : length (varint (number * 8)) ≤ 10 = length-varint_10 _ (omega arith) in
-    let text : length (varint value) ≤ 10 = length-varint_10 _ fits in
-    omega (arith, length-append (varint (number * 8)) (varint value))

@@ -10,7 +10,7 @@ use Rattle.feed_reading.specs.declared.quick.found.Found.{Found}
 use Rattle.feed_reading.specs.declared.quick.found.Found.TheVariants.{Joined}
 use Rattle.feed_reading.specs.Meaning.{number_in, body_in, payloads, numbers, bodies, Means, IsJoined, AreBodies, AreMessages, IsUint64, IsText}
 use Rattle.feed_reading.specs.Limits.{entity_limit}
-use Rattle.feed_reading.specs.Partly.{AreShort, IsFoundIn, IsFound, AreJoined, AreShortEntities}
+use Rattle.feed_reading.specs.Partly.{AreShort, IsFoundIn, IsFound, AreShortEntities}
 use Rattle.feed_reading.specs.Tables.{OfFeedEntity}
 use Rattle.gw_base.specs.declared.messages.Entity.{Entity}
 use Rattle.wire_fields.proofs.Everywhere.{all_append}
@@ -93,12 +93,6 @@ append_some (y ∷ xs) x e = absurd cc
 
 pub found_one : (bodies : List (List ℕ)) (body : List ℕ) → bodies ≡ [] → bodies ++ body ∷ [] ≡ body ∷ []
 found_one bodies body e = ap (λ (bs : List (List ℕ)). bs ++ body ∷ []) e
-
-pub found_two : (bodies : List (List ℕ)) (first body bytes : List ℕ) → AreJoined first body bytes
-    → bodies ≡ first ∷ [] → IsFoundIn (bodies ++ body ∷ []) (Joined bytes)
-found_two bodies first body bytes h e =
-    subst (λ (bs : List (List ℕ)). IsFoundIn (bs ++ body ∷ []) (Joined bytes)) (sym e)
-    ((λ d. absurd cc), h.0, h.1 ∙ ap (λ (b : List ℕ). first ++ b) (sym (append-nil body)))
 
 concat-push : (bodies : List (List ℕ)) (body : List ℕ) → concat (bodies ++ body ∷ []) ≡ concat bodies ++ body
 concat-push [] body = append-nil body

@@ -146,9 +146,6 @@ goes_on_some number list rest after inner field s here = record {
   ];
 }
 
-pub goes_on_first : (number : ℕ) (list : List Piece) (piece : Piece) → GoesOn number list piece list piece
-goes_on_first number list piece = record { to = λ q h. h; back = λ q h. h }
-
 pub goes_on_both : (number : ℕ) (list longer longest : List Piece) (piece rest after : Piece)
     → GoesOn number list piece longer rest → GoesOn number longer rest longest after
     → GoesOn number list piece longest after
@@ -167,9 +164,6 @@ gains_all number list longer piece rest h none = record {
 }
 
 -- ---- what stands in a message
-
-pub inside_none : (number : ℕ) → SameSet (Inside number (Listed [])) (Listed [])
-inside_none number = record { to = λ q x. x.1; back = λ q l. absurd l }
 
 inside_more : (number : ℕ) (before list longer : List Piece) (piece : Piece)
     → SameSet (Inside number (Listed before)) (Listed list) → Gains list longer (Stands (piece_of piece) number)

@@ -140,19 +140,6 @@ pub broken_on : (a b : List ℕ) (field : WireField) (at : ℕ) (kind : WireKind
     → IsBroken (a ++ b) at kind → (further : ℕ) × (at ≡ length a + further) × IsBroken b further kind
 broken_on a b field at kind spelled h = broken_by a b field at kind h.fields spelled h h.read
 
-pub broken_later : (a b : List ℕ) (field : WireField) (at : ℕ) (kind : WireKind) → IsSpelling 64 field a
-    → IsBroken b at kind → IsBroken (a ++ b) (length a + at) kind
-broken_later a b field at kind spelled h = record {
-  front = a ++ h.front;
-  rest = h.rest;
-  joined = ap (λ (l : List ℕ). a ++ l) h.joined ∙ sym (append_assoc a h.front h.rest);
-  place = omega (arith, h.place, length-append a h.front);
-  fields = field ∷ h.fields;
-  read = (a, h.front, refl, spelled, h.read);
-  some = h.some;
-  breaks = h.breaks;
-}
-
 pub broken_here : (bytes : List ℕ) (kind : WireKind) → bytes ≢ [] → IsBreak bytes kind → IsBroken bytes 0 kind
 broken_here bytes kind some h = record {
   front = [];

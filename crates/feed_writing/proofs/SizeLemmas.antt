@@ -1,5 +1,5 @@
 -- Parts that are counted and written one after the other.
-use Rattle.std.proofs.Common.{◌≡◌, ℕ, ◌+◌, ◌<◌, ◌≤◌, List, [], ◌∷◌, ◌++◌, length, length-append, take, get_or, append_assoc, sym, ap, ◌∙◌, arith}
+use Rattle.std.proofs.Common.{◌≡◌, ℕ, ◌+◌, ◌<◌, ◌≤◌, List, [], ◌∷◌, ◌++◌, length, length-append, take, get_or, append_assoc, ap, ◌∙◌, arith}
 use Rattle.std.proofs.lemmas.List.{append-nil, take_more}
 use Rattle.std.proofs.lemmas.List.Concat.{flat_map-append}
 use Rattle.std.proofs.lemmas.List.Folds.{length-flat_map-take}
@@ -15,9 +15,6 @@ appends_both {old} {between} {new} {a} {b} h k =
       joined = k.joined ∙ ap (λ (l : List ℕ). l ++ b) h.joined ∙ append_assoc old.bytes a b;
       room = omega (arith, length-append a b, h.room, k.room);
     }
-
-pub appends_none : (old : Written) → Appends old old []
-appends_none old = record { joined = sym (append-nil old.bytes); room = omega arith }
 
 -- one more of the parts that a list gives
 pub one_part_more : {X : Type 0} (f : X → List ℕ) (xs : List X) (i : ℕ) (d : X) → i < length xs

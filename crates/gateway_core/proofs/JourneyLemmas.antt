@@ -21,18 +21,15 @@ use Rattle.siri_json.specs.declared.delivery.Item.{Item}
 use Rattle.siri_json.specs.declared.delivery.Item.TheVariants.{Taken, Aside}
 use Rattle.feed_index.specs.Entries.{put, value_at}
 use Rattle.feed_index.specs.declared.entry.Entry.{Entry}
-use Rattle.feed_reading.specs.Tables.{MeansFeed}
-use Rattle.gw_base.specs.declared.messages.Feed.{Feed}
-use Rattle.latest_store.specs.Entities.{entity, messages}
+use Rattle.latest_store.specs.Entities.{entity}
 use Rattle.latest_store.specs.Latest.{is_later}
-use Rattle.latest_store.specs.Reads.{SaysItself, with_messages}
 use Rattle.gateway_core.specs.Arrivals.{has_room, is_same_journey, is_within}
 use Rattle.gateway_core.specs.Deliveries.{taken}
 use Rattle.feed_index.specs.Drafts.{Drafted, after}
 use Rattle.gateway_core.specs.declared.keys.JourneyKey.{JourneyKey}
 use Rattle.gateway_core.specs.JourneySteps.{GathersItems, GathersJourneys, IsItemPut, IsPut, item_fault, item_step, journey_of, journey_verdict, key_order, numbered, seen_after}
 use Rattle.gateway_core.specs.Reports.{aside_from}
-use Rattle.gateway_core.specs.Standing.{IsServed, JourneyEntry, KeepsJourneys, journey_entry, journey_seen}
+use Rattle.gateway_core.specs.Standing.{JourneyEntry, KeepsJourneys, journey_entry, journey_seen}
 use Rattle.gateway_core.specs.Steps.{JourneysAfter, journey_counts, journey_fits, journey_kept, with_journey}
 use Rattle.gateway_core.specs.Taking.{journeys_with_room}
 use Rattle.gateway_core.proofs.KeepsLemmas.{roomy-append}
@@ -80,14 +77,6 @@ put_seen schedule old now rec key value bytes is key_is value_is bytes_are =
     ∙ ap (λ (k : JourneyKey). with_journey (seen_after old) (journey_seen (record { key = k; value = value; bytes = bytes }))) key_is
     ∙ ap (λ (v : Instant). with_journey (seen_after old) (journey_seen (record { key = journey_of rec; value = v; bytes = bytes }))) value_is
     ∙ ap (λ (b : List ℕ). with_journey (seen_after old) (journey_seen (record { key = journey_of rec; value = rec.at; bytes = b }))) bytes_are
-
--- and its bytes say it
-pub record_served : (schedule : Schedule) (one : Recorded) (bytes : List ℕ) → bytes ≡ entity schedule one → SaysItself schedule one
-    → ((before : List ℕ) (given : Feed) → MeansFeed before given → MeansFeed (before ++ bytes) (with_messages given (messages schedule one))) → IsServed schedule one
-record_served schedule one bytes is says means = record {
-  says = says;
-  means = λ before given h. subst (λ (b : List ℕ). MeansFeed (before ++ b) (with_messages given (messages schedule one))) is (means before given h);
-}
 
 -- ---- reports
 

@@ -181,16 +181,6 @@ present_journeys setting moment verdicts earlier h =
     new : List Recorded
     new = taken (with_room is_same_journey (is_within (window_at setting (moment ∷ moments_of earlier))) 50000 (admitted setting earlier) verdicts)
 
--- after what gives no records
-pub present_others : (setting : Setting) (one : Arrival) (earlier : List Arrival) → records_of one.gives ≡ [] → EachCanBeServed setting earlier
-    → present setting (one ∷ earlier) ≡ filter (is_within (window_at setting (one.moment ∷ moments_of earlier))) (present setting earlier)
-present_others setting one earlier none h =
-    ap (λ (records : List Recorded). filter within (admit is_same_journey within 50000 (admitted setting earlier) records)) none
-    ∙ present_rolls setting one earlier h
-  where
-    within : Recorded → Bool
-    within = is_within (window_at setting (one.moment ∷ moments_of earlier))
-
 -- ---- what the window left behind stands in front
 
 abbrev pub has_gone : ℤ → Recorded → Bool

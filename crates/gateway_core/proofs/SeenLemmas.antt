@@ -54,9 +54,6 @@ journey_cmp = (derived.ghosts).cmp
 abbrev pub key_seen : JourneyKey → Key
 key_seen key = (key.day, key.trip.0)
 
-pub journey_order : (a b : JourneyKey) → journey_cmp a b ≡ key_cmp (key_seen a) (key_seen b)
-journey_order a b = refl
-
 -- the journey of a record
 abbrev pub key_at : JourneyRecord → JourneyKey
 key_at rec = record { day = rec.day; trip = rec.trip }

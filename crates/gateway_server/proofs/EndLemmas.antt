@@ -197,24 +197,6 @@ serves_at P Q before arrivals told clock old mid new bytes output last moment en
       stands = says.stands;
     }
 
--- a connection for which the clock gave no moment
-pub serves_without : (P Q : Type 0) (before : Kept) (arrivals : List Arrival) (told : Connections) (clock : Change (List ℤ)) (old mid new : Beside) (first output last : Option (List ℕ))
-    → (P → Q) → old.told ≡ Some told → mid ≡ old → first ≡ Some [] → PutsUnless P first output (refused_with refusal.Clock)
-    → Logs mid new output mark.ClockFault None → last ≡ option_map (λ _. []) output → AsksClock clock None → Stands before arrivals → Serves Q before arrivals told clock last new before
-serves_without P Q before arrivals told clock old mid new first output last wider tells same fresh puts logs cleared asks stands =
-    let front : (written : List ℕ) × (output ≡ Some written) × IsFront P written (refused_with refusal.Clock) = front_of P first output (refused_with refusal.Clock) fresh puts in
-    let logged : IsLogged told new (record { input = told.input; mark = mark.ClockFault; moment = None; output = front.0 }) =
-    has_logged mid new output front.0 mark.ClockFault None told (ap (λ (b : Beside). b.told) same ∙ tells) front.1 logs in record {
-      entry = record { input = told.input; mark = mark.ClockFault; moment = None; output = front.0 };
-      logged = logged;
-      unwritten = cleared ∙ ap (option_map (λ _. [])) front.1;
-      asked = asks;
-      lawful = lawful_wider P Q before.setting arrivals (record { input = told.input; mark = mark.ClockFault; moment = None; output = front.0 }) wider (no_clock refl refl front.2);
-      arrived = arrivals;
-      leaves = nothing refl refl;
-      stands = stands;
-    }
-
 -- ---- what was asked
 
 pub asked_of : (Stands : Target → List ℕ → Type 0) (output : Option (List ℕ)) (beside : Beside) (told : Connections) (asked one : Asked) → IsFresh output beside told

@@ -1,9 +1,8 @@
 -- What stands for a posted body.
-use Rattle.std.proofs.Common.{◌≡◌, ◌∙◌, ◌++◌, ◌⊎◌, inl, inr, true, ℕ, ℤ, List, Option, Some, None, ap, refl, subst, sym}
+use Rattle.std.proofs.Common.{◌≡◌, ◌++◌, ◌⊎◌, inl, inr, true, ℕ, ℤ, List, Option, Some, None, ap, refl, subst, sym}
 use Rattle.http_talk.specs.Asked.{is_post}
 use Rattle.http_talk.specs.declared.target.Target.{Target}
 use Rattle.http_talk.specs.declared.target.Target.TheVariants.{EtPost, EtGet, SxPost, RtPost, RtGet}
-use Rattle.gateway_core.specs.Arriving as arriving
 use Rattle.gateway_core.specs.Arriving.{Arriving}
 use Rattle.gateway_core.specs.Standing.{Kept}
 use Rattle.gateway_server.specs.Posted.{FeedStands, Posted, PostedStands, StandsForBody}
@@ -45,21 +44,6 @@ body_of gate moment body RtGet bytes h = h.1
 
 -- ---- the next bytes
 
--- of a feed
-pub feed_goes_on : (gate : Kept) (moment : ℤ) (old : Posted) (one after : Arriving) (target : Target) (bytes more : List ℕ) (came : ℕ) → old.feed ≡ Some one
-    → PostedStands gate old moment target bytes → after.moment ≡ one.moment → after.window ≡ one.window
-    → ((bytes : List ℕ) → arriving.StandsFor gate.setting one bytes → arriving.StandsFor gate.setting after (bytes ++ more))
-    → PostedStands gate (record { came = came; body = old.body; feed = Some after }) moment target (bytes ++ more)
-feed_goes_on gate moment old one after target bytes more came is stands same_moment same_window takes =
-    let posted : (target ≡ RtPost) × FeedStands gate moment one bytes =
-    feed_of gate moment old.body one target bytes (subst (λ (f : Option Arriving). StandsForBody gate moment old.body f target bytes) is stands) in
-    subst (λ (t : Target). StandsForBody gate moment old.body (Some after) t (bytes ++ more)) (sym posted.0)
-    (record {
-      moment_is = same_moment ∙ posted.1.moment_is;
-      window_is = λ arrivals h. same_window ∙ posted.1.window_is arrivals h;
-      stands = takes bytes posted.1.stands;
-    })
-
 -- of a delivery
 kept_more : (gate : Kept) (moment : ℤ) (body more : List ℕ) (target : Target) (bytes : List ℕ) → StandsForBody gate moment body None target bytes
     → StandsForBody gate moment (body ++ more) None target (bytes ++ more)
@@ -68,13 +52,6 @@ kept_more gate moment body more EtPost bytes h = (refl, ap (λ (b : List ℕ). b
 kept_more gate moment body more SxPost bytes h = (refl, ap (λ (b : List ℕ). b ++ more) h.1)
 kept_more gate moment body more EtGet bytes h = (refl, ap (λ (b : List ℕ). b ++ more) h.1)
 kept_more gate moment body more RtGet bytes h = (refl, ap (λ (b : List ℕ). b ++ more) h.1)
-
-pub body_goes_on : (gate : Kept) (moment : ℤ) (old : Posted) (body : List ℕ) (target : Target) (bytes more : List ℕ) (came : ℕ) → old.feed ≡ None
-    → PostedStands gate old moment target bytes → body ≡ old.body ++ more
-    → PostedStands gate (record { came = came; body = body; feed = None }) moment target (bytes ++ more)
-body_goes_on gate moment old body target bytes more came is stands longer =
-    subst (λ (b : List ℕ). StandsForBody gate moment b None target (bytes ++ more)) (sym longer)
-    (kept_more gate moment old.body more target bytes (subst (λ (f : Option Arriving). StandsForBody gate moment old.body f target bytes) is stands))
 
 -- ---- what is posted, taken apart
 

@@ -106,15 +106,6 @@ pub record Leads (command : Command) (name : List ℕ) (words : Words) (number :
   pub accepts : ArePairs command number before left → ArePairs command 0 name words
   pub refuses : (n : ℕ) → StopsAt (ArePairs command number before) left n → StopsAt (ArePairs command 0 name) words (at + n)
 
-pub leads_all : (command : Command) (name : List ℕ) (words : Words) → Leads command name words 0 name words
-leads_all command name words = record {
-  at = 0;
-  counted = omega arith;
-  passed = omega arith;
-  accepts = λ h. h;
-  refuses = λ n stops. subst (λ k. StopsAt (ArePairs command 0 name) words k) (omega arith) stops;
-}
-
 pub leads_on : (command : Command) (name : List ℕ) (words : Words) (number : ℕ) (before : List ℕ) (left : Words) (value : List ℕ) (rest : Words)
     → Leads command name words number before left → IfSome (slice_get left 0) (λ flag. IsTrue (is_flag (pair_at command number) flag)) → IsTrue ((pair_at command number).form before value)
     → drop 1 left ≡ value ∷ rest

@@ -188,24 +188,6 @@ name_differs {a} {b} name here there differ =
     let same : a ≡ b = same_Some a b (sym here ∙ there) in
     true≢false (sym (nat_list_eq_equiv.refl a) ∙ ap (pointwise nat_eq a) same ∙ differ)
 
-pub serve_of : (words : List (List ℕ)) (job : Job) → IsJob words job → slice_get words 0 ≡ Some (codes "serve")
-    → (command : Serve) × SaysServe words command
-serve_of words (serve_job command) is named = (command, is.says)
-serve_of words (task_job (gtfsrt_task command)) is named = absurd (name_differs (slice_get words 0) named is.says.name refl)
-serve_of words (task_job (siri_task command)) is named = absurd (name_differs (slice_get words 0) named is.says.name refl)
-serve_of words (task_job (sx_task command)) is named = absurd (name_differs (slice_get words 0) named is.says.name refl)
-serve_of words (task_job (show_task command)) is named = absurd (name_differs (slice_get words 0) named is.says.name refl)
-serve_of words (task_job (make_task command)) is named = absurd (name_differs (slice_get words 0) named is.says.name refl)
-
-pub gtfsrt_of : (words : List (List ℕ)) (job : Job) → IsJob words job → slice_get words 0 ≡ Some (codes "to-gtfsrt")
-    → (command : ToGtfsrt) × SaysToGtfsrt words command
-gtfsrt_of words (serve_job command) is named = absurd (name_differs (slice_get words 0) named is.says.name refl)
-gtfsrt_of words (task_job (gtfsrt_task command)) is named = (command, is.says)
-gtfsrt_of words (task_job (siri_task command)) is named = absurd (name_differs (slice_get words 0) named is.says.name refl)
-gtfsrt_of words (task_job (sx_task command)) is named = absurd (name_differs (slice_get words 0) named is.says.name refl)
-gtfsrt_of words (task_job (show_task command)) is named = absurd (name_differs (slice_get words 0) named is.says.name refl)
-gtfsrt_of words (task_job (make_task command)) is named = absurd (name_differs (slice_get words 0) named is.says.name refl)
-
 pub siri_of : (words : List (List ℕ)) (job : Job) → IsJob words job → slice_get words 0 ≡ Some (codes "to-siri")
     → (command : ToSiri) × SaysToSiri words command
 siri_of words (serve_job command) is named = absurd (name_differs (slice_get words 0) named is.says.name refl)
@@ -223,25 +205,6 @@ sx_of words (task_job (siri_task command)) is named = absurd (name_differs (slic
 sx_of words (task_job (sx_task command)) is named = (command, is.says)
 sx_of words (task_job (show_task command)) is named = absurd (name_differs (slice_get words 0) named is.says.name refl)
 sx_of words (task_job (make_task command)) is named = absurd (name_differs (slice_get words 0) named is.says.name refl)
-
-pub make_of : (words : List (List ℕ)) (job : Job) → IsJob words job → slice_get words 0 ≡ Some (codes "make")
-    → (command : Make) × SaysMake words command
-make_of words (serve_job command) is named = absurd (name_differs (slice_get words 0) named is.says.name refl)
-make_of words (task_job (gtfsrt_task command)) is named = absurd (name_differs (slice_get words 0) named is.says.name refl)
-make_of words (task_job (siri_task command)) is named = absurd (name_differs (slice_get words 0) named is.says.name refl)
-make_of words (task_job (sx_task command)) is named = absurd (name_differs (slice_get words 0) named is.says.name refl)
-make_of words (task_job (show_task command)) is named = absurd (name_differs (slice_get words 0) named is.says.name refl)
-make_of words (task_job (make_task command)) is named = (command, is.says)
-
-pub show_of : (words : List (List ℕ)) (job : Job) → IsJob words job → slice_get words 0 ≢ Some (codes "serve")
-    → slice_get words 0 ≢ Some (codes "to-gtfsrt") → slice_get words 0 ≢ Some (codes "to-siri") → slice_get words 0 ≢ Some (codes "to-siri-sx")
-    → slice_get words 0 ≢ Some (codes "make") → (command : Show) × SaysShow words command
-show_of words (serve_job command) is server first other alerts made = absurd (server is.says.name)
-show_of words (task_job (gtfsrt_task command)) is server first other alerts made = absurd (first is.says.name)
-show_of words (task_job (siri_task command)) is server first other alerts made = absurd (other is.says.name)
-show_of words (task_job (sx_task command)) is server first other alerts made = absurd (alerts is.says.name)
-show_of words (task_job (show_task command)) is server first other alerts made = (command, is.says)
-show_of words (task_job (make_task command)) is server first other alerts made = absurd (made is.says.name)
 
 -- words of `serve` are those of no other command
 pub not_both : (words : List (List ℕ)) (command : Serve) (task : Task) → IsJob words (serve_job command) → IsJob words (task_job task) → ⊥

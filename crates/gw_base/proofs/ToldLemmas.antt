@@ -1,7 +1,7 @@
 -- What a told sink holds after several pieces.
-use Rattle.std.proofs.Common.{◌≡◌, ◌≤◌, ℕ, ◌+◌, List, ◌++◌, Option, Some, None, Result, Ok, Err, OnOk, OnErr, take, drop, length, length-append, sym, refl, ap, ◌∙◌, append_assoc, arith}
+use Rattle.std.proofs.Common.{◌≡◌, ◌≤◌, ℕ, ◌+◌, List, ◌++◌, Option, Some, None, take, drop, length, length-append, sym, refl, ap, ◌∙◌, append_assoc, arith}
 use Rattle.std.proofs.lemmas.List.{take-append-le}
-use Rattle.std.proofs.Math.Seq.{take-add, take-append-add, take-length}
+use Rattle.std.proofs.Math.Seq.{take-add, take-append-add}
 use Rattle.gw_base.specs.Told.{with_bytes, PutsUnless}
 
 -- one piece after another is the two joined
@@ -14,15 +14,6 @@ pub with_bytes-take : (told : Option (List ℕ)) (bytes : List ℕ) (i n : ℕ) 
     with_bytes (with_bytes told (take i bytes)) (take n (drop i bytes)) ≡ with_bytes told (take (i + n) bytes)
 with_bytes-take told bytes i n =
     with_bytes-with_bytes told (take i bytes) (take n (drop i bytes)) ∙ ap (with_bytes told) (sym (take-add i n bytes))
-
--- writing all of a text puts it unless it failed
-pub puts_unless : {E : Type 0} (r : Result (Unit {0}) E) (P : Type 0) (before now : Option (List ℕ)) (text : List ℕ) →
-    OnOk r (now ≡ with_bytes before text)
-    → ((n : ℕ) × (n ≤ length text) × (now ≡ with_bytes before (take n text)))
-    → OnErr r P → PutsUnless P before now text
-puts_unless (Ok x) P before now text all front cause =
-    (length text, omega arith, all ∙ ap (with_bytes before) (sym (take-length text)), λ lt. absurd (omega arith))
-puts_unless (Err e) P before now text all front cause = (front.0, front.1, front.2, λ lt. cause)
 
 -- a text behind one that was written whole
 pub puts_more : (P : Type 0) (before mid now : Option (List ℕ)) (first second : List ℕ) →

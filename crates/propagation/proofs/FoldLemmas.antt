@@ -219,9 +219,6 @@ pub record LateTo (schedule : Schedule) (feed : Feed) (held : List (ℕ × Entit
   pub given_is : given ≡ filter_map (given_late schedule feed) held
   pub aside_is : aside ≡ filter_map (aside_late schedule feed) held
 
-pub late_none : (schedule : Schedule) (feed : Feed) → LateTo schedule feed [] [] []
-late_none schedule feed = record { given_is = refl; aside_is = refl }
-
 pub late_more : (schedule : Schedule) (feed : Feed) (held : List (ℕ × EntitySaid)) (given given' : List DatedReading)
     (aside aside' : List (ℕ × Fault)) (number : ℕ) (early : EntitySaid) (said : Result DatedReading Fault)
     → LateTo schedule feed held given aside → said ≡ late_said schedule feed early

@@ -1,5 +1,5 @@
 -- A situation is written in three parts.
-use Rattle.std.proofs.Common.{◌≡◌, ◌∙◌, ◌++◌, ℕ, ℤ, Bool, List, Some, Result, Ok, Err, codes, ap, refl, sym}
+use Rattle.std.proofs.Common.{◌≡◌, ◌∙◌, ◌++◌, ℕ, ℤ, Bool, List, Some, Result, Err, codes, ap, refl, sym}
 use Rattle.std.proofs.lemmas.List.{append-nil}
 use Rattle.gw_base.specs.declared.messages.Alert.{Alert}
 use Rattle.stop_schedule.specs.Table.{Table}
@@ -36,16 +36,3 @@ pub aside_report : (number : ℕ) (what : Result Situation Fault) (fault : Fault
     → new ≡ with_verdict number (Some what) (with_passed passed old)
 aside_report number what fault passed old between new is first second =
     second ∙ ap (with_verdict number (Some (Err fault))) first ∙ ap (λ w. with_verdict number (Some w) (with_passed passed old)) is
-
--- an alert that is taken adds its situation
-pub taken_text : (later : Bool) (table : Table) (moment : ℤ) (what : Result Situation Fault) (one : Situation) (old between new : List ℕ)
-    → Ok one ≡ what → between ≡ old → new ≡ between ++ added_text later table moment (Some (Ok one))
-    → new ≡ old ++ added_text later table moment (Some what)
-taken_text later table moment what one old between new is first second =
-    second ∙ ap (λ l. l ++ added_text later table moment (Some (Ok one))) first ∙ ap (λ w. old ++ added_text later table moment (Some w)) is
-
-pub taken_report : (number : ℕ) (what : Result Situation Fault) (one : Situation) (passed : ℕ) (old between new : Report)
-    → Ok one ≡ what → between ≡ with_passed passed old → new ≡ with_verdict number (Some (Ok one)) between
-    → new ≡ with_verdict number (Some what) (with_passed passed old)
-taken_report number what one passed old between new is first second =
-    second ∙ ap (with_verdict number (Some (Ok one))) first ∙ ap (λ w. with_verdict number (Some w) (with_passed passed old)) is

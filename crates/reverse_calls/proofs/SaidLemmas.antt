@@ -1,5 +1,5 @@
 -- What the readings of a feed keep, for the delivery that says them.
-use Rattle.std.proofs.Common.{◌≡◌, ℕ, ◌<◌, List, All, length, Result, Ok, Err, IfOk, sym, subst, ℤ}
+use Rattle.std.proofs.Common.{◌≡◌, ℕ, List, All, Result, Ok, Err, IfOk, sym, subst, ℤ}
 use Rattle.gw_base.specs.Moments.{IsMoment}
 use Rattle.stop_schedule.specs.Sound.{IsSound}
 use Rattle.journey_model.specs.Schedules.{FitsSchedule, Schedule}
@@ -13,9 +13,6 @@ use Rattle.siri_calls.proofs.SaidAgain.{says_again}
 -- readings that can be served fit the timetable, and their trips are there
 pub all_fit : (schedule : Schedule) (journeys : List DatedReading) → All (IsServable schedule) journeys → All (λ one. FitsSchedule schedule one.trip.0 one.day one.reading) journeys
 all_fit schedule journeys all = λ k d less. (all k d less).fits_schedule
-
-pub all_there : (schedule : Schedule) (journeys : List DatedReading) → All (IsServable schedule) journeys → All (λ one. one.trip.0 < length schedule.table.trips) journeys
-all_there schedule journeys all = λ k d less. (all k d less).trip_in
 
 -- a text that says them says them again
 pub says_all : {E : Type 0} → (schedule : Schedule) (moment : ℤ) (journeys : List DatedReading) (text : Result (List ℕ) E)

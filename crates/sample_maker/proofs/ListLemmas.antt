@@ -25,12 +25,6 @@ pub three_pieces : (start first second third one two three : List ℕ)
 three_pieces start first second third one two three is_one is_two is_three =
     two_pieces start (first ++ second) third two three (two_pieces start first second one two is_one is_two) is_three
 
--- one piece more
-pub piece_more : (piece : ℕ → List ℕ) (n : ℕ) (start before after : List ℕ)
-    → before ≡ start ++ all_below piece n → after ≡ before ++ piece n → after ≡ start ++ all_below piece (n + 1)
-piece_more piece n start before after so_far added =
-    rw (all_below-next piece n) (two_pieces start (all_below piece n) (piece n) before after so_far added)
-
 -- texts that follow others, after commas
 following_some : (text : List ℕ) (texts : List (List ℕ)) → following true (text ∷ texts) ≡ 44 ∷ listed (text ∷ texts)
 unfolding following

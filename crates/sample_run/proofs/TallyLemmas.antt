@@ -1,10 +1,8 @@
 -- Tallies of stops that stand one after the other, and of stops that all read alike.
-use Rattle.std.proofs.Common.{◌≡◌, ◌∙◌, ◌++◌, ◌+◌, ◌*◌, ◌≤◌, ℕ, List, length, replicate, sym, ap, arith}
-use Rattle.std.proofs.lemmas.List.Folds.{sum_by-replicate}
+use Rattle.std.proofs.Common.{◌≡◌, ◌∙◌, ◌++◌, ◌+◌, ◌*◌, ◌≤◌, ℕ, List, length, sym, ap, arith}
 use Rattle.std.proofs.lemmas.List.Sums.{count_by-le-length, sum_by-append}
 use Rattle.std.specs.Prelude.{cond}
 use Rattle.journey_model.specs.declared.readings.StopReading.{StopReading}
-use Rattle.journey_model.specs.declared.readings.StopReading.TheVariants.{Absent, Skipped}
 use Rattle.sample_maker.proofs.ListLemmas.{all_below-0, all_below-next}
 use Rattle.sample_maker.specs.Pieces.{all_below}
 use Rattle.sample_run.specs.Counts.{is_absent, is_skipped, is_timed}
@@ -23,20 +21,6 @@ once n = omega arith
 
 never : (n : ℕ) → n * 0 ≡ 0
 never n = omega arith
-
-pub tally_skipped : (n : ℕ) → record { skipped = n; absent = 0; timed = 0 } ≡ tally (replicate n Skipped)
-tally_skipped n = λ i. record {
-  skipped = sym (sum_by-replicate (λ one. cond (is_skipped one) 1 0) n Skipped ∙ once n) i;
-  absent = sym (sum_by-replicate (λ one. cond (is_absent one) 1 0) n Skipped ∙ never n) i;
-  timed = sym (sum_by-replicate (λ one. cond (is_timed one) 1 0) n Skipped ∙ never n) i;
-}
-
-pub tally_absent : (n : ℕ) → record { skipped = 0; absent = n; timed = 0 } ≡ tally (replicate n Absent)
-tally_absent n = λ i. record {
-  skipped = sym (sum_by-replicate (λ one. cond (is_skipped one) 1 0) n Absent ∙ never n) i;
-  absent = sym (sum_by-replicate (λ one. cond (is_absent one) 1 0) n Absent ∙ once n) i;
-  timed = sym (sum_by-replicate (λ one. cond (is_timed one) 1 0) n Absent ∙ never n) i;
-}
 
 -- no count is over the number of stops
 pub tally_within : (readings : List StopReading) (most : ℕ) → length readings ≤ most → IsWithin most (tally readings)

@@ -2,9 +2,8 @@
 use Rattle.std.proofs.Common.{◌≡◌, ◌≢◌, ◌+◌, ◌-◌, ◌<◌, ◌≤◌, ◌++◌, ◌∷◌, [], ℕ, suc, List, None, length, get_or, set, take, drop, arith, ◌⊎◌, inl, inr, refl, sym, ◌∙◌, ap, subst, length-take, length-drop, get_or-take, get_or-drop}
 use Rattle.std.specs.List.{slice_get, slice_range, swap, cons_option}
 use Rattle.std.proofs.lemmas.Bool.{cases_eq, cases_lt}
-use Rattle.std.proofs.lemmas.List.{take_more_set, take-set-le, drop-set-lt, drop_more, append-nil, length-set, take-set, length_push, get_or_push, get_or_append_left, append_assoc}
-use Rattle.std.proofs.lemmas.List.Edits.{swapped_from_swap, Swapped, length-swap, swap_is, between_none}
-use Rattle.std.proofs.lemmas.Slice.{between_from_start}
+use Rattle.std.proofs.lemmas.List.{take_more_set, take-set-le, drop-set-lt, drop_more, length-set, take-set, length_push, get_or_push, get_or_append_left, append_assoc}
+use Rattle.std.proofs.lemmas.List.Edits.{swapped_from_swap, Swapped, length-swap, swap_is}
 use Rattle.span_pool.specs.Places.{with_place, standing, Lacks, AreDistinct, AreBelow, IsOrder}
 use Rattle.span_pool.specs.declared.place.Place.{Place}
 use Rattle.span_pool.proofs.PlaceLemmas.{standing-append}
@@ -20,17 +19,6 @@ Lacks-drop order i distinct within k below e =
     let inside : i + 1 + k < length order = omega (arith, length-drop (i + 1) order) in
     let same : i + 1 + k ≡ i = distinct (i + 1 + k) i inside within (sym (get_or-drop (i + 1) order k 0) ∙ e) in
     absurd (omega arith)
-
-pub AreDistinct-take : (order : List ℕ) (n : ℕ) → AreDistinct order → AreDistinct (take n order)
-AreDistinct-take order n distinct i j le ge e =
-    let a : (i < n) × (i < length order) = (omega (arith, length-take n order), omega (arith, length-take n order)) in
-    let b : (j < n) × (j < length order) = (omega (arith, length-take n order), omega (arith, length-take n order)) in
-    distinct i j a.1 b.1 (sym (get_or-take n order i 0 a.0) ∙ e ∙ get_or-take n order j 0 b.0)
-
-pub AreBelow-take : (order : List ℕ) (n rows : ℕ) → AreBelow order rows → AreBelow (take n order) rows
-AreBelow-take order n rows below k within =
-    let a : (k < n) × (k < length order) = (omega (arith, length-take n order), omega (arith, length-take n order)) in
-    subst (λ x. x < rows) (sym (get_or-take n order k 0 a.0)) (below k a.1)
 
 -- a slot more than all there are
 pub Lacks-below : (order : List ℕ) (rows : ℕ) → AreBelow order rows → Lacks order rows
@@ -110,9 +98,6 @@ pub record IsSwept (places : List Place) (rows : ℕ) (first order : List ℕ) (
   pub within : kept ≤ i
   pub same : standing places (take kept order) ++ standing places (slice_range order i used) ≡ standing places (take used first)
 
-pub swept_none : (places : List Place) (rows : ℕ) (first : List ℕ) (used : ℕ) → IsOrder rows first used → IsSwept places rows first first used 0 0
-swept_none places rows first used is = record { is_order = is; within = omega arith; same = ap (standing places) (between_from_start first used) }
-
 rest_more : (order : List ℕ) (used i : ℕ) → used ≤ length order → i < used → slice_range order i used ≡ get_or order i 0 ∷ slice_range order (i + 1) used
 rest_more order used i le lt =
     let e : used - i ≡ suc (used - (i + 1)) = omega arith in
@@ -166,7 +151,3 @@ swept_take places rows first order used kept i lt is = record {
       ∙ ap (λ back. standing places (take kept order) ++ standing places back) (sym (rest_more order used i is.is_order.in_order lt))
       ∙ is.same;
 }
-
-pub swept_all : (places : List Place) (rows : ℕ) (first order : List ℕ) (used kept : ℕ) → IsSwept places rows first order used kept used → standing places (take kept order) ≡ standing places (take used first)
-swept_all places rows first order used kept is =
-    sym (ap (λ rest. standing places (take kept order) ++ standing places rest) (between_none order used) ∙ append-nil (standing places (take kept order))) ∙ is.same

@@ -1,11 +1,10 @@
 -- The live spans while they are moved together, one after the other.
-use Rattle.std.proofs.Common.{◌≡◌, ◌+◌, ◌-◌, ◌<◌, ◌≤◌, ◌++◌, ◌∷◌, [], ℕ, List, Option, None, Some, length, get_or, set, take, drop, arith, refl, sym, ◌∙◌, ap, subst, cond, zero-add, length-drop}
-use Rattle.std.specs.List.{slice_get, slice_range, copy_within, cons_option}
+use Rattle.std.proofs.Common.{◌≡◌, ◌+◌, ◌-◌, ◌<◌, ◌≤◌, ◌++◌, ◌∷◌, [], ℕ, List, Option, None, Some, length, get_or, set, take, drop, arith, refl, sym, ◌∙◌, ap, subst, cond, zero-add}
+use Rattle.std.specs.List.{slice_get, slice_range, cons_option}
 use Rattle.std.proofs.lemmas.Bool.{le-leb}
-use Rattle.std.proofs.lemmas.List.{append-nil, take-take, take_all, take_at, drop_at, drop-drop, drop_all, take_more, drop_more, length-take-le, take-append-drop, length-set}
+use Rattle.std.proofs.lemmas.List.{append-nil, take-take, take_all, drop_all, take_more, drop_more, length-take-le, take-append-drop, length-set}
 use Rattle.std.proofs.lemmas.Option.{slice_get_within, slice_get_read}
-use Rattle.std.proofs.lemmas.Slice.{between_is}
-use Rattle.std.proofs.lemmas.List.Edits.{take-paste, drop-paste, length-paste, length-between}
+use Rattle.std.proofs.lemmas.List.Edits.{length-between}
 use Rattle.span_pool.specs.Spans.{live_bytes}
 use Rattle.span_pool.specs.Places.{with_place, standing, cut, Ascends, AreBelow, AreDistinct, IsMoved}
 use Rattle.span_pool.specs.declared.place.Place.{Place}
@@ -20,9 +19,6 @@ pub record IsPacking (slots bytes_were : List ℕ) (places_were : List Place) (b
   pub to_do : Ascends end (standing places (drop i slots)) (length bytes)
   pub end_is : end ≡ live_bytes (cut bytes (standing places (take i slots)))
   pub rows : length places ≡ length places_were
-
-pub packing_none : (slots bytes : List ℕ) (places : List Place) → Ascends 0 (standing places slots) (length bytes) → IsPacking slots bytes places bytes places 0 0
-packing_none slots bytes places ascends = record { same = refl; done = omega arith; to_do = ascends; end_is = refl; rows = refl }
 
 -- one slot in the middle of others
 record IsMid (slots : List ℕ) (places : List Place) (i : ℕ) (place : Option Place) (slot : ℕ) : Type 0 where
@@ -50,34 +46,6 @@ packing_skip slots bytes_were places_were bytes places i end within nobodys is =
       to_do = subst (λ stand. Ascends end stand (length bytes)) back is.to_do;
       end_is = is.end_is ∙ ap (λ stand. live_bytes (cut bytes stand)) (sym front);
       rows = is.rows;
-    }
-
-pub moved_stays : (bytes : List ℕ) (place : Place) (to : ℕ) → to ≡ place.start → place.start ≤ place.end → IsMoved bytes bytes place to
-moved_stays bytes place to at ordered = record {
-  below = refl;
-  moved = let e : to + (place.end - place.start) ≡ place.end = omega arith in ap (slice_range bytes to) e ∙ ap (λ k. slice_range bytes k place.end) at;
-  above = refl;
-  as_long = refl;
-}
-
-pub moved_by_copy : (bytes : List ℕ) (place : Place) (to : ℕ) → to ≤ place.start → place.start ≤ place.end → place.end ≤ length bytes → IsMoved bytes (copy_within bytes place.start place.end to) place to
-moved_by_copy bytes place to le ordered within =
-    let n : ℕ = place.end - place.start in
-    let source : List ℕ = drop place.start bytes in
-    let now : List ℕ = copy_within bytes place.start place.end to in
-    let room : to + n ≤ length bytes = omega arith in
-    let at : to ≤ length bytes = omega arith in
-    let enough : n ≤ length source = omega (arith, length-drop place.start bytes) in
-    let front : take (to + n) now ≡ take to bytes ++ take n source = take-paste bytes to source n at enough in
-    let front_length : length (take to bytes) ≡ to = length-take-le to bytes at in
-    record {
-      below = sym (take-take to (to + n) now (omega arith)) ∙ ap (take to) front ∙ take_at (take to bytes) (take n source) to front_length;
-      moved = between_is now to (to + n) ∙ ap (drop to) front ∙ drop_at (take to bytes) (take n source) to front_length;
-      above =
-          let e : to + n + (place.end - (to + n)) ≡ place.end = omega arith in
-          let there : (list : List ℕ) → drop place.end list ≡ drop (place.end - (to + n)) (drop (to + n) list) = λ list. sym (drop-drop (place.end - (to + n)) (to + n) list ∙ ap (λ k. drop k list) e) in
-          there now ∙ ap (drop (place.end - (to + n))) (drop-paste bytes to source n at enough) ∙ sym (there bytes);
-      as_long = length-paste bytes to source n room enough;
     }
 
 -- the row of the next slot, as it is read

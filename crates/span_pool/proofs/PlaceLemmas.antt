@@ -29,11 +29,6 @@ slice_get-set_same places slot place within = grind (arith, common_steps, gets)
 slice_get-append : (places more : List Place) (slot : ℕ) → slot < length places → slice_get (places ++ more) slot ≡ slice_get places slot
 slice_get-append places more slot within = grind (arith, common_steps, gets)
 
--- a slot whose row is read
-pub row_live : (places : List Place) (slot : ℕ) (d : Place) → slot < length places → leb (get_or places slot d).start (get_or places slot d).end ≡ true → with_place slot (slice_get places slot) ≡ Some (slot, get_or places slot d)
-row_live places slot d within live =
-    ap (with_place slot) (slice_get-get_or places slot d within) ∙ ap (λ b. cond b (Some (slot, get_or places slot d)) None) live
-
 pub row_nobodys : (places : List Place) (slot : ℕ) (d : Place) → slot < length places → leb (get_or places slot d).start (get_or places slot d).end ≡ false → with_place slot (slice_get places slot) ≡ None
 row_nobodys places slot d within nobodys =
     ap (with_place slot) (slice_get-get_or places slot d within) ∙ ap (λ b. cond b (Some (slot, get_or places slot d)) None) nobodys

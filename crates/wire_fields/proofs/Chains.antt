@@ -1,12 +1,10 @@
 -- Reading a number over any cuts.
 use Rattle.std.proofs.Common.{◌≡◌, ℕ, ◌+◌, ◌-◌, ◌*◌, ◌%◌, ◌^◌, ◌<◌, ◌≤◌, List, [], ◌∷◌, ◌++◌, length, take, get_or, sym, ap, ◌∙◌, arith, append_assoc}
 use Rattle.std.specs.Int.Bits.{bit_or}
-use Rattle.std.proofs.lemmas.List.{length-append, append-nil, take_more}
+use Rattle.std.proofs.lemmas.List.{length-append, take_more}
 use Rattle.std.proofs.lemmas.Nat.{pow-add, pow_pos}
 use Rattle.std.proofs.Math.Nat.{mod-eq_of_lt, pow-suc, mul-le-mul_left}
 use Rattle.wire_fields.specs.Grammar.{IsChain, number_of, IsVarint}
-use Rattle.wire_fields.specs.Breaks.{BeginsLong}
-use Rattle.wire_fields.specs.declared.top.part.Chain.{Chain}
 use Rattle.wire_fields.specs.TopReading.{IsBegun}
 use Rattle.wire_fields.proofs.Numbers.{AreHigh, IsChain-cons}
 use Rattle.wire_fields.proofs.Scans.{or_value}
@@ -52,13 +50,6 @@ number_fits i bytes len le =
     let lt : number_of bytes < 128 ^ i = rw (← len) (number_of-below bytes) in
     mod-eq_of_lt (omega (arith, lt, few_below i le))
 
-pub scanned_none : (chain : Chain) (bytes : List ℕ) → IsBegun chain bytes → IsScanned chain.count chain.value bytes
-scanned_none chain bytes b = record {
-  counted = b.counted;
-  high = b.high;
-  value_is = b.value_is ∙ sym (number_fits chain.count bytes b.counted b.few);
-}
-
 -- the value with seven bits more
 value_more : (i value byte c : ℕ) (bytes : List ℕ) → IsScanned i value bytes → i < 10 → c ≡ byte % 128 → bit_or value (c * 2 ^ (7 * i) % 2 ^ 64) ≡ number_of (bytes ++ byte ∷ []) % 2 ^ 64
 value_more i value byte c bytes s lt c_is =
@@ -88,10 +79,6 @@ scanned_cut i value bytes s le = record {
   high = s.high;
   value_is = s.value_is ∙ number_fits i bytes s.counted le;
 }
-
--- ten bytes, of which none was the last
-pub scanned_long : (value : ℕ) (bytes : List ℕ) → IsScanned 10 value bytes → BeginsLong bytes
-scanned_long value bytes s = (bytes, [], sym (append-nil bytes), s.counted, s.high)
 
 -- one byte more of a piece
 pub taken_one : (begun bytes : List ℕ) (n : ℕ) → n < length bytes → begun ++ take (n + 1) bytes ≡ (begun ++ take n bytes) ++ get_or bytes n 0 ∷ []

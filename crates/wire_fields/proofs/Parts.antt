@@ -4,9 +4,9 @@ use Rattle.std.specs.Prelude.{◌⊎◌}
 use Rattle.std.specs.Int.{w32, w64, from_le_bytes}
 use Rattle.std.proofs.lemmas.List.{length-append, append-nil}
 use Rattle.gw_base.specs.declared.wire_kind.WireKind.TheVariants.{LongVarint, BadTag}
-use Rattle.wire_fields.specs.Grammar.{Varint, Fixed64, Group, Fixed32, IsVarint, IsSoundTag, IsItem}
+use Rattle.wire_fields.specs.Grammar.{Varint, Fixed64, Fixed32, IsVarint, IsSoundTag}
 use Rattle.wire_fields.specs.Breaks.{BeginsLong}
-use Rattle.wire_fields.specs.Reading.{holding, item_at}
+use Rattle.wire_fields.specs.Reading.{item_at}
 use Rattle.wire_fields.specs.TopReading.{IsBegun, IsTag, IsTagged, LacksSome}
 use Rattle.wire_fields.specs.TopSteps.{IsPlain}
 use Rattle.wire_fields.proofs.Items.{item_long, item_unsound}
@@ -33,10 +33,6 @@ tagged_nothing bytes tag type P v lt le type_is few p = (bytes, [], sym (append-
 
 pub nothing_begun : IsBegun (record { count = 0; value = 0 }) []
 nothing_begun = record { counted = refl; few = omega arith; high = tt; value_is = refl }
-
--- the start or the end of a group is its tag
-pub group_starts : (bytes : List ℕ) (number : ℕ) → IsTag number 3 bytes → IsItem (holding number Group) bytes
-group_starts bytes number h = record { tag = bytes; payload = []; joined = sym (append-nil bytes); tagged = h.0; sound = h.1; paid = refl }
 
 -- ---- numbers
 

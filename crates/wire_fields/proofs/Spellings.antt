@@ -28,9 +28,6 @@ items_apart = record {
 
 -- ---- fields
 
-group_of : ℕ → WireField
-group_of number = record { number = number; payload = Group }
-
 by_payload : (room number : ℕ) (payload : Payload) (a : List ℕ) → IsFieldWith (IsGroupWithin room) number payload a
     → ((payload ≢ Group) × IsItem (holding number payload) a) ⊎ ((payload ≡ Group) × IsGroupWithin room number a)
 by_payload room number (Varint value) a h = inl (λ e. absurd cc, h)

@@ -16,7 +16,7 @@ use Rattle.wire_fields.specs.Grammar.{Payload, Bytes, Group, WireField, Item, En
 use Rattle.wire_fields.specs.Breaks.{open_after_field, open_after_end, open_after_item, IsBroken}
 use Rattle.wire_fields.specs.OpenGroups.{IsOpen, IsWalked}
 use Rattle.wire_fields.specs.Reading.{holding, item_at, kind_of_block}
-use Rattle.wire_fields.specs.TopReading.{IsTagged, IsSized, IsPart, Top, Stands, StandsFor, Between, Elsewhere, InField, place_in, place_of, place_left, IsInNoField, EndsWith, EndsWithLength, EndsWithBytes, EndsInField, HasPart, HasOther, Tells}
+use Rattle.wire_fields.specs.TopReading.{IsTagged, IsSized, IsPart, Top, Stands, StandsFor, Between, Elsewhere, InField, place_in, place_of, place_left, IsInNoField, EndsWith, EndsWithLength, EndsWithBytes, HasPart, HasOther, Tells}
 use Rattle.wire_fields.specs.TopSteps.{IsPlain, Turns, with_part, with_taken, after_field, passed, other, opened, closed, sized, turned, Turned}
 use Rattle.wire_fields.proofs.Numbers.{err_is}
 use Rattle.wire_fields.proofs.Items.{item_again}
@@ -468,9 +468,6 @@ abbrev pub Goes : Top → Top → ℕ → List ℕ → Type 0
 Goes old now used bytes =
     StandsFor now bytes × (now.at ≡ old.at) × (((used ≡ 0) × (place_of now ≡ place_of old)) ⊎ (place_of now ≡ Elsewhere))
 
-pub goes_none : (old : Top) (bytes : List ℕ) → StandsFor old bytes → Goes old old 0 (bytes ++ [])
-goes_none old bytes s = rw append-nil (s, refl, inl (refl, refl))
-
 pub goes_in_no_field : (old now : Top) (used : ℕ) (bytes : List ℕ) → IsInNoField old → Goes old now used bytes → IsInNoField now
 goes_in_no_field old now used bytes free g number len left e =
     elim g.2 [
@@ -487,13 +484,6 @@ goes_told old now next (events.Begin number at len) used piece bytes e free t = 
 goes_told old now next events.Part used piece bytes e free t = absurd t
 goes_told old now next events.Other used piece bytes e free t = (free, subst (λ (at : ℕ). HasOther at next bytes) e t)
 goes_told old now next (events.Broken fault) used piece bytes e free t = (t.0 ∙ e, t.1, t.2)
-
-pub goes_all : (old now : Top) (used : ℕ) (piece bytes : List ℕ) → 0 < used → used ≡ length piece → IsInNoField old → Goes old now used bytes → Tells events.More used piece old now bytes
-goes_all old now used piece bytes some all free g =
-    elim g.2 [
-      | inl first ↦ absurd (omega (arith, first.0))
-      | inr later ↦ (all, record { stands = g.0; was = free; elsewhere = later; stays = g.1 })
-    ]
 
 -- ---- the end of the bytes
 
@@ -586,32 +576,6 @@ in_field [] (parts.Size other chain) number len left e = absurd cc
 in_field [] (parts.Eight rest) number len left e = absurd cc
 in_field [] (parts.Four rest) number len left e = absurd cc
 in_field (innermost ∷ groups) part number len left e = absurd cc
-
-ends_in_field : (at number len left : ℕ) (bytes : List ℕ) → Stands at [] (IsPart (parts.Payload number len left)) bytes → EndsInField number len left at bytes
-ends_in_field at number len left bytes s =
-    let h = s.ends in
-    let tail_is : s.tail ≡ h.0 ++ (h.4.0 ++ h.4.1) = h.2 ∙ ap (λ (l : List ℕ). h.0 ++ l) h.4.2 in
-    record {
-      front = s.front;
-      tag = h.0;
-      size = h.4.0;
-      part = h.4.1;
-      fields = s.fields;
-      joined = s.joined ∙ ap (λ (l : List ℕ). s.front ++ (l ++ s.tail)) (none_walked s.run s.walked) ∙ ap (λ (l : List ℕ). s.front ++ l) tail_is;
-      read = s.read;
-      place = s.place;
-      tagged = h.3.0;
-      sound = h.3.1;
-      sized = h.4.3;
-      lacks = h.4.4.0;
-      some = h.4.4.1;
-    }
-
--- a reader in a payload of the top level stands for whole fields, a tag, a length, and the payload so far
-pub stands_in_field : (top : Top) (number len left : ℕ) (bytes : List ℕ) → StandsFor top bytes → place_of top ≡ InField number len left → EndsInField number len left top.at bytes
-stands_in_field top number len left bytes s e =
-    let is = in_field top.groups top.part number len left e in
-    ends_in_field top.at number len left bytes (rw (is.0, is.1) at s.1)
 
 -- between two fields all bytes are whole fields
 between : (groups : List ℕ) (part : Part) → place_in groups part ≡ Between → (groups ≡ []) × (part ≡ parts.Nothing)

@@ -109,9 +109,6 @@ pub length-varint_1 : (number : ℕ) → number < 128 → length (varint number)
 unfolding varint
 length-varint_1 number below = rw (last_byte 9 number below) refl
 
-pub length-varint_5 : (number : ℕ) → number < 2 ^ 35 → length (varint number) ≤ 5
-length-varint_5 number below = length-varint_below 4 number (omega arith) below
-
 pub length-varint_6 : (number : ℕ) → number < 2 ^ 42 → length (varint number) ≤ 6
 length-varint_6 number below = length-varint_below 5 number (omega arith) below
 
