@@ -22,10 +22,10 @@ use Rattle.gateway_core.proofs.StandingLemmas.{stands_feed}
 -- ---- what is read of a body
 
 pub bytes_refused : (schedule : Schedule) (body : List ℕ) (one : faults.FeedFault) → IsTold body one → IsRefusedFeed schedule body (of_bytes one)
-bytes_refused schedule body (fault.EntityTooLong at) h = h.0
-bytes_refused schedule body (fault.Wire told) h = h.0
-bytes_refused schedule body (fault.NotText at) h = h.0
-bytes_refused schedule body (fault.MissingField at name) h = h.0
+bytes_refused schedule body (fault.EntityTooLong at) h = h
+bytes_refused schedule body (fault.Wire told) h = h
+bytes_refused schedule body (fault.NotText at) h = h
+bytes_refused schedule body (fault.MissingField at name) h = h
 bytes_refused schedule body fault.Memory h = tt
 
 -- what is answered to the end of a feed without a fault, of its bytes

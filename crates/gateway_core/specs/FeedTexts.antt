@@ -2,7 +2,7 @@
 use Rattle.std.specs.Prelude.{◌≡◌, ℕ, ℤ, false, true, List, Result, Ok, Err, ⊤}
 use Rattle.gw_base.specs.declared.messages.Feed.{Feed}
 use Rattle.feed_reading.specs.Tables.{MeansFeed}
-use Rattle.feed_reading.specs.Faults.{HasFault}
+use Rattle.feed_reading.specs.Faults.{HasFault, IsFeedFault}
 use Rattle.feed_reading.specs.declared.fault.FeedFault as faults
 use Rattle.feed_reading.specs.declared.fault.FeedFault.TheVariants as fault
 use Rattle.journey_model.specs.Schedules.{Schedule}
@@ -31,9 +31,9 @@ pub record SaysFeed (schedule : Schedule) (moment : ℤ) (body : List ℕ) (text
   pub full : is_differential given ≡ false
   pub siri : IsSiri schedule given moment text report
 
--- why bytes are refused; want of memory is free
+-- why bytes are refused: for the first of their faults, else for what the feed says; want of memory is free
 abbrev pub IsRefusedFeed : Schedule → List ℕ → FeedRefusal → Type 0
-IsRefusedFeed schedule body (refusal.Feed one) = HasFault body one
+IsRefusedFeed schedule body (refusal.Feed one) = IsFeedFault body one
 IsRefusedFeed schedule body refusal.Differential = (given : Feed) × IsFeed body given × (is_differential given ≡ true)
 IsRefusedFeed schedule body (refusal.TooManyCalls calls) =
     (given : Feed) × IsFeed body given × (is_differential given ≡ false) × HasTooMany schedule given calls

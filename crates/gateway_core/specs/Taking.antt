@@ -5,7 +5,7 @@ use Rattle.std.specs.List.{count_by}
 use Rattle.std.specs.Result.{result_err}
 use Rattle.gw_base.specs.declared.messages.Feed.{Feed}
 use Rattle.feed_reading.specs.Tables.{MeansFeed}
-use Rattle.feed_reading.specs.Faults.{HasFault}
+use Rattle.feed_reading.specs.Faults.{HasFault, IsFeedFault}
 use Rattle.journey_model.specs.FaultTexts.{fault_text}
 use Rattle.journey_model.specs.Records.{Recorded}
 use Rattle.journey_model.specs.declared.fault.Fault.{Fault}
@@ -151,13 +151,13 @@ SituationsAnswer kept arrivals moment body (Err (NotDelivery member)) now =
     (schedule_at kept.setting (moment ∷ moments_of arrivals)) root ≡ Err member)
 SituationsAnswer kept arrivals moment body (Err Memory) now = ⊤
 
--- what it answers to a feed: first the fault of its bytes, then that it is differential, then that it has too many
+-- what it answers to a feed: the first fault of its bytes, then that it is differential, then that it has too many
 -- calls
 abbrev pub FeedAnswer : Kept → List Arrival → ℤ → List ℕ → Result Accepted FeedRefusal → Kept → Type 0
 FeedAnswer kept arrivals moment body (Ok accepted) now =
     (given : Feed) × TakesFeed kept.setting arrivals moment body accepted.report given
     × Follows kept arrivals moment (feed given) now
-FeedAnswer kept arrivals moment body (Err (FeedRefusal.Feed fault)) now = HasFault body fault
+FeedAnswer kept arrivals moment body (Err (FeedRefusal.Feed fault)) now = IsFeedFault body fault
 FeedAnswer kept arrivals moment body (Err Differential) now =
     (given : Feed) × MeansFeed body given × ((fault : FeedFault) → ¬ HasFault body fault)
     × (is_differential given ≡ true)

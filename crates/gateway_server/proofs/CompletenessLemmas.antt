@@ -203,10 +203,10 @@ module _ (setting : Setting) (arrivals : List Arrival) (moment : ℤ) where
     feed_not_refused : (schedule : Schedule) (body : List ℕ) (one : Feed) → IsSoundFeed schedule body one → (fault : BodyFault) → RefusesFeed schedule body fault → ⊥
     feed_not_refused schedule body one sound NotJson why = why
     feed_not_refused schedule body one sound (NotDelivery member) why = why
-    feed_not_refused schedule body one sound (Wire at kind) why = sound.is_feed.1 (feed_fault.Wire (record { at = at; kind = kind })) why
-    feed_not_refused schedule body one sound (MissingField at field) why = sound.is_feed.1 (feed_fault.MissingField at field) why
-    feed_not_refused schedule body one sound (NotText at) why = sound.is_feed.1 (feed_fault.NotText at) why
-    feed_not_refused schedule body one sound (EntityTooLong at) why = sound.is_feed.1 (feed_fault.EntityTooLong at) why
+    feed_not_refused schedule body one sound (Wire at kind) why = sound.is_feed.1 (feed_fault.Wire (record { at = at; kind = kind })) why.0
+    feed_not_refused schedule body one sound (MissingField at field) why = sound.is_feed.1 (feed_fault.MissingField at field) why.0
+    feed_not_refused schedule body one sound (NotText at) why = sound.is_feed.1 (feed_fault.NotText at) why.0
+    feed_not_refused schedule body one sound (EntityTooLong at) why = sound.is_feed.1 (feed_fault.EntityTooLong at) why.0
     feed_not_refused schedule body one sound Differential why =
         true≢false (sym why.2 ∙ ap is_differential (one_feed body why.0 one why.1.0 sound.is_feed.0) ∙ sound.full)
     feed_not_refused schedule body one sound (TooManyCalls calls) why =

@@ -2,7 +2,7 @@
 use Rattle.std.specs.Prelude.{◌≡◌, ℕ, ℤ, false, true, List, Some, None, Err}
 use Rattle.gw_base.specs.declared.member.Member.{Member}
 use Rattle.gw_base.specs.declared.messages.Feed.{Feed}
-use Rattle.feed_reading.specs.Faults.{HasFault}
+use Rattle.feed_reading.specs.Faults.{HasFault, IsFeedFault}
 use Rattle.feed_reading.specs.Tables.{MeansFeed}
 use Rattle.feed_reading.specs.declared.fault.FeedFault.{FeedFault}
 use Rattle.feed_reading.specs.declared.fault.FeedFault.TheVariants as feed_fault
@@ -45,14 +45,14 @@ RefusesDelivery Breaks body (TooManyCalls calls) = ⊥
 abbrev pub IsFeed : List ℕ → Feed → Type 0
 IsFeed body one = MeansFeed body one × ((fault : FeedFault) → ¬ HasFault body fault)
 
--- why a feed is refused: first for the fault of its bytes, then as it is no full dataset, then for its calls
+-- why a feed is refused: for the first fault of its bytes, then as it is no full dataset, then for its calls
 abbrev pub RefusesFeed : Schedule → List ℕ → BodyFault → Type 0
 RefusesFeed schedule body NotJson = ⊥
 RefusesFeed schedule body (NotDelivery member) = ⊥
-RefusesFeed schedule body (Wire at kind) = HasFault body (feed_fault.Wire (record { at = at; kind = kind }))
-RefusesFeed schedule body (MissingField at field) = HasFault body (feed_fault.MissingField at field)
-RefusesFeed schedule body (NotText at) = HasFault body (feed_fault.NotText at)
-RefusesFeed schedule body (EntityTooLong at) = HasFault body (feed_fault.EntityTooLong at)
+RefusesFeed schedule body (Wire at kind) = IsFeedFault body (feed_fault.Wire (record { at = at; kind = kind }))
+RefusesFeed schedule body (MissingField at field) = IsFeedFault body (feed_fault.MissingField at field)
+RefusesFeed schedule body (NotText at) = IsFeedFault body (feed_fault.NotText at)
+RefusesFeed schedule body (EntityTooLong at) = IsFeedFault body (feed_fault.EntityTooLong at)
 RefusesFeed schedule body Differential = (one : Feed) × IsFeed body one × (is_differential one ≡ true)
 RefusesFeed schedule body (TooManyCalls calls) =
     (one : Feed) × IsFeed body one × (is_differential one ≡ false) × HasTooMany schedule one calls
