@@ -3,8 +3,15 @@ use super::doors::{MAY_1, MAY_3, ROLL, Row, SERVE, assert_served};
 use gw_base::Mark;
 use http_talk::{Allow, Answer, BodyFault, Refusal};
 
-// The SIRI delivery of a feed of 2024-05-01T06:00:00Z by which T1 is a minute late at each stop.
-const LATE_TEXT: &[u8] =
+/// The SIRI delivery before any feed.
+pub const EMPTY_TEXT: &[u8] =
+    b"{\"Siri\":{\"ServiceDelivery\":{\"EstimatedTimetableDelivery\":[{\"EstimatedJourneyVersionFrame\":[{\
+      \"EstimatedVehicleJourney\":[],\"RecordedAtTime\":\"1970-01-01T00:00:00Z\"}],\
+      \"ResponseTimestamp\":\"1970-01-01T00:00:00Z\",\"version\":\"2.0\"}],\
+      \"ResponseTimestamp\":\"1970-01-01T00:00:00Z\"}}}";
+
+/// The SIRI delivery of a feed of 2024-05-01T06:00:00Z by which T1 is a minute late at each stop.
+pub const LATE_TEXT: &[u8] =
     b"{\"Siri\":{\"ServiceDelivery\":{\"EstimatedTimetableDelivery\":[{\"EstimatedJourneyVersionFrame\":[{\
       \"EstimatedVehicleJourney\":[{\"Cancellation\":false,\
       \"EstimatedCalls\":{\"EstimatedCall\":[{\"AimedArrivalTime\":\"2024-05-01T06:00:00Z\",\
@@ -34,10 +41,7 @@ static CONNECTIONS: [Row; 13] = [
         MAY_1,
         Mark::Shown,
         Answer::Json,
-        b"{\"Siri\":{\"ServiceDelivery\":{\"EstimatedTimetableDelivery\":[{\"EstimatedJourneyVersionFrame\":[{\
-          \"EstimatedVehicleJourney\":[],\"RecordedAtTime\":\"1970-01-01T00:00:00Z\"}],\
-          \"ResponseTimestamp\":\"1970-01-01T00:00:00Z\",\"version\":\"2.0\"}],\
-          \"ResponseTimestamp\":\"1970-01-01T00:00:00Z\"}}}",
+        EMPTY_TEXT,
     ),
     (
         b"POST /siri/et HTTP/1.1\r\nContent-Length: 563\r\n\r\n\
