@@ -2,7 +2,7 @@
 """Prints the feeds that the tests of `show` read, as Rust byte strings, and the lines of a trip of twenty stops.
 
 It writes protobuf from the schema by itself (gtfs-realtime.proto: FeedMessage, FeedEntity, TripUpdate, TripDescriptor,
-StopTimeUpdate, StopTimeEvent) and shares nothing with the crates. crates/show_command/src/tests/vectors.rt holds what it
+StopTimeUpdate, StopTimeEvent) and shares nothing with the crates. crates/feed_tests/src/of_show_command/vectors.rt holds what it
 prints.
 
 usage: bench/show_feeds.py

@@ -8,7 +8,7 @@
 #   --every SECONDS      the wait between two rounds (30)
 #   --most SECONDS       the longest wait (300): it doubles with each round that doesn't come to a body that is taken
 #   --within SECONDS     how long one GET or one POST may take (60)
-#   --rounds N           ends behind so many rounds, with the status of the last one; else it goes on until it is ended
+#   --rounds N           ends after so many rounds, with the status of the last one; else it goes on until it is ended
 #   --from-headers FILE  header lines for the GET, such as the key of an API
 #   --to-headers FILE    header lines for the POST, such as the secret of a proxy
 #   --through COMMAND    a command of bash that turns what came, on its standard input, into what is posted

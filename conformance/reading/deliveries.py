@@ -265,7 +265,7 @@ def place_calls(calls, stops):
 
 
 def match_call(call, stops, before):
-    """The stop of its order where that has its id, else the first with the id, behind the one before."""
+    """The stop of its order where that has its id, else the first with the id, after the one before."""
     if call.order is not None and 1 <= call.order <= len(stops):
         place = call.order - 1
         if place > before and stops[place].id == call.stop:

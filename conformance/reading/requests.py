@@ -2,7 +2,7 @@
 
 The grammar of a head is that of `httparse` with its default settings: a token, a target of visible characters or of
 others than ASCII's in UTF-8, `HTTP/1.0` or `HTTP/1.1`, one space between them; lines end in CR LF or LF; a name is a
-token with the colon right behind it, and a value has no control byte but the tab.
+token with the colon right after it, and a value has no control byte but the tab.
 """
 
 import re
@@ -37,7 +37,7 @@ class Request:
 
 
 def read_request(data):
-    """What the whole input of a connection asks for; what comes behind a request is no part of it."""
+    """What the whole input of a connection asks for; what comes after a request is no part of it."""
     blank = EMPTY_LINES.match(data).end()
     end = END_OF_HEAD.search(data, blank, MOST_HEAD_BYTES)
     if end is None:

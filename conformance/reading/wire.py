@@ -92,7 +92,7 @@ def skip_group(data, at, end):
 
 
 def read_fields(data, start, end):
-    """The longest list of fields that the bytes begin with, and the break behind it: (place, kind) or None."""
+    """The longest list of fields that the bytes begin with, and the break after it: (place, kind) or None."""
     fields, at = [], start
     while at < end:
         try:

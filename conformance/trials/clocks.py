@@ -119,7 +119,7 @@ def random_rows(dice, start, types):
 
 
 def random_file(dice):
-    """A file of a table round days of 2024, mostly with a rule behind it that agrees with the last row."""
+    """A file of a table round days of 2024, mostly with a rule after it that agrees with the last row."""
     offsets = dice.choice(([3600, 7200], [0, 3600], [-18000, -14400], [37800, 39600], [3600, 0], [0, 0],
         [90000, -90000]))
     has_dst = dice.one_in(3)

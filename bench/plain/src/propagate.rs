@@ -106,7 +106,7 @@ fn propagate(
     Ok(readings)
 }
 
-/// The place of an update's stop, which is at `from` or behind it.
+/// The place of an update's stop, which is at `from` or after it.
 fn place_of(
     number: usize,
     update: &StopUpdate,

@@ -422,7 +422,7 @@ impl Block<'_> {
 }
 
 impl Zone {
-    /// Of a file of a later version the second block counts, and the rule behind it.
+    /// Of a file of a later version the second block counts, and the rule after it.
     pub fn from_file(data: &[u8]) -> Result<Zone, Refused> {
         let mut reader = FileReader(data);
         let block = reader.block(4)?;

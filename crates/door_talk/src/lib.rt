@@ -1,5 +1,5 @@
-//! Requests read off a door, and answers written to it: what the whole input of a connection asks for, in whatever
-//! pieces it comes (RFC 9112). The definitions are those of `specs/Requests.antt`.
+//! Requests read off a door: what the whole input of a connection asks for, in whatever pieces it comes (RFC 9112).
+//! The definitions are those of `specs/Requests.antt`.
 #![tactic(auto)]
 
 mod asked;

@@ -1,3 +1,4 @@
+//! What updates and feeds say over a small folder.
 mod feeds;
 mod folder;
 mod updates;

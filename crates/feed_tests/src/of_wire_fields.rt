@@ -1,3 +1,4 @@
+//! Fields that are written and read, and where bytes break.
 mod top;
 
 use gw_base::{Buf, WireKind};

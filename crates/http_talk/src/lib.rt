@@ -1,4 +1,4 @@
-//! Request heads and answers of HTTP/1.1 (RFC 9112): what a connection's bytes ask for, which is `request` of
+//! Request heads and answers of HTTP/1.1 (RFC 9112): what a connection's bytes ask for, which is `IsRequest` of
 //! `specs/Request.antt`, and the bytes of an answer, which are those of `specs/Answers.antt`.
 #![tactic(auto)]
 

@@ -1,3 +1,4 @@
+//! Calls and updates matched to stops, and the texts of faults.
 use gw_base::Member;
 use journey_model::{
     DatedTrip, Fault, MatchFault, NamedStop, fault_text, match_call, match_update,

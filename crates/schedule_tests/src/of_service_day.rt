@@ -1,3 +1,4 @@
+//! Days and their texts.
 mod moments;
 mod zones;
 

@@ -1,3 +1,4 @@
+//! Folders that are read, and their first faults.
 mod failures;
 mod files;
 mod folder;

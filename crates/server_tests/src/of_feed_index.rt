@@ -1,4 +1,4 @@
-//! The puts of the worked row, and each call once.
+//! Puts whose dead bytes are given back, and each call once.
 ghost use Rattle.std.specs.Prelude.{◌==◌, ◌%◌};
 
 use feed_index::{Batch, Choice, FeedIndex};

@@ -1,4 +1,4 @@
-//! The worked row.
+//! A span that moves when one before it was given back.
 use span_pool::*;
 use std::test::Fail;
 

@@ -129,7 +129,7 @@ fn texts_and_lengths_are_told(rt: HostRuntime) {
             b"\x0a\x05\x0a\x032.0\x12\x0c\x0a\x01a\x1a\x07\x0a\x00\x0a\x03\x1a\x01\xff",
             FeedFault::NotText(18),
         ),
-        // before a break, and behind one
+        // before a break, and after one
         (b"\x0a\x05\x0a\x032.\xff\x0c", FeedFault::NotText(2)),
         (b"\x0c\x0a\x05\x0a\x032.\xff", wire(0, WireKind::BadGroup)),
         // an entity that is too long, at the place of a break

@@ -234,6 +234,6 @@ fn try_zones(
 }
 
 #[test]
-fn the_zone_comes_behind_the_folder_and_before_the_delivery(rt: HostRuntime) {
+fn the_zone_comes_after_the_folder_and_before_the_delivery(rt: HostRuntime) {
     try_zones(&rt, rt.alloc(), &ZONES);
 }

@@ -1,4 +1,4 @@
-//! The delivery's file: frames that are read, and bodies that are refused. The crate `siri_calls` tests the form of
+//! The delivery's file: frames that are read, and bodies that are refused. The crate `siri_tests` tests the form of
 //! each member.
 use super::runs::{CANCELLED, NO_ENTITY, ONE_ENTITY, ONE_TAKEN, assert_delivery, assert_other};
 use std::alloc::{AllocError, Global};

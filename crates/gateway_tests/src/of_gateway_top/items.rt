@@ -1,4 +1,4 @@
-//! The items of a delivery: which are taken, and why others are set aside. The crate `siri_calls` tests the forms of
+//! The items of a delivery: which are taken, and why others are set aside. The crate `siri_tests` tests the forms of
 //! each member.
 use super::entities::{T1_FIRST, T1_NEWEST, T1_OLDEST, T1_SECOND, assert_feed};
 use super::runs::{NO_ENTITY, ONE_TAKEN, assert_delivery, delivery_of};

@@ -4,7 +4,7 @@ use gw_base::{Bytes, List, MemoryClock, MemoryDoor, MemoryFiles, MemorySink, Mom
 use std::alloc::{AllocError, Global};
 use std::process::Abort;
 
-/// Words that are accepted, each behind one space: the folder `g`, the delivery `f`, and a window of the
+/// Words that are accepted, each after one space: the folder `g`, the delivery `f`, and a window of the
 /// first two days of May 2024.
 pub const WORDS: &str =
     "to-gtfsrt --gtfs g --zone-rule CET-1CEST,M3.5.0,M10.5.0/3 --from 2024-05-01 --days 2 --at 2024-05-01T06:00:00Z \

@@ -1,3 +1,4 @@
+//! Moment texts.
 use service_day::*;
 use std::test::Fail;
 

@@ -1,3 +1,4 @@
+//! Zones, and the starts of days in them.
 use service_day::*;
 use std::test::Fail;
 
