@@ -94,6 +94,7 @@ def main():
         "header_in_pieces": HEADER + repeated(bytes_field(1, number_field(3, 5))),
         "updates_in_pieces": HEADER + repeated(pieces),
         "updates_in_pieces_cut": HEADER + repeated(pieces) + b"\x0c",
+        "unread_field": bytes_field(100, bytes(10_000_000)) + HEADER + journey(0, random.Random(1)),
         "groups": HEADER + repeated(b"\x0b" * 64 + b"\x0c" * 64),
         "groups_open": HEADER + repeated(b"\x0b" * 64 + b"\x0c" * 64) + b"\x0b",
     }

@@ -126,14 +126,23 @@ pub fn is_told_of_two(rt: &impl Abort, alloc: Global, bytes: &[u8], fault: FeedF
     }
 }
 
+/// A header in two parts: the version, and then the rest.
+const VERSION: &[u8] = b"\n\x05\n\x032.0";
+
+const OTHERS: &[u8] = b"\n\x08\x10\x00\x18\xe0\xb4\xc7\xb1\x06";
+
 #[test]
 fn a_feed_in_pieces_is_read(rt: HostRuntime) -> Result<(), Fail> {
     let (header, split) = SPLIT.split_at(15);
     for entity in [LATE.as_slice(), split] {
-        let mut bytes = List::new(rt.alloc());
-        bytes.extend(entity)?;
-        bytes.extend(header)?;
-        is_read(&rt, rt.alloc(), bytes.as_slice());
+        // the header comes last, or a part of it before the entity
+        for (first, last) in [(b"".as_slice(), header), (VERSION, OTHERS), (OTHERS, VERSION)] {
+            let mut bytes = List::new(rt.alloc());
+            bytes.extend(first)?;
+            bytes.extend(entity)?;
+            bytes.extend(last)?;
+            is_read(&rt, rt.alloc(), bytes.as_slice());
+        }
     }
     Ok(())
 }
