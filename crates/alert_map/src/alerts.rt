@@ -1,6 +1,5 @@
 //! The alert of a situation (GTFS Realtime reference, Alert).
 ghost use Rattle.std.specs.Prelude.{◌≡◌, IfOk, map};
-ghost use Rattle.std.specs.Option.{option_map};
 ghost use Rattle.stop_schedule.specs.Seen.{seen};
 ghost use Rattle.journey_model.specs.Situations.{AreKnown};
 ghost use Rattle.alert_map.specs.Alerts as spec;

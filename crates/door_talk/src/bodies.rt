@@ -22,7 +22,7 @@ pub enum BodyRead {
     NoRoom,
 }
 
-// Hands on the next bytes of a body, if there are some.
+/// Hands on the next bytes of a body, if there are some. Err for want of memory.
 pub fn hand_on<G, B: TakesBody<G>>(over: &G, taker: &mut B, bytes: &[u8]) -> Result<(), AllocError>
     requires room { B.taken taker.old + length bytes.now ≤ body_limit }
     ensures takes { (moment : ℤ) (target : Target) (front : List ℕ) → B.stands over.now taker.old moment target front

@@ -1,5 +1,5 @@
 //! The head of a request, read off a door piece by piece.
-ghost use Rattle.std.specs.Prelude.{◌≡◌, ◌≤◌, ◌<◌, true, [], ℕ, List, length, take, IfOk, IsErr};
+ghost use Rattle.std.specs.Prelude.{◌≡◌, ◌≤◌, ◌<◌, true, [], ℕ, List, length, IfOk, IsErr};
 ghost use Rattle.gw_base.specs.Count.{Counts};
 ghost use Rattle.door_talk.specs.Requests.{HasRead, ReadsHead};
 
@@ -10,7 +10,7 @@ use http_talk::{Fed, Head, HeadReader, Refusal};
 /// How the reading of a head ended.
 #[derive(Clone, Copy, Debug)]
 pub enum HeadRead {
-    /// The head ended, and the part of the last piece from there to there stands after it.
+    /// The head ended, and the bytes from `from` to `to` of the last piece stand after it.
     Ended { head: Head, from: usize, to: usize },
     /// The request is refused by what came of it.
     Refused(Refusal),

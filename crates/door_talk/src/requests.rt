@@ -17,7 +17,7 @@ use std::alloc::Global;
 /// The most bytes that are read at once.
 const PIECE: usize = 16_384;
 
-/// Reads the body of a POST, of which the part of the last piece from there to there came already.
+/// Reads the body of a POST, of which the bytes from `from` to `to` of the last piece came already.
 fn read_post<D: Door, G, B: TakesBody<G>>(
     alloc: Global,
     head: Head,

@@ -57,7 +57,7 @@ has its own. Statuses: 0 done, 2 bad words, 65 bad input, 66 a missing file,
 71 no memory, 74 a failed device.
 ";
 
-// The most bytes of a word, which Linux takes no longer.
+// The most bytes of a word: Linux takes no longer one.
 const MOST_BYTES: usize = 131_072;
 
 // The text of a word's bytes. Bytes that aren't UTF-8 stand as the empty text: no command accepts it in
@@ -66,7 +66,8 @@ fn text_of(alloc: Global, bytes: &[u8]) -> Result<Text, AllocError> {
     Text::copied(alloc, str::from_utf8(bytes).unwrap_or(""))
 }
 
-/// The words of the command line after the program's name.
+/// The words of the command line after the program's name; one that is too long or isn't UTF-8 is the empty text. Err
+/// for want of memory.
 pub fn words_of<E: Env>(env: &E, alloc: Global) -> Result<Vec<Text>, AllocError> {
     let mut buf = Vec::new(alloc);
     buf.resize(MOST_BYTES, 0)?;

@@ -66,7 +66,7 @@ module _ {A Q : Type 0} (is_its : Q → A → Bool) (key_of : A → Q) (comes_be
     (own : (a : A) → is_its (key_of a) a ≡ true)
     (other : (q : Q) (a b : A) → comes_before a b ≡ true → is_its q a ≡ true → is_its q b ≡ false)
     (turned : (a b : A) → comes_before a b ≡ true → comes_before b a ≡ true → ⊥) where
-  -- what is found behind one comes behind it, and is of another key
+  -- what is found after one comes after it, and is of another key
   found_behind : (test : A → Bool) (a x : A) (ys : List A) → list_all (comes_before a) ys ≡ true → find test ys ≡ Some x → comes_before a x ≡ true
   found_behind test a x [] h e = absurd (none-some x e)
   found_behind test a x (y ∷ ys) h e =

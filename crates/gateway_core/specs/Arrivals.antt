@@ -25,6 +25,7 @@ pub record Arrival : Type 0 where
   pub moment : ℤ
   pub gives : Given
 
+-- the records that a body gives, and its situations
 abbrev pub records_of : Given → List Recorded
 records_of (journeys records) = records
 records_of (situations all) = []
@@ -57,6 +58,7 @@ abbrev pub first_day : Setting → List ℤ → ℤ
 first_day setting [] = setting.window.first
 first_day setting (moment ∷ earlier) = first_after setting setting.keep moment (first_day setting earlier)
 
+-- the moments of arrivals, the newest first
 abbrev pub moments_of : List Arrival → List ℤ
 moments_of arrivals = map (λ one. one.moment) arrivals
 
@@ -100,6 +102,7 @@ module _ {A : Type 0} (is_same : A → A → Bool) where
   admit counts limit before (one ∷ others) =
       admit counts limit (if has_room counts limit before one then before ++ one ∷ [] else before) others
 
+-- two records are of one journey, and two situations of one number
 abbrev pub is_same_journey : Recorded → Recorded → Bool
 is_same_journey a b = is_of a.trip a.day b
 
@@ -110,6 +113,7 @@ is_same_number a b = has_number a.number b
 abbrev pub is_within : DayStarts → Recorded → Bool
 is_within window one = is_some (start_in window one.day)
 
+-- every situation counts towards the limit
 abbrev pub always : Situation → Bool
 always one = true
 
@@ -121,6 +125,7 @@ journey_has_room window before one = has_room is_same_journey (is_within window)
 abbrev pub situation_has_room : List Situation → Situation → Bool
 situation_has_room before one = has_room is_same_number always most_numbers before one
 
+-- what was admitted, the oldest first: of each arrival the records, and the situations, that had room when they came
 abbrev pub admitted : Setting → List Arrival → List Recorded
 admitted setting [] = []
 admitted setting (one ∷ earlier) =

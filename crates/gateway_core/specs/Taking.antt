@@ -17,12 +17,11 @@ use Rattle.siri_calls.specs.Verdicts as journey_items
 use Rattle.siri_json.specs.Deliveries.{passed_count, tree_of, without_count}
 use Rattle.siri_situations.specs.Situations as situation_verdicts
 use Rattle.stop_schedule.specs.Seen.{seen}
-use Rattle.reverse_calls.specs.Siri.{HasTooMany, IsSiri}
+use Rattle.reverse_calls.specs.Siri.{HasTooMany, IsSiri, is_differential}
 use Rattle.gateway_core.specs.Alerts.{alert_len, alert_limit}
 use Rattle.stop_schedule.specs.Table.{Table}
 use Rattle.service_day.specs.Windows.{DayStarts}
 use Rattle.feed_reading.specs.declared.fault.FeedFault.{FeedFault}
-use Rattle.reverse_calls.specs.Siri.{is_differential}
 use Rattle.gateway_core.specs.Arrivals.{Arrival, Given, admitted, admitted_situations, always, feed, has_room, is_same_journey, is_same_number, is_within, journeys, moments_of, most_journeys, most_numbers, schedule_at, situations, window_at}
 use Rattle.gateway_core.specs.Deliveries.{taken}
 use Rattle.gateway_core.specs.declared.accepted.Accepted.{Accepted}

@@ -1,4 +1,5 @@
-//! The gateway: what is kept of all that was taken. Contracts see `specs/Standing.antt`.
+//! The gateway: what is kept of all that was taken. Contracts see it as `Kept` of
+//! `specs/Standing.antt`.
 ghost use Rattle.std.specs.Prelude.{◌≡◌, [], List as Values, IfOk};
 ghost use Rattle.gateway_core.specs.Arrivals.{Arrival, moments_of, schedule_at};
 ghost use Rattle.gateway_core.specs.Settings.{IsWindowIn};
@@ -52,7 +53,8 @@ impl Model for Gateway {
 }
 
 impl Gateway {
-    /// A gateway that took nothing yet: its SIRI text is that of a feed without journeys at the moment 0.
+    /// A gateway that took nothing yet: its SIRI text is that of a feed without journeys at the moment 0. Err
+    /// for want of memory.
     pub fn start(alloc: Global, setting: Setting) -> Result<Gateway, AllocError>
         ensures setting { IfOk result (λ gate. gate.setting ≡ setting) }
         ensures stands { IfOk result (λ gate. Stands gate []) }

@@ -1,7 +1,6 @@
 //! The report on a delivery or a feed: a line for each item that was set aside, and a line with the counts. The
 //! definitions are those of `specs/Reports.antt`.
-ghost use Rattle.std.specs.Prelude.{◌≡◌, ◌++◌, ◌+◌, OnOk, IfOk, is_none, map, length};
-ghost use Rattle.std.specs.List.{count_by, flat_map};
+ghost use Rattle.std.specs.Prelude.{◌≡◌, ◌++◌, OnOk, IfOk};
 ghost use Rattle.gateway_core.specs.Reports as spec;
 
 use gw_base::Bytes;
@@ -45,7 +44,7 @@ fn add_counts(
 }
 
 /// The report on the items of a file: the lines `FILE aside I FAULT` of those that are set aside, and the line
-/// `FILE taken T passed P aside N`.
+/// `FILE taken T passed P aside N`. Err for want of memory.
 pub fn feed_report(alloc: Global, file: &str, report: &Report) -> Result<Bytes, AllocError>
     ensures { IfOk result (λ lines. lines ≡ spec.feed_report file.now report.now) }
 {

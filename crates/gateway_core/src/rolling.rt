@@ -1,6 +1,6 @@
 //! What becomes of the window by a moment, and which entries it leaves behind. The definitions are those of
 //! `specs/Arrivals.antt`.
-ghost use Rattle.std.specs.Prelude.{◌≡◌, ◌≤◌, ◌<◌, ◌+ℤ◌, ◌-ℤ◌, ◌≤ℤ◌, ◌∷◌, ℤ, true, false, pos, int_lt, length, take, drop, filter, map, slice_index_or, List};
+ghost use Rattle.std.specs.Prelude.{◌≡◌, ◌≤◌, ◌<◌, ◌+ℤ◌, ◌-ℤ◌, ◌≤ℤ◌, ◌∷◌, ℤ, true, false, pos, int_lt, length, take, drop, filter, slice_index_or, List};
 ghost use Rattle.std.specs.List.{AllByRecursion};
 ghost use Rattle.feed_index.specs.declared.entry.Entry.{Entry};
 ghost use Rattle.service_day.specs.declared.moments.Instant as moments;
@@ -9,7 +9,7 @@ ghost use Rattle.service_day.specs.Starts.{IsServiceDay};
 ghost use Rattle.gateway_core.specs.Arrivals as spec;
 ghost use Rattle.gateway_core.specs.Arrivals.{Arrival, admitted, is_within, moments_of, schedule_at, window_at};
 ghost use Rattle.gateway_core.specs.Settings.{IsWindowIn};
-ghost use Rattle.gateway_core.specs.Standing.{KeepsJourneys, Stands, journey_seen};
+ghost use Rattle.gateway_core.specs.Standing.{KeepsJourneys, Stands};
 
 use crate::gateway::Gateway;
 use crate::keys::JourneyKey;

@@ -1,5 +1,5 @@
 //! What a gateway serves. The functions meet `specs/Standing.antt`.
-ghost use Rattle.std.specs.Prelude.{◌≡◌, ◌++◌, true, List, OnOk, IsErr, length, map, min, if◌then◌else◌};
+ghost use Rattle.std.specs.Prelude.{◌≡◌, ◌++◌, true, List, OnOk, IsErr, length, min, if◌then◌else◌};
 ghost use Rattle.gw_base.specs.Count.{Counts, Rose, last_count};
 ghost use Rattle.gw_base.specs.Told.{PutsUnless, with_bytes};
 ghost use Rattle.feed_index.specs.Chosen.{chosen};
@@ -29,7 +29,7 @@ impl Choice<Instant> for Each {
     }
 }
 
-// Of the situations those that say so.
+// Of the situations those are served whose entry says so.
 struct Served;
 
 impl Choice<Edition> for Served {
@@ -109,7 +109,7 @@ impl Gateway {
 
     /// Writes the feed that is made at that moment (GTFS Realtime, FeedMessage): the header, the entity of the latest
     /// record of each journey by service day and trip number, and the alert of each served situation by number. After a
-    /// failure a front of it is written. Takes no memory.
+    /// failure a prefix of it is written. Takes no memory.
     pub fn write_feed<S: Sink>(&self, moment: Moment, sink: &mut S) -> Result<(), Failed>
         ensures all { OnOk result (S.told sink.new ≡ with_bytes (S.told sink.old) (served moment self.now)) }
         ensures front { PutsUnless (Rose (S.faults sink.old) (S.faults sink.new))
@@ -133,7 +133,7 @@ impl Gateway {
         self.text.len() as u64
     }
 
-    /// Writes the SIRI text of the last feed (SIRI 2.0, EstimatedTimetableDelivery). After a failure a front of it is
+    /// Writes the SIRI text of the last feed (SIRI 2.0, EstimatedTimetableDelivery). After a failure a prefix of it is
     /// written. Takes no memory.
     pub fn write_siri<S: Sink>(&self, sink: &mut S) -> Result<(), Failed>
         ensures all { OnOk result (S.told sink.new ≡ with_bytes (S.told sink.old) self.now.text) }

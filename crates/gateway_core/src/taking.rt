@@ -18,8 +18,8 @@ use std::alloc::{AllocError, Global};
 impl Gateway {
     /// Takes a delivery of estimated timetables (SIRI 2.0, EstimatedTimetableDelivery) that arrives at a moment: each
     /// journey is taken, or set aside with its first fault, in the window that is there by that moment. NotJson comes
-    /// exactly where the body isn't JSON in UTF-8, NotDelivery where the way down to its journeys is broken. After a
-    /// refusal all is as before.
+    /// exactly where the body isn't JSON in UTF-8, NotDelivery where the way down to its journeys is broken, Memory
+    /// for want of memory. After a refusal all is as before.
     pub fn take_estimated(
         &mut self,
         alloc: Global,

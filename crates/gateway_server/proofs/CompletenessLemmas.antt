@@ -98,7 +98,7 @@ not_posted input target asks posted =
 
 -- ---- without a cause
 
--- a front is the whole
+-- a prefix is the whole
 whole : (Cause : Type 0) (output bytes : List ℕ) → ¬ Cause → IsFront Cause output bytes → output ≡ bytes
 whole Cause output bytes calm front =
     elim (cases_lt front.0 (length bytes)) as (λ _. output ≡ bytes) [

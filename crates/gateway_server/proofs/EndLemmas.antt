@@ -26,7 +26,7 @@ use Rattle.gateway_server.specs.Serving.{AsksClock, IsFresh, IsLogged, Serves}
 use Rattle.gateway_server.specs.Steps as steps
 use Rattle.gateway_server.specs.Steps.{Answers, PutsShown, PutsTaken, entry_at}
 
--- what a front of an answer is, after nothing
+-- what a prefix of an answer is, after nothing
 pub front_of : (P : Type 0) (before now : Option (List ℕ)) (text : List ℕ) → before ≡ Some [] → PutsUnless P before now text
     → (written : List ℕ) × (now ≡ Some written) × IsFront P written text
 front_of P before now text fresh puts =

@@ -20,7 +20,7 @@ puts_head P before now kind head body size is_head is_size cause puts =
     puts_front P before now (answer_head kind (length body)) body cause
     (subst (PutsUnless P before now) (is_head ∙ ap (answer_head kind) is_size) puts)
 
--- the head was put, and the body or a front of it
+-- the head was put, and the body or a prefix of it
 pub puts_both : (f g h : ℕ) (before mid now : Option (List ℕ)) (kind : Answer) (head body : List ℕ) (size : ℕ)
     → head ≡ answer_head kind size → size ≡ length body → mid ≡ with_bytes before head → f ≤ g
     → PutsUnless (Rose g h) mid now body → PutsUnless (Rose f h) before now (answer_of kind body)

@@ -40,7 +40,7 @@ NumbersHaveRoom before given = length (firsts is_same_number (before ++ given)) 
 -- a body is a delivery of journeys of which none has a fault at a moment, after what arrived: it is JSON in the frame
 -- of a delivery; each of its journeys gives a record, as its members have their forms, it names a trip on a day of the
 -- window on which that runs, its calls match the trip's stops, and its delays are in range; and there is room. These
--- are the records, and so many calls are passed over
+-- are `records`, and `passed` is how many calls are passed over
 pub record IsSoundDelivery (setting : Setting) (arrivals : List Arrival) (moment : ℤ) (body : List ℕ)
     (records : List Recorded) (passed : ℕ) : Type 0 where
   pub root : Data
@@ -51,7 +51,8 @@ pub record IsSoundDelivery (setting : Setting) (arrivals : List Arrival) (moment
   pub passed_is : passed ≡ passed_count all
   pub room : JourneysHaveRoom (window_at setting (moment ∷ moments_of arrivals)) (admitted setting arrivals) records
 
--- the same of a delivery of situations, none of which has too long an alert. So many references aren't known
+-- the same of a delivery of situations, none of which has too long an alert; `passed` is how many references aren't
+-- known
 pub record IsSoundSituations (setting : Setting) (arrivals : List Arrival) (moment : ℤ) (body : List ℕ)
     (given : List Situation) (passed : ℕ) : Type 0 where
   pub root : Data

@@ -16,7 +16,7 @@ use Rattle.gateway_core.specs.declared.setting.Setting.{Setting}
 use Rattle.gateway_server.specs.Answers.{IsAnswered, mark_of, refused_with}
 use Rattle.gateway_server.specs.Bodies.{Brings}
 
--- an output is a front of these bytes, and shorter only for this cause
+-- an output is a prefix of these bytes, and shorter only for this cause
 abbrev pub IsFront : Type 0 → List ℕ → List ℕ → Type 0
 IsFront Cause output bytes = (n : ℕ) × (n ≤ length bytes) × (output ≡ take n bytes) × (n < length bytes → Cause)
 
@@ -26,7 +26,7 @@ IsPosted input = (count : ℕ) × (head : Head) × IsHead input count (Ok head) 
 
 -- what a connection's entry may be after what arrived before it: the clock failed and nothing was read; a read failed
 -- and nothing was answered; there was no memory for what was posted; or the connection was answered. The output is a
--- front of the answer, and shorter only for a cause, which is a fault of the door
+-- prefix of the answer, and shorter only for a cause, which is a fault of the door
 pub data IsLawful (Cause : Type 0) (setting : Setting) (arrivals : List Arrival) (entry : Entry) : Type 0 where
   no_clock : entry.mark ≡ mark.ClockFault → entry.moment ≡ None
       → IsFront Cause entry.output (refused_with refusal.Clock)

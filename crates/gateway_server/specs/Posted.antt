@@ -20,6 +20,7 @@ pub record FeedStands (gate : Kept) (moment : ℤ) (feed : Arriving) (bytes : Li
       → feed.window ≡ window_at gate.setting (moment ∷ moments_of arrivals)
   pub stands : arriving.StandsFor gate.setting feed bytes
 
+-- a body that is kept whole stands for its bytes
 abbrev pub BodyStands : List ℕ → Option Arriving → List ℕ → Type 0
 BodyStands body feed bytes = (feed ≡ None) × (body ≡ bytes)
 

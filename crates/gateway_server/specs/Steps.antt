@@ -1,4 +1,4 @@
--- What a connection is after its request, and after its moment.
+-- What a GET and a POST put, and what a connection is by its end.
 use Rattle.std.specs.Prelude.{◌≡◌, ℕ, ℤ, List, ◌∷◌, Option, Some}
 use Rattle.gw_base.specs.Told.{PutsUnless}
 use Rattle.gw_base.specs.declared.door.Entry.{Entry}

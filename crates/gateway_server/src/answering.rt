@@ -27,7 +27,7 @@ pub fn status_of(why: &Refusal) -> u16
     }
 }
 
-/// Writes an answer with this body, or a front of it where the sink fails.
+/// Writes an answer with this body, or a prefix of it where the sink fails.
 pub fn put_answer<S: Sink>(sink: &mut S, kind: &Answer, body: &[u8])
     ensures front { PutsUnless (Rose (S.faults sink.old) (S.faults sink.new))
         (S.told sink.old) (S.told sink.new) (spec.answer_of kind.now body.now) }

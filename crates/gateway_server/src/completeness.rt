@@ -1,6 +1,6 @@
 //! The law of completeness, the contract of a function that does nothing. It is about the definitions of
 //! `specs/Completeness.antt`.
-ghost use Rattle.std.specs.Prelude.{◌≡◌, ◌∷◌, ◌⊎◌, ℕ, ℤ, List, length};
+ghost use Rattle.std.specs.Prelude.{◌∷◌, ◌⊎◌, ℕ, ℤ, List, length};
 ghost use Rattle.gw_base.specs.Count.{Rose};
 ghost use Rattle.gw_base.specs.declared.door.Entry.{Entry};
 ghost use Rattle.gw_base.specs.declared.door.Mark.TheVariants as mark;

@@ -1,4 +1,4 @@
-//! The server's one step: a connection is read, answered and logged (RFC 9112), over a gateway. What an entry of the
+//! Connections, one after the other: each is read, answered and logged over a gateway (RFC 9112). What an entry of the
 //! log may be is `IsLawful` of `specs/Log.antt`.
 #![tactic(auto)]
 

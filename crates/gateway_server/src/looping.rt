@@ -1,5 +1,5 @@
 //! Connections, one after the other. The definitions are those of `specs/Serving.antt`.
-ghost use Rattle.std.specs.Prelude.{◌≡◌, ◌≤◌, ◌⊎◌, ◌++◌, false, [], ℕ, List, length, OnOk, IsErr};
+ghost use Rattle.std.specs.Prelude.{◌≡◌, ◌≤◌, ◌⊎◌, ◌++◌, false, ℕ, List, length, OnOk, IsErr};
 ghost use Rattle.gw_base.specs.Changes.{change};
 ghost use Rattle.gw_base.specs.Connections.{Connections};
 ghost use Rattle.gw_base.specs.Count.{Counts, Rose};

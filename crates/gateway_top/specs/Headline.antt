@@ -27,7 +27,7 @@ HasArrived setting before (entry ∷ later) now =
 
 -- a feed served: its bytes are those rebuilt from all that arrived; read as protobuf and propagated by GTFS Realtime's
 -- rules, they give every stop of every dated journey the time, skip or absence of the last-recorded SIRI journey taken
--- before it. The output is that answer, or by a fault of the door a front of it
+-- before it. The output is that answer, or by a fault of the door a prefix of it
 pub record ServesFeed (Cause : Type 0) (setting : Setting) (arrivals : List Arrival) (entry : Entry) : Type 0 where
   pub moment : ℤ
   pub at : entry.moment ≡ Some moment

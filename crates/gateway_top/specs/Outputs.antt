@@ -4,6 +4,7 @@ use Rattle.gateway_core.specs.Standing.{served}
 use Rattle.gateway_top.specs.declared.done.Output.{Output}
 use Rattle.gateway_top.specs.declared.done.Output.TheVariants.{Feed, Text}
 
+-- a text, or the feed that a gateway serves
 abbrev pub bytes_of : Output → List ℕ
 bytes_of (Text bytes) = bytes
 bytes_of (Feed gate at) = served at gate

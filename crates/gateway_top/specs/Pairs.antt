@@ -2,10 +2,12 @@
 use Rattle.std.specs.Prelude.{◌≡◌, ℕ, false, MatchBool, List, [], ◌∷◌}
 use Rattle.gateway_top.specs.Tables.{Form, Pair, is_flag}
 
+-- there is no value of that form
 abbrev pub HasNoValue : Form → List ℕ → List (List ℕ) → Type 0
 HasNoValue form before [] = Unit {0}
 HasNoValue form before (value ∷ words) = form before value ≡ false
 
+-- the words don't begin with the pair: the flag is wrong at 0, the value at 1
 abbrev pub IsWrongAt : Pair → List ℕ → List (List ℕ) → ℕ → Type 0
 IsWrongAt pair before [] at = at ≡ 0
 IsWrongAt pair before (flag ∷ words) at =

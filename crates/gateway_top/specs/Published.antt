@@ -104,6 +104,7 @@ pub record PublishesCounts (command : Make) (before now : Option (List ℕ)) : T
   pub counted : IsCountOfSample command.seed command.trips command.stops (Ok counts)
   pub written : now ≡ with_bytes before (counts_text command.trips command.stops counts)
 
+-- what a command that ends publishes
 abbrev pub PublishesTask : Task → Directory → Option (List ℕ) → Option (List ℕ) → Type 0
 PublishesTask (gtfsrt_task command) = PublishesFeed command
 PublishesTask (siri_task command) = PublishesSiri command

@@ -9,6 +9,7 @@ use Rattle.gateway_top.specs.declared.words.forms.Form.TheVariants as form
 use Rattle.gateway_top.specs.declared.words.table.Pair.{Pair}
 use Rattle.gateway_top.specs.declared.words.table.Command.{Command}
 
+-- a form, a pair and a command of the code's table, as the definitions have them
 abbrev pub form_of : declared.Form → Form
 form_of form.Filled = is_filled
 form_of form.Day = is_day

@@ -41,7 +41,7 @@ Got sink text = sink.now ≡ with_bytes sink.before text
 abbrev pub GotNothing : Change (List ℕ) → Type 0
 GotNothing sink = sink.now ≡ sink.before
 
--- a sink got a front of a text, and less than the whole only where it failed
+-- a sink got a prefix of a text, and less than the whole only where it failed
 abbrev pub GotUnlessFailed : Change (List ℕ) → List ℕ → Type 0
 GotUnlessFailed sink text = PutsUnless (HasFailed sink) sink.before sink.now text
 
@@ -54,7 +54,7 @@ pub record TellsEnd (status : ℕ) (text : List ℕ) (ended : ℕ) (err : Change
   pub status_is : ended ≡ status
   pub told : GotUnlessFailed err (line text)
 
--- a run that ends early: so, and with nothing on standard output
+-- a run that ends early: with this status and line, and with nothing on standard output
 abbrev pub EndsEarly : ℕ → List ℕ → ℕ → Change (List ℕ) → Change (List ℕ) → Type 0
 EndsEarly status text ended out err = TellsEnd status text ended err × GotNothing out
 
@@ -74,8 +74,8 @@ pub record EndsDone (done : Done) (ended : ℕ) (out err : Change (List ℕ)) : 
   pub written : Got out done.out
   pub reported : Got err done.err
 
--- a run of which a stream failed once the work was done: standard output got a front of its text, and standard error a
--- front of the reports and then the line of the failure
+-- a run of which a stream failed once the work was done: standard output got a prefix of its text, and standard error a
+-- prefix of the reports and then the line of the failure
 pub record EndsCutOff (done : Done) (ended : ℕ) (out err : Change (List ℕ)) : Type 0 where
   pub status_is : ended ≡ 74
   pub cause : HasFailed out ⊎ HasFailed err
@@ -97,6 +97,7 @@ pub record RunsTask (task : Task) (ended : ℕ) (files : Change Directory) (out 
   pub cause : answer ≡ Err Failed → HasFailed files
   pub ends : Ends answer ended out err
 
+-- a run of words of such a command
 pub record IsCarriedOut (words : List (List ℕ)) (ended : ℕ) (outside : Outside) : Type 0 where
   pub task : Task
   pub accepted : IsJob words (task_job task)
@@ -144,6 +145,7 @@ pub record RunsServer (command : Serve) (ended : ℕ) (files : Change Directory)
   pub cause : answer ≡ Err Failed → HasFailed files
   pub ends : EndsServer command answer ended err doorway
 
+-- a run of words of `serve`
 pub record IsServing (words : List (List ℕ)) (ended : ℕ) (outside : Outside) : Type 0 where
   pub command : Serve
   pub accepted : IsJob words (serve_job command)

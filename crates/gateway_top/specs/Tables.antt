@@ -20,6 +20,7 @@ pub record Command : Type 0 where
   pub pairs : List Pair
   pub repeated : Pair
 
+-- a word is a flag of the pair
 abbrev pub is_flag : Pair → List ℕ → Bool
 is_flag pair word = list_any (λ flag. pointwise nat_eq flag word) pair.flags
 
@@ -50,7 +51,7 @@ IsAccepted commands (name ∷ words) = IsSomeAnd (with_name commands name) (λ c
 abbrev pub IsStart : (List (List ℕ) → Type 0) → List (List ℕ) → Type 0
 IsStart Accepted words = (rest : List (List ℕ)) × Accepted (words ++ rest)
 
--- the list isn't accepted, and its longest front that an accepted list starts with has that many words
+-- the list isn't accepted, and its longest prefix that an accepted list starts with has that many words
 pub record StopsAt (Accepted : List (List ℕ) → Type 0) (words : List (List ℕ)) (at : ℕ) : Type 0 where
   pub none : ¬ (Accepted words)
   pub within : at ≤ length words

@@ -209,6 +209,6 @@ pub record IsJob (words : List (List ℕ)) (job : Job) : Type 0 where
   pub accepted : IsAccepted commands words
   pub says : Says words job
 
--- the list isn't accepted, and its longest front that an accepted list starts with has that many words
+-- the list isn't accepted, and its longest prefix that an accepted list starts with has that many words
 pub record IsRefusedAt (words : List (List ℕ)) (at : ℕ) : Type 0 where
   pub stops : StopsAt (IsAccepted commands) words at

@@ -1,4 +1,4 @@
--- What a command that was read says.
+-- What the code's values of commands say, in the words of `Words.antt`.
 use Rattle.gateway_top.specs.Words.{Job, NamedZone, Scope as Said, Serve, Task as SaidTask, by_rule, by_file, gtfsrt_task, make_task, serve_job, show_task, siri_task, sx_task, task_job}
 use Rattle.gateway_top.specs.declared.words.Scope.{Scope}
 use Rattle.gateway_top.specs.declared.words.Server.{Server}

@@ -75,7 +75,7 @@ fn situations_taken(
     }
 }
 
-// Takes a body, of what its flag says.
+// Takes a body of what its flag says: situations after `--sx`, else journeys.
 fn body_taken(
     alloc: Global,
     gate: &mut Gateway,

@@ -58,7 +58,7 @@ impl Done {
         }
     }
 
-    /// Writes what is for standard output. After a failure a front of it is written. Takes no memory.
+    /// Writes what is for standard output. After a failure a prefix of it is written. Takes no memory.
     pub fn write_out<S: Sink>(&self, sink: &mut S) -> Result<(), Failed>
         ensures all { OnOk result (S.told sink.new ≡ with_bytes (S.told sink.old) self.now.out) }
         ensures front { PutsUnless (Rose (S.faults sink.old) (S.faults sink.new)) (S.told sink.old)

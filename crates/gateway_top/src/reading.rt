@@ -21,7 +21,7 @@ pub fn joined(alloc: Global, first: &str, second: &str) -> Result<Text, AllocErr
     Ok(text)
 }
 
-/// The bytes of a further file.
+/// The bytes of a further file, at most so many. Err: Missing or TooLong with its name, Failed, or want of memory.
 pub fn further_file<F: Files>(
     alloc: Global,
     files: &mut F,

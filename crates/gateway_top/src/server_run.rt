@@ -1,9 +1,9 @@
 //! A run of `serve`: it opens over its files, and then serves connections. The definitions are those of
 //! `specs/Runs.antt`.
-ghost use Rattle.std.specs.Prelude.{◌≡◌, ◌≤◌, [], List, false, IfOk, IsErr, IsOk, OnErr};
+ghost use Rattle.std.specs.Prelude.{◌≡◌, ◌≤◌, false, IfOk, IsErr, IsOk, OnErr};
 ghost use Rattle.gw_base.specs.Changes.{change};
 ghost use Rattle.gw_base.specs.Connections.{Connections};
-ghost use Rattle.gw_base.specs.Count.{Counts, Rose};
+ghost use Rattle.gw_base.specs.Count.{Rose};
 ghost use Rattle.gateway_server.specs.Serving.{Tells, failures};
 ghost use Rattle.gateway_top.specs.Runs.{RunsServer};
 ghost use Rattle.gateway_top.specs.Serving.{HasCounted, Served};
@@ -57,7 +57,6 @@ fn served<D: Door, C: Clock>(
 
 /// Serves over the files, and answers the status: 0 where so many connections were served or none is to come, 74 where
 /// the files failed or the door, 71 for want of memory before the first connection.
-
 pub fn run_server<F: Files, D: Door, C: Clock, E: Sink>(
     alloc: Global,
     server: &Server<'_>,

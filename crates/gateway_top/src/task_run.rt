@@ -1,7 +1,7 @@
 //! A run of a command that writes its result and ends. The definitions are those of `specs/Runs.antt`.
-ghost use Rattle.std.specs.Prelude.{◌≡◌, ◌≤◌, ◌⊎◌, ◌++◌, ℕ, false, length, take, OnOk, IsErr};
+ghost use Rattle.std.specs.Prelude.{◌≡◌, ◌≤◌, ◌⊎◌, ℕ, false, length, take, OnOk, IsErr};
 ghost use Rattle.gw_base.specs.Changes.{change};
-ghost use Rattle.gw_base.specs.Count.{Rose, Counts};
+ghost use Rattle.gw_base.specs.Count.{Rose};
 ghost use Rattle.gw_base.specs.Told.{with_bytes, PutsUnless};
 ghost use Rattle.gateway_top.specs.Published.{PublishesTask};
 ghost use Rattle.gateway_top.specs.Runs.{RunsTask};
@@ -34,9 +34,8 @@ fn written<S: Sink, E: Sink>(out: &mut S, err: &mut E, done: &Done) -> Result<()
     put_all(err, done.err())
 }
 
-/// Carries out a command over the files, and answers the status. Nothing is written to `out` before all input was read
-/// and accepted.
-
+/// Carries out a command over the files, and answers the status: 0 where all was written, 65, 66 or 71 as its work
+/// ended, 74 where a device failed. Nothing is written to `out` before all input was read and accepted.
 pub fn run_task<F: Files, S: Sink, E: Sink>(
     alloc: Global,
     task: &Task<'_>,

@@ -1,5 +1,5 @@
 //! The top call: a list of words is carried out over the devices, and a status comes back.
-ghost use Rattle.std.specs.Prelude.{◌≡◌, ◌≤◌, ◌⊎◌, ◌++◌, false, codes, IfSome};
+ghost use Rattle.std.specs.Prelude.{◌≡◌, ◌≤◌, ◌⊎◌, false, codes, IfSome};
 ghost use Rattle.gw_base.specs.Changes.{change};
 ghost use Rattle.gw_base.specs.Connections.{Connections};
 ghost use Rattle.gw_base.specs.Count.{Rose};
@@ -21,7 +21,6 @@ use std::alloc::Global;
 /// Carries out the words over the devices, and answers the status: 0 where the work was done, 2 for
 /// words of no command, 65 for input that is refused, 66 for a missing file, 71 for want of memory,
 /// 74 where a device failed. Nothing is written to `out` before all input was read and accepted.
-
 pub fn gateway<F: Files, D: Door, C: Clock, S: Sink, E: Sink>(
     alloc: Global,
     words: &[Text],
@@ -95,7 +94,7 @@ pub fn print<S: Sink>(out: &mut S, text: &str) -> u8
     }
 }
 
-/// Ends for want of memory, before any command was carried out.
+/// Ends for want of memory, before any command was carried out, and answers the status 71.
 pub fn no_memory<E: Sink>(err: &mut E) -> u8
     ensures status { result ≡ 71 }
     ensures front { PutsUnless (Rose (E.faults err.old) (E.faults err.new)) (E.told err.old) (E.told err.new)

@@ -1,5 +1,5 @@
 //! The words of a command line. Only exactly the lists of words of a command are accepted.
-ghost use Rattle.std.specs.Prelude.{◌≡◌, length, IfOk, IfErr};
+ghost use Rattle.std.specs.Prelude.{◌≡◌, IfOk, IfErr};
 ghost use Rattle.gateway_top.specs.Words as said;
 ghost use Rattle.gateway_top.specs.Words.{IsJob, IsRefusedAt, Says, SaysMake, SaysScope, SaysServe, SaysShow, SaysTask, SaysToGtfsrt, SaysToSiri, SaysToSiriSx, zone_by};
 ghost use Rattle.gateway_top.specs.Works.{job_of, scope_of, server_of, task_of, zone_of};
@@ -18,7 +18,7 @@ use table::{Command, Pair, check};
 /// The word at which a list of words stops being the start of an accepted one, counted from 0.
 #[derive(Clone, Copy, Debug, PartialEq, Eq)]
 pub struct BadWord {
-    /// The number of words of the longest front that an accepted list starts with.
+    /// The number of words of the longest prefix that an accepted list starts with.
     pub at: u64,
 }
 

@@ -1,11 +1,10 @@
 //! The work of the commands, step by step in the order of `specs/Work.antt`. Nothing is written here.
-ghost use Rattle.std.specs.Prelude.{◌≡◌, ◌++◌, ◌<◌, false, IfOk, IfSome, IsErrOf, length, None, Ok, Err};
+ghost use Rattle.std.specs.Prelude.{◌≡◌, ◌<◌, false, IfSome, IsErrOf, None, Ok, Err};
 ghost use Rattle.gw_base.specs.Answers.{UnlessFree};
 ghost use Rattle.gw_base.specs.Count.{Counts};
 ghost use Rattle.gateway_top.specs.Exits.{is_free};
 ghost use Rattle.gateway_top.specs.Work as steps;
 ghost use Rattle.gateway_top.specs.Windowed.{CanRun, HasWindow};
-ghost use Rattle.gateway_top.specs.Words as said;
 ghost use Rattle.gateway_top.specs.Words.{by_file};
 ghost use Rattle.gateway_top.specs.Works.{scope_of, task_of, zone_of};
 

@@ -42,12 +42,13 @@ message trip_id run one = record {
   alert = None;
 }
 
--- nothing is known of any stop of a journey: it has no entity. A cancelled journey has one even where it has no stops
+-- nothing is known of a stop
 abbrev pub is_absent : StopReading → Bool
 is_absent Absent = true
 is_absent Skipped = false
 is_absent (Timed arrival departure) = false
 
+-- nothing is known of any stop of a journey: it has no entity. A cancelled journey has one even where it has no stops
 abbrev pub is_silent : JourneyReading → Bool
 is_silent Cancelled = false
 is_silent (Stops readings) = list_all is_absent readings

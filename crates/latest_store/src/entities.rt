@@ -1,7 +1,6 @@
 //! The entity of a record. The functions meet `specs/Entities.antt`.
 ghost use Rattle.std.specs.Prelude.{◌≡◌, IfOk};
 ghost use Rattle.std.specs.List.{list_all};
-ghost use Rattle.journey_model.specs.Schedules.{IsServable};
 ghost use Rattle.latest_store.specs.Entities as spec;
 
 use gw_base::trip_relation::{CANCELED, SCHEDULED};
@@ -9,7 +8,7 @@ use gw_base::{Entity, List, StopUpdate, Text, TripDescriptor, TripUpdate};
 use journey_model::{JourneyReading, StopReading};
 use std::alloc::{AllocError, Global};
 
-// The id of a journey's entity.
+/// The id of a journey's entity.
 pub(crate) fn journey_id(alloc: Global, date: &str, trip_id: &str) -> Result<Text, AllocError>
     ensures { IfOk result (λ id. id ≡ spec.journey_id date.now trip_id.now) }
 {
@@ -31,7 +30,7 @@ fn relation_of(reading: &JourneyReading) -> i32
     }
 }
 
-// The trip on its day.
+/// The trip on its day.
 pub(crate) fn descriptor(
     alloc: Global,
     date: &str,

@@ -1,8 +1,8 @@
-//! What an entity says that isn't passed, before the feed's header is known.
+//! What an entity that isn't passed says before the feed's header is known.
 use gw_base::{Boxed, TripUpdate};
 use journey_model::{DatedReading, Fault};
 
-/// What an entity says, which isn't passed, before the feed's header is known (GTFS Realtime reference, FeedMessage).
+/// What an entity that isn't passed says before the feed's header is known (GTFS Realtime reference, FeedMessage).
 #[derive(Debug, Drop)]
 pub enum EntitySaid {
     /// A reading, recorded by the update's own timestamp alone.

@@ -1,4 +1,5 @@
-//! What a feed says of journeys, entity by entity, where its header may come last. Contracts see `specs/Folding.antt`.
+//! What a feed says of journeys, entity by entity, where its header may come last. Contracts see it as
+//! `Folded` of `specs/Folding.antt`.
 ghost use Rattle.std.specs.Prelude.{◌≡◌, ◌+◌, ◌++◌, ◌∷◌, [], List as Values, length, IfOk, OnErr, OnOk};
 ghost use Rattle.std.specs.List.{filter_map};
 ghost use Rattle.gw_base.specs.declared.messages.Entity.{Entity};

@@ -24,7 +24,7 @@ fn is_utf8_if(text: Option<&str>)
     }
 }
 
-// The texts that are told of an alert.
+// The texts that are told of an alert are UTF-8.
 fn says_texts(alert: &Alert)
     ensures { SaysTexts alert.now }
 {
@@ -32,7 +32,7 @@ fn says_texts(alert: &Alert)
     is_utf8_if(first_text(alert.description.as_slice()));
 }
 
-// The id of an entity, and the texts of its alert.
+// The id of an entity and the texts of its alert are UTF-8.
 fn has_texts(entity: &Entity)
     ensures { HasTexts entity.now }
 {
@@ -42,7 +42,7 @@ fn has_texts(entity: &Entity)
     }
 }
 
-/// The texts of all situations that are taken.
+/// The texts of all situations that are taken are UTF-8.
 pub(crate) fn have_utf8(table: &Timetable, entities: &[Entity])
     ensures { All HasUtf8 (situations (seen table.now) entities.now) }
 {

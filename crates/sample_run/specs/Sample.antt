@@ -59,6 +59,7 @@ IsMadeSetting trips stops = do
   table ← IsMadeFolder trips stops
   IsWindowed table
 
+-- the text of a delivery, unless it is too long
 abbrev pub limited : List ℕ → Result (List ℕ) SampleFault
 limited text = if nat_le (length text) body_limit then Ok text else Err TooLong
 
@@ -73,6 +74,7 @@ IsTaken setting arrivals body (Err end) =
     (fault : DeliveryFault) × ReadsBody (schedule_at setting (made_at ∷ moments_of arrivals)) body (Err fault)
     × (end ≡ delivery_end fault)
 
+-- the records of a delivery's text
 abbrev pub IsDelivered : Setting → List Arrival → List ℕ → Result (List Recorded) SampleFault → Type 0
 IsDelivered setting arrivals text = do
   body ← IsInLimit text
@@ -105,6 +107,7 @@ IsCountsOf setting arrivals bytes = do
   feed ← IsFeedIn bytes
   IsFound (counts_of (schedule_at setting (moments_of arrivals)) bytes feed)
 
+-- the counts of the feed of what arrived
 abbrev pub IsCounted : Setting → List Arrival → Result SampleCounts SampleFault → Type 0
 IsCounted setting arrivals = do
   bytes ← IsRebuiltBytes setting arrivals

@@ -17,7 +17,7 @@ zip-drop (a ∷ xs) [] place x y in_xs in_ys = absurd (omega arith)
 zip-drop (a ∷ xs) (b ∷ ys) zero x y in_xs in_ys = refl
 zip-drop (a ∷ xs) (b ∷ ys) (suc place) x y in_xs in_ys = zip-drop xs ys place x y (omega arith) (omega arith)
 
--- none is left behind the last
+-- none is left after the last
 zip-past : {A B : Type 0} (xs : List A) (ys : List B) (place : ℕ) → length xs ≤ place → drop place (zip xs ys) ≡ []
 zip-past [] ys zero past = refl
 zip-past [] ys (suc place) past = refl

@@ -1,5 +1,5 @@
 //! The lines of a journey: one where it is cancelled, and else one for each of its stops.
-ghost use Rattle.std.specs.Prelude.{◌≡◌, ◌++◌, ◌<◌, OnOk, IfOk, All, codes, decimal, length, true};
+ghost use Rattle.std.specs.Prelude.{◌≡◌, ◌++◌, ◌<◌, OnOk, IfOk, All, length, true};
 ghost use Rattle.std.specs.List.{zip};
 ghost use Rattle.gw_base.specs.Moments.{IsMoment};
 ghost use Rattle.stop_schedule.specs.Stops.{are_known};

@@ -1,5 +1,5 @@
 //! One walk over the stops of a trip with their readings. The functions meet `specs/Shortest.antt`.
-ghost use Rattle.std.specs.Prelude.{◌≡◌, ◌||◌, ◌-ℤ◌, ◌≤ℤ◌, ◌<ℤ◌, ◌^◌, pos, not, ℕ, ℤ, List as Values, [], true, zip, IfSome, IfOk};
+ghost use Rattle.std.specs.Prelude.{◌≡◌, ◌||◌, ◌-ℤ◌, not, ℕ, ℤ, List as Values, [], true, zip, IfSome, IfOk};
 ghost use Rattle.std.specs.Option.{option_map_or};
 ghost use Rattle.gw_base.specs.Moments.{IsMoment};
 ghost use Rattle.stop_schedule.specs.Planned.{planned};

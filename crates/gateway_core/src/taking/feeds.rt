@@ -162,7 +162,8 @@ impl Gateway {
     }
 
     /// Takes a feed (GTFS Realtime, FeedMessage) that arrives whole at a moment, as `begin_feed`, `piece` and
-    /// `end_feed` take it. After a refusal all is as before.
+    /// `end_feed` take it. Err with the first fault of its bytes, else Differential, else TooManyCalls; Memory
+    /// for want of memory. After a refusal all is as before.
     pub fn take_feed(
         &mut self,
         alloc: Global,

@@ -94,7 +94,7 @@ fn made_of(
 impl Gateway {
     /// Takes a delivery of situations (SIRI 2.0, SituationExchangeDelivery), as `take_estimated` takes one of journeys:
     /// a situation whose alert has a body of more than 65,536 bytes is set aside too, and one without room is set aside
-    /// as Full. After a refusal all is as before.
+    /// as Full. NotJson and NotDelivery come as there, Memory for want of memory. After a refusal all is as before.
     pub fn take_situations(
         &mut self,
         alloc: Global,

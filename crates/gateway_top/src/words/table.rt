@@ -105,7 +105,7 @@ fn wrong_word(command: &Command, name: &Text, words: &[Text]) -> Option<usize>
     None
 }
 
-/// The words are one of the commands, or the word at fault. Takes no memory.
+/// Whether the words are those of one of the commands; else Err with the word at fault. Takes no memory.
 pub fn check(commands: &[Command], words: &[Text]) -> Result<(), BadWord>
     requires { IsTrue (have_flags commands.now) }
     ensures accepted { IfOk result (λ _. IsAccepted (map row_of commands.now) words.now) }

@@ -5,7 +5,6 @@ ghost use Rattle.stop_schedule.specs.Seen.{seen};
 ghost use Rattle.stop_schedule.specs.Stops.{are_known};
 ghost use Rattle.journey_model.specs.Readings.{fits_trip};
 ghost use Rattle.journey_model.specs.Schedules.{FitsSchedule, run_on};
-ghost use Rattle.serde_json.specs.Written.{comma_if};
 ghost use Rattle.siri_calls.specs.DeliveryTree.{is_cancelled_journey};
 ghost use Rattle.siri_calls.specs.DeliveryTexts.{closing_text, frame_ref_text, journey_text, journey_text_on, journeys_text, opening_text};
 ghost use Rattle.siri_calls.specs.TripRuns.{run_over};

@@ -15,7 +15,7 @@ second before mid now f g h A B C first le cause puts =
     puts_front (Rose f h) before now (A ++ B) C (rose-after f g h le cause)
     (puts_more (Rose f h) before mid now A B first (puts_wider (Rose g h) (Rose f h) mid now B (rose-after f g h le) puts))
 
--- the third was put, or a front of it
+-- the third was put, or a prefix of it
 third : (before mid next now : Option (List ℕ)) (e f g h : ℕ) (A B C : List ℕ) → mid ≡ with_bytes before A → next ≡ with_bytes mid B → e ≤ f → f ≤ g
     → PutsUnless (Rose g h) next now C → PutsUnless (Rose e h) before now (A ++ B ++ C)
 third before mid next now e f g h A B C first then le more puts =

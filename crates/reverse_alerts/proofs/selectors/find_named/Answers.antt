@@ -1,4 +1,4 @@
--- What one selector more names stands behind what those before it name.
+-- What one selector more names stands after what those before it name.
 use Rattle.std.proofs.Common.{◌≡◌, ◌∙◌, ◌+◌, ◌∷◌, ap, sym, drop}
 use Rattle.std.proofs.lemmas.List.{at_drop_all, drop_more}
 use Rattle.stop_schedule.specs.Seen.{seen}
