@@ -5,9 +5,6 @@ use Rattle.std.proofs.lemmas.List.{append_assoc}
 use Rattle.std.proofs.lemmas.List.Folds.{list_any-append}
 use Rattle.std.specs.Prelude.{slice_get}
 use Rattle.std.specs.List.{AllByRecursion, list_any}
-use Rattle.std.specs.Ordering.{is_eq}
-use Rattle.std.specs.declared.cmp.Ordering.{Ordering}
-use Rattle.std.specs.declared.cmp.Ordering.TheVariants.{Less, Equal, Greater}
 use Rattle.latest_store.specs.Latest.{HasLatestOf, IsLatestOf}
 use Rattle.gateway_core.specs.Winners.{counts_by}
 
@@ -26,11 +23,6 @@ none_joined p xs ys h k = list_any-append p xs ys ∙ (rw (h, k) refl)
 
 one_none : {X : Type 0} (p : X → Bool) (x : X) → p x ≡ false → list_any p (x ∷ []) ≡ false
 one_none p x h = rw h refl
-
-is_equal : (o : Ordering) → is_eq o ≡ true → o ≡ Equal
-is_equal Less e = absurd (true≢false (sym e))
-is_equal Equal e = refl
-is_equal Greater e = absurd (true≢false (sym e))
 
 -- ---- what holds of all
 

@@ -1,6 +1,6 @@
 -- The items of a delivery of journeys, one by one.
 use Rattle.std.proofs.Common.{◌≡◌, ◌∙◌, ◌++◌, ◌∷◌, ◌+◌, ◌≤◌, ◌<◌, [], ℕ, zero, suc, Bool, true, false, cond, not, List, map, take, drop, reverse, length, Option, Some, None, Result, Ok, Err, ap, sym, refl, subst, arith, add-one, length-append}
-use Rattle.std.proofs.lemmas.List.{append-nil, length-map, map-append, reverse-append, take-append-drop}
+use Rattle.std.proofs.lemmas.List.{append-nil, length-map, map-append, reverse-append}
 use Rattle.std.proofs.lemmas.Bool.{lt-ltb}
 use Rattle.std.proofs.lemmas.Bool.Decides.{nat_tests}
 use Rattle.std.specs.Prelude.{is_none, filter, nat_lt}
@@ -255,14 +255,6 @@ rest_left all rest n one e = rw add-one (behind one rest all n e)
 
 pub front_left : {A : Type 0} (all rest : List A) (n : ℕ) (one : A) → drop n all ≡ one ∷ rest → take (n + 1) all ≡ take n all ++ one ∷ []
 front_left all rest n one e = rw add-one (front one rest all n e)
-
--- nothing is left
-pub none_left : {A : Type 0} (all left : List A) (n : ℕ) → reverse left ≡ drop n all → length left ≡ 0 → take n all ≡ all
-none_left all left n left_are none = at left left_are none
-  where
-    at : (left : List _) → reverse left ≡ drop n all → length left ≡ 0 → take n all ≡ all
-    at [] e f = sym (append-nil (take n all)) ∙ ap (λ rest. take n all ++ rest) e ∙ take-append-drop n all
-    at (x ∷ left) e f = absurd (omega arith)
 
 pub place_left : {A : Type 0} (all rest : List A) (n : ℕ) (one : A) → drop n all ≡ one ∷ rest → length (take n all) ≡ n
 place_left all rest n one e = place one rest all n e

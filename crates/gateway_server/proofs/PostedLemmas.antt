@@ -1,5 +1,5 @@
 -- What stands for a posted body.
-use Rattle.std.proofs.Common.{◌≡◌, ◌++◌, ◌⊎◌, inl, inr, true, ℕ, ℤ, List, Option, Some, None, ap, refl, subst, sym}
+use Rattle.std.proofs.Common.{◌≡◌, ◌⊎◌, inl, inr, true, ℕ, ℤ, List, Option, Some, None, refl, subst, sym}
 use Rattle.http_talk.specs.Asked.{is_post}
 use Rattle.http_talk.specs.declared.target.Target.{Target}
 use Rattle.http_talk.specs.declared.target.Target.TheVariants.{EtPost, EtGet, SxPost, RtPost, RtGet}
@@ -43,15 +43,6 @@ body_of gate moment body EtGet bytes h = h.1
 body_of gate moment body RtGet bytes h = h.1
 
 -- ---- the next bytes
-
--- of a delivery
-kept_more : (gate : Kept) (moment : ℤ) (body more : List ℕ) (target : Target) (bytes : List ℕ) → StandsForBody gate moment body None target bytes
-    → StandsForBody gate moment (body ++ more) None target (bytes ++ more)
-kept_more gate moment body more RtPost bytes h = absurd h
-kept_more gate moment body more EtPost bytes h = (refl, ap (λ (b : List ℕ). b ++ more) h.1)
-kept_more gate moment body more SxPost bytes h = (refl, ap (λ (b : List ℕ). b ++ more) h.1)
-kept_more gate moment body more EtGet bytes h = (refl, ap (λ (b : List ℕ). b ++ more) h.1)
-kept_more gate moment body more RtGet bytes h = (refl, ap (λ (b : List ℕ). b ++ more) h.1)
 
 -- ---- what is posted, taken apart
 

@@ -33,12 +33,6 @@ pub record HasArrived (setting : Setting) (at : ℤ) (files : Directory) (words 
   pub stands : Stands now arrivals
   pub back : (answer : Result Arrived Exit) → Arrives setting at files rest (record { arrivals = arrivals; reports = reports }) answer → Arrives setting at files words nothing answer
 
--- before the first file
-pub none_yet : (told : Option Directory) (setting : Setting) (at : ℤ) (words : List (List ℕ)) (now : Kept) → Stands now []
-    → IfSome told (λ files. HasArrived setting at files words words now [])
-none_yet None setting at words now stands = tt
-none_yet (Some files) setting at words now stands = record { arrivals = []; stands = stands; back = λ answer h. h }
-
 -- an end of the next file is the end of all
 pub ends_with : (told : Option Directory) (setting own : Setting) (at : ℤ) (words rest behind : List (List ℕ)) (flag name : List ℕ) (before now : Kept) (reports : List ℕ) (end : Exit)
     → own ≡ setting → rest ≡ flag ∷ name ∷ behind

@@ -188,24 +188,6 @@ name_differs {a} {b} name here there differ =
     let same : a ≡ b = same_Some a b (sym here ∙ there) in
     true≢false (sym (nat_list_eq_equiv.refl a) ∙ ap (pointwise nat_eq a) same ∙ differ)
 
-pub siri_of : (words : List (List ℕ)) (job : Job) → IsJob words job → slice_get words 0 ≡ Some (codes "to-siri")
-    → (command : ToSiri) × SaysToSiri words command
-siri_of words (serve_job command) is named = absurd (name_differs (slice_get words 0) named is.says.name refl)
-siri_of words (task_job (gtfsrt_task command)) is named = absurd (name_differs (slice_get words 0) named is.says.name refl)
-siri_of words (task_job (siri_task command)) is named = (command, is.says)
-siri_of words (task_job (sx_task command)) is named = absurd (name_differs (slice_get words 0) named is.says.name refl)
-siri_of words (task_job (show_task command)) is named = absurd (name_differs (slice_get words 0) named is.says.name refl)
-siri_of words (task_job (make_task command)) is named = absurd (name_differs (slice_get words 0) named is.says.name refl)
-
-pub sx_of : (words : List (List ℕ)) (job : Job) → IsJob words job → slice_get words 0 ≡ Some (codes "to-siri-sx")
-    → (command : ToSiri) × SaysToSiriSx words command
-sx_of words (serve_job command) is named = absurd (name_differs (slice_get words 0) named is.says.name refl)
-sx_of words (task_job (gtfsrt_task command)) is named = absurd (name_differs (slice_get words 0) named is.says.name refl)
-sx_of words (task_job (siri_task command)) is named = absurd (name_differs (slice_get words 0) named is.says.name refl)
-sx_of words (task_job (sx_task command)) is named = (command, is.says)
-sx_of words (task_job (show_task command)) is named = absurd (name_differs (slice_get words 0) named is.says.name refl)
-sx_of words (task_job (make_task command)) is named = absurd (name_differs (slice_get words 0) named is.says.name refl)
-
 -- words of `serve` are those of no other command
 pub not_both : (words : List (List ℕ)) (command : Serve) (task : Task) → IsJob words (serve_job command) → IsJob words (task_job task) → ⊥
 not_both words command (gtfsrt_task other) is and = name_differs (slice_get words 0) is.says.name and.says.name refl
@@ -221,10 +203,6 @@ reads_none words (siri_task other) command is and = absurd (name_differs (slice_
 reads_none words (sx_task other) command is and = absurd (name_differs (slice_get words 0) is.says.name and.says.name refl)
 reads_none words (show_task other) command is and = absurd (name_differs (slice_get words 0) is.says.name and.says.name refl)
 reads_none words (make_task other) command is and = refl
-
--- words name one address
-pub listens : (words : List (List ℕ)) (a b : Serve) → IsJob words (serve_job a) → IsJob words (serve_job b) → a.listen ≡ b.listen
-listens words a b is and = same_Some _ _ (sym is.says.listen ∙ and.says.listen)
 
 -- what is read at a place where a value is known to be is the value
 pub read_at : {A : Type 0} (f : List ℕ → Option A) (words : List (List ℕ)) (k : ℕ) (known value : A) (word : List ℕ)

@@ -2,17 +2,12 @@
 use Rattle.std.proofs.Common.{◌≡◌, ℕ, List, All, Result, Ok, Err, IfOk, sym, subst, ℤ}
 use Rattle.gw_base.specs.Moments.{IsMoment}
 use Rattle.stop_schedule.specs.Sound.{IsSound}
-use Rattle.journey_model.specs.Schedules.{FitsSchedule, Schedule}
+use Rattle.journey_model.specs.Schedules.{Schedule}
 use Rattle.journey_model.specs.declared.readings.DatedReading.{DatedReading}
-use Rattle.propagation.specs.Feeds.{IsServable}
 use Rattle.siri_calls.specs.DeliveryTree.{delivery_text}
 use Rattle.siri_calls.specs.SaidAgain.{SaysAgain}
 use Rattle.siri_calls.specs.Sayable.{IsSayable}
 use Rattle.siri_calls.proofs.SaidAgain.{says_again}
-
--- readings that can be served fit the timetable, and their trips are there
-pub all_fit : (schedule : Schedule) (journeys : List DatedReading) → All (IsServable schedule) journeys → All (λ one. FitsSchedule schedule one.trip.0 one.day one.reading) journeys
-all_fit schedule journeys all = λ k d less. (all k d less).fits_schedule
 
 -- a text that says them says them again
 pub says_all : {E : Type 0} → (schedule : Schedule) (moment : ℤ) (journeys : List DatedReading) (text : Result (List ℕ) E)

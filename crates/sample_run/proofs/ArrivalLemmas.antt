@@ -129,9 +129,6 @@ pub record HasArrived (setting : Setting) (texts rest : List (List ℕ)) (now : 
   pub stands : Stands now arrivals
   pub back : (answer : Result (List Arrival) SampleFault) → Arrives setting rest arrivals answer → Arrives setting texts [] answer
 
-pub none_yet : (setting : Setting) (texts : List (List ℕ)) (now : Kept) → Stands now [] → HasArrived setting texts texts now
-none_yet setting texts now stands = record { arrivals = []; stands = stands; back = λ answer h. h }
-
 -- the next text was taken
 pub goes_on : (setting own : Setting) (texts rest left : List (List ℕ)) (text : List ℕ) (before now : Kept) → own ≡ setting → rest ≡ text ∷ left
     → HasArrived setting texts rest before

@@ -40,14 +40,6 @@ behind_said said trip (one ∷ others) h = by (one.trip.0 == trip) refl
     by true e = let same : one.trip.0 ≡ trip = grind (arith, nat_tests) in subst (λ (n : ℕ). AreSaid said (n + 1) others) same h.3
     by false e = (grind (arith, nat_tests, h.0), λ later from below. h.1 later (omega arith) below, h.2, h.3)
 
-pub behind_all : (P : DatedReading → Type 0) (trip : ℕ) (rest : List DatedReading) → AllByRecursion P rest → AllByRecursion P (behind trip rest)
-behind_all P trip [] h = tt
-behind_all P trip (one ∷ others) h = by (one.trip.0 == trip)
-  where
-    by : (b : Bool) → AllByRecursion P (cond b others (one ∷ others))
-    by true = h.1
-    by false = h
-
 -- ---- the readings of a feed
 
 -- readings of trips from a number on

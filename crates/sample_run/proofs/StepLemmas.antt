@@ -1,5 +1,5 @@
 -- Steps of the work on a sample, by their answers.
-use Rattle.std.proofs.Common.{◌≡◌, ◌∙◌, ◌<◌, ◌≤◌, [], ℕ, ℤ, true, false, List, length, Result, Ok, Err, refl, sym, ap, subst, inl, inr, arith}
+use Rattle.std.proofs.Common.{◌≡◌, ◌∙◌, ◌≤◌, [], ℕ, ℤ, true, false, List, length, Result, Ok, Err, refl, sym, ap, subst, inl, inr, arith}
 use Rattle.std.specs.Prelude.{⊤, nat_le, sum_by}
 use Rattle.std.specs.Bool.{MatchBool}
 use Rattle.std.proofs.lemmas.Bool.Decides.{nat_tests}
@@ -91,11 +91,6 @@ in_limit {A} setting arrivals text now answer short took = by answer took
     by : (answer : Result A SampleFault) → UnlessFree is_free answer (Takes (IsTaken setting arrivals text) arrivals now) → UnlessFree is_free answer (Takes (IsDelivered setting arrivals text) arrivals now)
     by (Ok done) (records, is, stands) = (records, (text, fits, is), stands)
     by (Err end) h = unless_free {T = A} {U = A} is_free end (Takes (IsTaken setting arrivals text) arrivals now) (Takes (IsDelivered setting arrivals text) arrivals now) (λ is. inr (text, fits, is)) h
-
-pub over_limit : (A : Type 0) (setting : Setting) (arrivals : List Arrival) (text : List ℕ) (now : Kept) → body_limit < length text
-    → Takes {A = A} (IsDelivered setting arrivals text) arrivals now (Err TooLong)
-over_limit A setting arrivals text now long =
-    let no : nat_le (length text) body_limit ≡ false = grind (arith, nat_tests) in inl (rw no refl)
 
 -- ---- the feed
 

@@ -1,5 +1,5 @@
 -- Tallies of stops that stand one after the other, and of stops that all read alike.
-use Rattle.std.proofs.Common.{◌≡◌, ◌∙◌, ◌++◌, ◌+◌, ◌*◌, ◌≤◌, ℕ, List, length, sym, ap, arith}
+use Rattle.std.proofs.Common.{◌≡◌, ◌∙◌, ◌++◌, ◌+◌, ◌≤◌, ℕ, List, length, sym, ap, arith}
 use Rattle.std.proofs.lemmas.List.Sums.{count_by-le-length, sum_by-append}
 use Rattle.std.specs.Prelude.{cond}
 use Rattle.journey_model.specs.declared.readings.StopReading.{StopReading}
@@ -15,12 +15,6 @@ tally-append xs ys = λ i. record {
   absent = sum_by-append (λ one. cond (is_absent one) 1 0) xs ys i;
   timed = sum_by-append (λ one. cond (is_timed one) 1 0) xs ys i;
 }
-
-once : (n : ℕ) → n * 1 ≡ n
-once n = omega arith
-
-never : (n : ℕ) → n * 0 ≡ 0
-never n = omega arith
 
 -- no count is over the number of stops
 pub tally_within : (readings : List StopReading) (most : ℕ) → length readings ≤ most → IsWithin most (tally readings)

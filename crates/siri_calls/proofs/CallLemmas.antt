@@ -25,16 +25,6 @@ pub one_more : (zone : Rules) (all : Result (List (Option Call)) Fault) (found :
     → Ok one ≡ call zone tree → SoFar zone all found (tree ∷ left) → SoFar zone all (found ++ one ∷ []) left
 one_more zone all found tree left one is so_far = more found one (calls zone left) ∙ (rw (← is) at so_far)
 
-same_fault : (found : List (Option Call)) (all : Result (List (Option Call)) Fault) (fault : Fault)
-    → Err fault ≡ ok_map (λ rest. found ++ rest) all → all ≡ Err fault
-same_fault found (Ok rest) fault e = cc
-same_fault found (Err other) fault e = cc
-
--- a call that is refused
-pub one_refused : (zone : Rules) (all : Result (List (Option Call)) Fault) (old found : List (Option Call)) (tree : Data) (left : List Data) (fault : Fault)
-    → Err fault ≡ call zone tree → SoFar zone (ok_map (λ rest. old ++ rest) all) found (tree ∷ left) → all ≡ Err fault
-one_refused zone all old found tree left fault is so_far = same_fault old all fault (rw (← is) at so_far)
-
 -- the calls of two lists of trees
 pub calls-append : (zone : Rules) (a b : List Data) → calls zone (a ++ b) ≡ (calls zone a >>= (λ before. ok_map (λ rest. before ++ rest) (calls zone b)))
 calls-append zone [] b = empty (calls zone b)

@@ -1,5 +1,5 @@
 -- The frames below deliveries, one delivery after the other.
-use Rattle.std.proofs.Common.{◌≡◌, ◌∙◌, refl, sym, ap, Bool, true, false, ◌&&◌, List, [], ◌∷◌, ◌++◌, map, Result, Ok, Err, if◌then◌else◌}
+use Rattle.std.proofs.Common.{◌≡◌, ◌∙◌, refl, sym, ap, Bool, true, false, ◌&&◌, List, ◌∷◌, ◌++◌, map, Result, Ok, Err, if◌then◌else◌}
 use Rattle.std.specs.List.{list_all, flat_map}
 use Rattle.std.proofs.lemmas.List.{append_assoc}
 use Rattle.std.proofs.lemmas.List.Folds.{list_all-append}
@@ -62,7 +62,3 @@ one_refused all found place left delivery.NotJson e so_far = e
 one_refused all found place left (delivery.NotDelivery member) e so_far =
     sym so_far ∙ (rw (all_objects-append (frames_below place) (flat_map frames_below left), e) refl)
 one_refused all found place left delivery.Memory e so_far = tt
-
-pub none_found : (all : Result (List Place) Member) → ok_map (λ rest. [] ++ rest) all ≡ all
-none_found (Ok rest) = refl
-none_found (Err fault) = refl

@@ -1,5 +1,5 @@
 -- The places of calls, one after the other.
-use Rattle.std.proofs.Common.{◌≡◌, ◌∙◌, ◌+◌, ◌-◌, ◌<◌, ℕ, zero, suc, Bool, true, false, cond, List, [], ◌∷◌, ◌++◌, append_assoc, append-nil, drop, get_or, length, position, Option, Some, None, option_map, Result, Ok, Err, refl, ap, sym, nat_le}
+use Rattle.std.proofs.Common.{◌≡◌, ◌∙◌, ◌+◌, ◌-◌, ◌<◌, ℕ, zero, suc, Bool, true, false, cond, List, [], ◌∷◌, ◌++◌, append_assoc, drop, get_or, length, position, Option, Some, None, option_map, Result, Ok, Err, refl, ap, sym, nat_le}
 use Rattle.std.proofs.Math.Bool.{or-true}
 use Rattle.std.proofs.lemmas.List.{drop_more}
 use Rattle.std.specs.List.{list_any}
@@ -55,18 +55,11 @@ pub record SoFar (run : Run) (all left : List (ℕ × Call)) (after : Option ℕ
   pub stops : stops_named run all ≡ ok_map (λ rest. named ++ rest) (stops_named run left)
   pub places : (rest : List (ℕ × (ℕ × Call))) → placed_calls run.stops None (named ++ rest) ≡ ok_map (λ more. placed ++ more) (placed_calls run.stops after rest)
 
-nothing : {A : Type 0} (all : Result (List A) Fault) → all ≡ ok_map (λ rest. [] ++ rest) all
-nothing (Ok rest) = refl
-nothing (Err fault) = refl
-
 -- one more in front of the others is one more after the first
 one-more : {A : Type 0} (front : List A) (x : A) (others : Result (List A) Fault)
     → ok_map (λ rest. front ++ rest) (others >>= λ found. Ok (x ∷ found)) ≡ ok_map (λ rest. (front ++ x ∷ []) ++ rest) others
 one-more front x (Ok others) = ap Ok (sym (append_assoc front (x ∷ []) others))
 one-more front x (Err fault) = refl
-
-pub none_yet : (run : Run) (all : List (ℕ × Call)) → SoFar run all all None []
-none_yet run all = record { named = []; stops = nothing (stops_named run all); places = λ rest. nothing (placed_calls run.stops None rest) }
 
 module _ (run : Run) (all left : List (ℕ × Call)) (after : Option ℕ) (placed : List (ℕ × (ℕ × Call))) (one : ℕ × Call) (so_far : SoFar run all (one ∷ left) after placed) where
   -- one call more has a place
@@ -114,11 +107,6 @@ module _ (run : Run) (all left : List (ℕ × Call)) (after : Option ℕ) (place
       by (Err other) e is = ap Err (sym is)
       by (Ok every) e is = step every (stop_named run one.1.stop) refl (stops_named run left) (sym e ∙ so_far.stops) ∙ ap Err (sym is)
 
--- no call is left
-pub all_placed : (run : Run) (all : List (ℕ × Call)) (after : Option ℕ) (placed : List (ℕ × (ℕ × Call))) → SoFar run all [] after placed
-    → (stops_named run all >>= λ named. placed_calls run.stops None named) ≡ Ok placed
-all_placed run all after placed so_far = rw so_far.stops (so_far.places [] ∙ ap Ok (append-nil placed))
-
 -- ---- the fault of calls without a place
 
 -- a call whose stop the trip has doesn't count
@@ -132,17 +120,6 @@ passed_over run late number (Some one) others known = by (stop_named run one.sto
     by None e later = absurd (cc)
     by (Some stop) e (Ok rest) = refl
     by (Some stop) e (Err fault) = refl
-
-pub unknown_stop : (run : Run) (late number : ℕ) (one : Option Call) (others : List (Option Call)) → true ≡ is_unknown run one
-    → unplaced late (stops_named run (numbered number (one ∷ others))) ≡ UnknownStop number
-unknown_stop run late number None others unknown = absurd (cc)
-unknown_stop run late number (Some one) others unknown = by (stop_named run one.stop) unknown
-  where
-    by : (found : Option ℕ) → true ≡ not (is_some found)
-        → unplaced late (ok_or found (UnknownStop number) >>= λ stop. stops_named run (numbered (number + 1) others) >>= λ rest. Ok ((stop, (number, one)) ∷ rest))
-        ≡ UnknownStop number
-    by None e = refl
-    by (Some stop) e = absurd (cc)
 
 -- what is left begins with the item at hand
 pub left_at : {A : Type 0} (xs : List A) (i : ℕ) (x : A) → i < length xs → x ≡ get_or xs i x → drop i xs ≡ x ∷ drop (i + 1) xs

@@ -119,12 +119,6 @@ pub calls_on : (run : Run) (place : ℕ) (row : StopRow) (reading : StopReading)
 calls_on run place row reading all later order row-at reading-at =
     rw (dropped run.stops place row row-at, dropped all place reading reading-at) refl
 
--- the journey at a place and those after it
-pub journeys_on : (schedule : Schedule) (moment : ℤ) (all : List DatedReading) (later : Bool) (place : ℕ) (one : DatedReading) → slice_get all place ≡ Some one
-    → journeys_text later schedule moment (drop place all)
-    ≡ comma_if later ++ journey_text_on schedule moment one (run_on schedule one.trip.0 one.day) ++ journeys_text true schedule moment (drop (place + 1) all)
-journeys_on schedule moment all later place one here = rw (dropped all place one here) refl
-
 -- ---- pieces written one after the other
 
 pub two_pieces : (out one two a b : List ℕ) → one ≡ out ++ a → two ≡ one ++ b → two ≡ out ++ (a ++ b)

@@ -1,10 +1,9 @@
 -- The times that a journey says are moments.
-use Rattle.std.proofs.Common.{◌≡◌, ℕ, ℤ, pos, map, ap, ◌+ℤ◌, ◌-ℤ◌, ◌≤◌, ◌<◌, Bool, true, false, ◌&&◌, List, [], ◌∷◌, length, slice_get, Option, Some, None, option_map, sym, nat_le, refl, arith, suc, zero}
+use Rattle.std.proofs.Common.{◌≡◌, ℕ, ℤ, pos, map, ap, ◌+ℤ◌, ◌-ℤ◌, ◌≤◌, ◌<◌, Bool, true, false, ◌&&◌, List, [], ◌∷◌, length, slice_get, Some, nat_le, refl, arith, suc, zero}
 use Rattle.std.specs.List.{list_all}
 use Rattle.std.proofs.lemmas.Bool.Decides.{nat_tests}
 use Rattle.std.proofs.lemmas.Int.{ints}
 use Rattle.service_day.specs.Starts.{IsDayStart}
-use Rattle.service_day.specs.Windows.{start_in}
 use Rattle.gw_base.specs.Moments.{IsMoment}
 use Rattle.stop_schedule.specs.Planned.{planned}
 use Rattle.stop_schedule.specs.Stops.{is_timed}
@@ -12,7 +11,6 @@ use Rattle.stop_schedule.specs.declared.stop_times.StopRow.{StopRow}
 use Rattle.journey_model.proofs.Delays.{delay-range}
 use Rattle.journey_model.specs.Readings.{are_near, fits_trip, is_near}
 use Rattle.journey_model.specs.Runs.{Run}
-use Rattle.journey_model.specs.Schedules.{Schedule, run_from, run_on}
 use Rattle.journey_model.specs.Times.{is_delay}
 use Rattle.journey_model.specs.declared.readings.JourneyReading.{JourneyReading}
 use Rattle.journey_model.specs.declared.readings.JourneyReading.TheVariants.{Cancelled, Stops}
@@ -26,20 +24,11 @@ both : (a b : Bool) → (a && b) ≡ true → (a ≡ true) × (b ≡ true)
 both true b h = (refl, h)
 both false b h = absurd (cc)
 
--- a time at most 99:59:59 after a start of a service day
-within_day : (start : ℤ) (seconds : ℕ) → IsDayStart start → seconds ≤ 359999 → IsMoment (start +ℤ pos seconds)
-within_day start seconds day few = omega (arith, ints, day)
-
 -- the times of a stop, as facts
 few : (row : StopRow) → is_timed row ≡ true → (row.arrival ≤ 359999) × (row.departure ≤ 359999)
 few row timed =
     let h = both (nat_le row.arrival 359999) (nat_le row.departure 359999) timed in
     (grind (arith, nat_tests, h.0), grind (arith, nat_tests, h.1))
-
-pub planned_times : (start : ℤ) (row : StopRow) → IsDayStart start → is_timed row ≡ true
-    → IsMoment (planned start row).0 × IsMoment (planned start row).1
-planned_times start row day timed =
-    (within_day start row.arrival day (few row timed).0, within_day start row.departure day (few row timed).1)
 
 -- a time at most a week from a planned one
 near_moment : (start : ℤ) (seconds : ℕ) (time : ℤ) → IsDayStart start → seconds ≤ 359999 → is_delay (time -ℤ (start +ℤ pos seconds)) ≡ true → IsMoment time
@@ -98,11 +87,3 @@ skipped_there (row ∷ rows) (suc place) within = skipped_there rows place (omeg
 pub fits_near : (run : Run) (reading : JourneyReading) → fits_trip run.start run.stops reading ≡ true → are_near run.start run.stops (stop_readings run reading) ≡ true
 fits_near run Cancelled fits = all_skipped run.start run.stops
 fits_near run (Stops readings) fits = fits
-
--- a trip on a day has the trip's stops
-pub stops_on : (schedule : Schedule) (trip : ℕ) (day : ℤ) (run : Run) → run_on schedule trip day ≡ Some run → run.stops ≡ schedule.table.stops_of trip
-stops_on schedule trip day run is = by (start_in schedule.window day) is
-  where
-    by : (start : Option ℤ) → option_map (run_from schedule.table trip) start ≡ Some run → run.stops ≡ schedule.table.stops_of trip
-    by None h = absurd (cc)
-    by (Some start) h = let same : run_from schedule.table trip start ≡ run = cc in sym (ap (λ r. r.stops) same)

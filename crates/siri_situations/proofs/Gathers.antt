@@ -1,5 +1,5 @@
 -- What is read of trees, one after the other.
-use Rattle.std.proofs.Common.{◌≡◌, ◌∙◌, refl, ap, sym, List, [], ◌∷◌, ◌++◌, append_assoc, Result, Ok, Err}
+use Rattle.std.proofs.Common.{◌≡◌, ◌∙◌, refl, ap, sym, List, ◌∷◌, ◌++◌, append_assoc, Result, Ok, Err}
 use Rattle.gw_base.specs.Chains.{◌>>=◌}
 use Rattle.journey_model.specs.declared.fault.Fault.{Fault}
 use Rattle.serde_json.specs.Data.{Data}
@@ -35,11 +35,6 @@ pub refused : {A : Type 0} (read : Data → Result (List A) Fault) (all : Result
     → IsFaultOf (read tree) fault → SoFar read (ok_map (λ rest. old ++ rest) all) found (tree ∷ left) → IsFaultOf all fault
 refused read all old found tree left (Aside fault) is so_far = one_refused read all old found tree left fault (sym is) so_far
 refused read all old found tree left Memory is so_far = tt
-
--- where nothing was found before
-pub none_before : {A E : Type 0} (all : Result (List A) E) → ok_map (λ rest. [] ++ rest) all ≡ all
-none_before (Ok rest) = refl
-none_before (Err fault) = refl
 
 -- what one tree gives was put after what was found
 pub one_added : {A E : Type 0} (read : Data → Result (List A) E) (all : Result (List A) E) (found new : List A) (tree : Data) (left : List Data)
