@@ -1,22 +1,20 @@
 -- The order of work of the commands: the timetable, the zone, the window, each further file and its content. Each step
 -- finds something or ends the work, and the first end counts.
-use Rattle.std.specs.Prelude.{◌≡◌, ℕ, ℤ, pos, List, [], ◌∷◌, ◌++◌, codes, length, nat_le, if◌then◌else◌, Bool, true, false, Option, Some, None, IfSome, Result, Ok, Err}
+use Rattle.std.specs.Prelude.{◌≡◌, ℕ, ℤ, List, [], ◌∷◌, ◌++◌, codes, length, nat_le, if◌then◌else◌, Bool, true, false, Option, Some, None, IfSome, Result, Ok, Err}
 use Rattle.std.specs.Bool.{MatchBool}
-use Rattle.std.specs.Ordering.{int_eq}
 use Rattle.std.specs.Str.{bytes_eq}
 use Rattle.gw_base.specs.Directory.{bytes_of}
 use Rattle.gw_base.specs.Steps.{◌>>=◌}
 use Rattle.gw_base.specs.declared.messages.Feed.{Feed}
 use Rattle.gw_base.specs.Limits.{body_limit}
-use Rattle.feed_reading.specs.Faults.{HasFault, IsTold}
-use Rattle.feed_reading.specs.Tables.{MeansFeed}
+use Rattle.feed_reading.specs.Faults.{IsTold}
 use Rattle.feed_reading.specs.declared.fault.FeedFault.{FeedFault}
 use Rattle.journey_model.specs.declared.report.Report.{Report}
 use Rattle.propagation.specs.Feeds.{IsReading}
 use Rattle.propagation.specs.declared.feeds.FeedReading.{FeedReading}
 use Rattle.show_command.specs.Lines.{shown as shown_lines}
 use Rattle.reverse_alerts.specs.Sx.{IsSx}
-use Rattle.reverse_calls.specs.Siri.{HasTooMany, IsSiri}
+use Rattle.reverse_calls.specs.Siri.{HasTooMany, IsSiri, is_differential}
 use Rattle.service_day.specs.Windows.{IsWindow}
 use Rattle.service_day.specs.Zones.{IsRuleZone, IsBadRule, IsTableZone, IsBadTable}
 use Rattle.service_day.specs.declared.zones.Rules.{Rules}
@@ -34,6 +32,7 @@ use Rattle.gateway_core.specs.Recording.{IsRebuiltOf}
 use Rattle.gateway_core.specs.Reports.{feed_report}
 use Rattle.gateway_core.specs.Taking.{TakesJourneys, TakesSituations}
 use Rattle.gateway_core.specs.declared.setting.Setting.{Setting}
+use Rattle.gateway_server.specs.Bodies.{IsFeed}
 use Rattle.sample_run.specs.Counts.{counts_text}
 use Rattle.sample_run.specs.Sample.{IsCountOfSample}
 use Rattle.sample_run.specs.declared.counts.SampleCounts.{SampleCounts}
@@ -193,12 +192,12 @@ IsToGtfsrtWork command files = do
 
 -- the feed that bytes mean, or the end that their fault is
 abbrev pub IsFeedIn : List ℕ → List ℕ → Result Feed Exit → Type 0
-IsFeedIn name body (Ok feed) = MeansFeed body feed × ((fault : FeedFault) → ¬ HasFault body fault)
+IsFeedIn name body (Ok feed) = IsFeed body feed
 IsFeedIn name body (Err end) = (fault : FeedFault) × IsTold body fault × (end ≡ feed_end name fault)
 
 -- the feed, which is a full dataset: one that only tells what changed is refused
 abbrev pub full : List ℕ → Feed → Result Feed Exit
-full name feed = if int_eq feed.incrementality (pos 1) then Err (differential_end name) else Ok feed
+full name feed = if is_differential feed then Err (differential_end name) else Ok feed
 
 abbrev pub IsFullDataset : List ℕ → Feed → Result Feed Exit → Type 0
 IsFullDataset name feed answer = answer ≡ full name feed

@@ -4,7 +4,7 @@ ghost use Rattle.std.specs.List.{list_all};
 ghost use Rattle.latest_store.specs.Entities as spec;
 
 use gw_base::trip_relation::{CANCELED, SCHEDULED};
-use gw_base::{Entity, List, StopUpdate, Text, TripDescriptor, TripUpdate};
+use gw_base::{Text, TripDescriptor};
 use journey_model::{JourneyReading, StopReading};
 use std::alloc::{AllocError, Global};
 

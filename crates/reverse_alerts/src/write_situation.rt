@@ -15,6 +15,10 @@ ghost use Rattle.reverse_alerts.specs.Taken.{situation_of};
 use crate::selectors::NamedRefs;
 use crate::senses::{cause_of, effect_of, first_text, holding};
 use crate::write_affects::put_affects;
+use gw_base::alert_cause::{OTHER_CAUSE, TECHNICAL_PROBLEM, WEATHER};
+use gw_base::alert_effect::{
+    ADDITIONAL_SERVICE, DETOUR, MODIFIED_SERVICE, NO_SERVICE, SIGNIFICANT_DELAYS,
+};
 use gw_base::{Alert, Bytes, Moment, Period, Translation};
 use siri_calls::{put_comma, put_moment, put_text};
 use std::alloc::AllocError;
@@ -25,11 +29,11 @@ fn condition_of(effect: &i32) -> Option<&'static str>
     ensures { option_copied result ≡ tree.condition_of effect.now }
 {
     match *effect {
-        1 => Some("noService"),
-        3 => Some("delayed"),
-        4 => Some("diverted"),
-        5 => Some("additionalService"),
-        6 => Some("altered"),
+        NO_SERVICE => Some("noService"),
+        SIGNIFICANT_DELAYS => Some("delayed"),
+        DETOUR => Some("diverted"),
+        ADDITIONAL_SERVICE => Some("additionalService"),
+        MODIFIED_SERVICE => Some("altered"),
         _ => None,
     }
 }
@@ -54,9 +58,9 @@ fn reason_of(cause: &i32) -> Option<&'static str>
     ensures { option_copied result ≡ tree.reason_of cause.now }
 {
     match *cause {
-        3 => Some("EquipmentReason"),
-        8 => Some("EnvironmentReason"),
-        2 => Some("MiscellaneousReason"),
+        TECHNICAL_PROBLEM => Some("EquipmentReason"),
+        WEATHER => Some("EnvironmentReason"),
+        OTHER_CAUSE => Some("MiscellaneousReason"),
         _ => None,
     }
 }

@@ -7,8 +7,8 @@ use http_talk::{Answer, Refusal, answer_head};
 use std::alloc::Global;
 use std::process::Abort;
 
-// A delivery by which T1 is a minute late at each stop, what is shown then, the same as a feed, and the SIRI delivery of
-// it.
+// A delivery by which T1 is a minute late at each stop, what is shown then, the same as a feed, and the SIRI delivery
+// of it.
 static ROUND: [Row; 4] = [
     (
         b"POST /siri/et HTTP/1.1\r\nContent-Length: 621\r\n\r\n\
@@ -89,8 +89,8 @@ fn is_whole(entry: &Entry, row: &Row, body: &[u8]) -> bool {
     entry.input.as_slice() == row.0 && is_answered(entry, row.2, &row.3, body)
 }
 
-// Whether an output is a front of an answer.
-fn is_front(output: &[u8], kind: &Answer, body: &[u8]) -> bool {
+// Whether an output is a prefix of an answer.
+fn is_prefix(output: &[u8], kind: &Answer, body: &[u8]) -> bool {
     let head = answer_head(kind, body.len() as u64);
     let head = head.as_slice();
     if output.len() <= head.len() {
@@ -100,16 +100,16 @@ fn is_front(output: &[u8], kind: &Answer, body: &[u8]) -> bool {
     }
 }
 
-// Whether a failed call may leave an entry: nothing is answered where a read failed, of a failed clock is told, and else
-// the entry has the front of its answer.
+// Whether a failed call may leave an entry: nothing is answered where a read failed, of a failed clock is told, and
+// else the entry has a prefix of its answer.
 fn is_lawful(entry: &Entry, row: &Row, body: &[u8]) -> bool {
     let output = entry.output.as_slice();
     match entry.mark {
         Mark::Lost => output.is_empty(),
         Mark::ClockFault => {
-            entry.moment.is_none() && is_front(output, &Answer::Refused(Refusal::Clock), b"H500 Clock\n")
+            entry.moment.is_none() && is_prefix(output, &Answer::Refused(Refusal::Clock), b"H500 Clock\n")
         }
-        mark => mark == row.2 && entry.moment.is_some() && is_front(output, &row.3, body),
+        mark => mark == row.2 && entry.moment.is_some() && is_prefix(output, &row.3, body),
     }
 }
 
