@@ -1,6 +1,6 @@
-//! A GTFS Realtime feed becomes what it says of every stop of every journey: delays are propagated along a trip, and the
-//! updates of a feed are read over a timetable. The definitions stand in `journey_model`; those of a feed that is read,
-//! whole or entity by entity, in `specs/Feeds.antt` and `specs/Folding.antt`.
+//! A GTFS Realtime feed becomes what it says of every stop of every journey: delays are propagated along a trip, and
+//! the updates of a feed are read over a timetable. The definitions stand in `journey_model`; those of a feed that is
+//! read, whole or entity by entity, in `specs/Feeds.antt` and `specs/Folding.antt`.
 #![tactic(auto)]
 
 mod dating;

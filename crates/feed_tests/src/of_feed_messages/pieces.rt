@@ -136,7 +136,11 @@ fn a_feed_in_pieces_is_read(rt: HostRuntime) -> Result<(), Fail> {
     let (header, split) = SPLIT.split_at(15);
     for entity in [LATE.as_slice(), split] {
         // the header comes last, or a part of it before the entity
-        for (first, last) in [(b"".as_slice(), header), (VERSION, OTHERS), (OTHERS, VERSION)] {
+        for (first, last) in [
+            (b"".as_slice(), header),
+            (VERSION, OTHERS),
+            (OTHERS, VERSION),
+        ] {
             let mut bytes = List::new(rt.alloc());
             bytes.extend(first)?;
             bytes.extend(entity)?;

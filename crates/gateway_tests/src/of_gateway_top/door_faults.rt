@@ -107,7 +107,8 @@ fn is_lawful(entry: &Entry, row: &Row, body: &[u8]) -> bool {
     match entry.mark {
         Mark::Lost => output.is_empty(),
         Mark::ClockFault => {
-            entry.moment.is_none() && is_prefix(output, &Answer::Refused(Refusal::Clock), b"H500 Clock\n")
+            entry.moment.is_none()
+                && is_prefix(output, &Answer::Refused(Refusal::Clock), b"H500 Clock\n")
         }
         mark => mark == row.2 && entry.moment.is_some() && is_prefix(output, &row.3, body),
     }
@@ -178,7 +179,10 @@ fn each_call_fails_alone(rt: HostRuntime) {
     assert!(rt; calls >= 17 && calls < 39, "calls of the door");
     for call in 1..5_u64 {
         let went = run_with(&rt, alloc, &[], &[call]);
-        assert!(rt; went.off == 1 && is_at_most(&went, 1), "call {call} of the clock");
+        assert!(rt;
+            went.off == 1 && is_at_most(&went, 1),
+            "call {call} of the clock"
+        );
     }
     assert_eq!(rt; run_with(&rt, alloc, &[], &[5]), UNDISTURBED);
 }
@@ -192,7 +196,13 @@ fn two_failed_calls_cost_no_more_than_two_connections(rt: HostRuntime) {
         let first = 1 + drawn / 65_536 % 20;
         let second = first + 1 + drawn / 1_024 % 20;
         let clock = 1 + drawn / 256 % 4;
-        assert!(rt; is_at_most(&run_with(&rt, alloc, &[first, second], &[]), 2), "round {round}");
-        assert!(rt; is_at_most(&run_with(&rt, alloc, &[first], &[clock]), 2), "round {round} with the clock");
+        assert!(rt;
+            is_at_most(&run_with(&rt, alloc, &[first, second], &[]), 2),
+            "round {round}"
+        );
+        assert!(rt;
+            is_at_most(&run_with(&rt, alloc, &[first], &[clock]), 2),
+            "round {round} with the clock"
+        );
     }
 }
