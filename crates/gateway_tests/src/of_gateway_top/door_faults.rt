@@ -114,15 +114,15 @@ fn is_lawful(entry: &Entry, row: &Row, body: &[u8]) -> bool {
     }
 }
 
-// How a run went, by its status and its log.
-fn outcome_of(status: u8, log: &[Entry]) -> Outcome {
+// How a run of these rows went, by its status and its log.
+fn outcome_of(status: u8, log: &[Entry], rows: &[Row]) -> Outcome {
     let mut arrived = Arrived {
         delivery: false,
         feed: false,
     };
     let mut off: usize = 0;
     let mut are_lawful = true;
-    for (place, (entry, row)) in log.iter().zip(&ROUND).enumerate() {
+    for (place, (entry, row)) in log.iter().zip(rows).enumerate() {
         let body = body_of(row, place, arrived);
         if !is_whole(entry, row, body) {
             off = off.saturating_add(1);
@@ -143,7 +143,7 @@ fn outcome_of(status: u8, log: &[Entry]) -> Outcome {
 fn run_with(rt: &impl Abort, alloc: Global, fails: &[u64], clock_fails: &[u64]) -> Outcome {
     let mut door = door(rt, alloc, inputs(rt, alloc, &ROUND), 100_000, fails);
     let status = run_rows(rt, alloc, SERVE, &ROUND, &mut door, clock_fails);
-    outcome_of(status, door.log())
+    outcome_of(status, door.log(), &ROUND)
 }
 
 const UNDISTURBED: Outcome = Outcome {
