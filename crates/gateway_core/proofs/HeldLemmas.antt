@@ -1,9 +1,9 @@
 -- The latest of a key, when one more arrives.
-use Rattle.std.proofs.Common.{◌≡◌, ◌∙◌, ◌++◌, ◌∷◌, [], ℕ, suc, Bool, true, false, not, ◌||◌, List, Option, Some, None, sym, ap, refl, subst}
-use Rattle.std.proofs.lemmas.Bool.{true≢false}
+use Rattle.std.proofs.Common.{◌≡◌, ◌∙◌, ◌++◌, ◌∷◌, [], ℕ, suc, Bool, true, false, cond, not, ◌||◌, List, Option, Some, None, sym, ap, refl, subst}
+use Rattle.std.proofs.lemmas.Bool.{or_left, or_right, true≢false}
 use Rattle.std.proofs.lemmas.List.{append_assoc}
 use Rattle.std.proofs.lemmas.List.Folds.{list_any-append}
-use Rattle.std.specs.Prelude.{slice_get}
+use Rattle.std.specs.Prelude.{filter, slice_get}
 use Rattle.std.specs.List.{AllByRecursion, list_any}
 use Rattle.latest_store.specs.Latest.{HasLatestOf, IsLatestOf}
 use Rattle.gateway_core.specs.Winners.{counts_by}
@@ -24,6 +24,11 @@ none_joined p xs ys h k = list_any-append p xs ys ∙ (rw (h, k) refl)
 one_none : {X : Type 0} (p : X → Bool) (x : X) → p x ≡ false → list_any p (x ∷ []) ≡ false
 one_none p x h = rw h refl
 
+-- one of the elements passes a test
+pub passes_among : {X : Type 0} (test : X → Bool) (before behind : List X) (one : X) → test one ≡ true → list_any test (before ++ one ∷ behind) ≡ true
+passes_among test [] behind one e = or_left (test one) (list_any test behind) e
+passes_among test (first ∷ before) behind one e = or_right (test first) (list_any test (before ++ one ∷ behind)) (passes_among test before behind one e)
+
 -- ---- what holds of all
 
 pub all_among : {A : Type 0} (P : A → Type 0) (before : List A) (one : A) (behind : List A) → AllByRecursion P (before ++ one ∷ behind) → P one
@@ -34,9 +39,18 @@ all_at : {X : Type 0} (P : X → Type 0) (xs : List X) → ((i : ℕ) (x : X) �
 all_at P [] f = tt
 all_at P (x ∷ xs) f = (f 0 x refl, all_at P xs (λ i y h. f (suc i) y h))
 
-all_weaker : {X : Type 0} (P Q : X → Type 0) → ((x : X) → P x → Q x) → (xs : List X) → AllByRecursion P xs → AllByRecursion Q xs
+pub all_weaker : {X : Type 0} (P Q : X → Type 0) → ((x : X) → P x → Q x) → (xs : List X) → AllByRecursion P xs → AllByRecursion Q xs
 all_weaker P Q f [] h = tt
 all_weaker P Q f (x ∷ xs) h = (f x h.0, all_weaker P Q f xs h.1)
+
+-- what holds of all holds of those that pass a test
+pub all_filtered : {X : Type 0} (P : X → Type 0) (p : X → Bool) (xs : List X) → AllByRecursion P xs → AllByRecursion P (filter p xs)
+all_filtered P p [] h = tt
+all_filtered {X} P p (x ∷ xs) h = by (p x) (all_filtered P p xs h.1)
+  where
+    by : (b : Bool) → AllByRecursion P (filter p xs) → AllByRecursion P (cond b (x ∷ filter p xs) (filter p xs))
+    by true rest = (h.0, rest)
+    by false rest = rest
 
 pub all_joined : {X : Type 0} (P : X → Type 0) (xs ys : List X) → AllByRecursion P xs → AllByRecursion P ys → AllByRecursion P (xs ++ ys)
 all_joined P [] ys h k = k

@@ -19,7 +19,7 @@ use Rattle.gateway_core.specs.Feeds.{are_ordered_by}
 use Rattle.gateway_core.specs.Keeping.{AreLatest, Keeps, above, at_key, below, with_one}
 use Rattle.gateway_core.specs.Taking.{with_room}
 use Rattle.gateway_core.specs.Winners.{IsKeyed, counts_by}
-use Rattle.gateway_core.proofs.HeldLemmas.{all_among, all_joined}
+use Rattle.gateway_core.proofs.HeldLemmas.{all_among, all_filtered, all_joined}
 use Rattle.gateway_core.proofs.LatestLemmas.{key_is, latest_filter, latest_put, latest_same, none_behind, own, room_is}
 use Rattle.gateway_core.proofs.OrderedLemmas.{map-put, some_found}
 use Rattle.gateway_core.proofs.RollLemmas.{all_with_room, filter_all}
@@ -72,15 +72,6 @@ taken_same : {A : Type 0} (verdicts : List (Result A Fault)) (fault : Fault) →
 taken_same {A} verdicts fault = filter_map-append (λ (verdict : Result A Fault). result_ok verdict) verdicts (Err fault ∷ []) ∙ append-nil (taken verdicts)
 
 -- ---- entries
-
--- what holds of all holds of those that pass a test
-pub all_filtered : {X : Type 0} (P : X → Type 0) (p : X → Bool) (xs : List X) → AllByRecursion P xs → AllByRecursion P (filter p xs)
-all_filtered P p [] h = tt
-all_filtered {X} P p (x ∷ xs) h = by (p x) (all_filtered P p xs h.1)
-  where
-    by : (b : Bool) → AllByRecursion P (filter p xs) → AllByRecursion P (cond b (x ∷ filter p xs) (filter p xs))
-    by true rest = (h.0, rest)
-    by false rest = rest
 
 module _ {A Q E : Type 0} (cmp : Q → Q → Ordering) (key_of : A → Q) (is_its : Q → A → Bool) (is_later : A → A → Bool)
     (keyed : IsKeyed cmp key_of is_its is_later) (comes_before : A → A → Bool)

@@ -5,7 +5,7 @@ use Rattle.std.proofs.lemmas.Cmp.{eq_by_cmp_equiv}
 use Rattle.std.proofs.lemmas.List.Elements.{filter-append}
 use Rattle.std.proofs.lemmas.Map.Views.{any-filter_same}
 use Rattle.std.specs.Prelude.{find, filter, is_some, length, nat_lt}
-use Rattle.std.specs.List.{AllByRecursion, list_all, list_any}
+use Rattle.std.specs.List.{list_all, list_any}
 use Rattle.std.specs.Ordering.{is_eq, is_lt}
 use Rattle.std.specs.declared.cmp.Ordering.{Ordering}
 use Rattle.std.specs.declared.cmp.Ordering.TheVariants.{Less, Equal, Greater}
@@ -14,16 +14,8 @@ use Rattle.latest_store.specs.Latest.{HasLatestOf}
 use Rattle.gateway_core.specs.Winners.{IsKeyed, counts_by}
 use Rattle.gateway_core.specs.Feeds.{are_ordered_by}
 use Rattle.gateway_core.specs.Arrivals.{firsts, has_room}
-use Rattle.gateway_core.proofs.HeldLemmas.{IsEarlier, IsNoLater, latest_at, latest_other, latest_stays}
+use Rattle.gateway_core.proofs.HeldLemmas.{IsEarlier, IsNoLater, all_filtered, latest_at, latest_other, latest_stays, passes_among}
 use Rattle.gateway_core.proofs.OrderedLemmas.{find_filter, find_put, none_found, of_key, ordered_filter, put_ordered, some_found}
-
-all_filtered : {X : Type 0} (P : X → Type 0) (p : X → Bool) (xs : List X) → AllByRecursion P xs → AllByRecursion P (filter p xs)
-all_filtered P p [] h = tt
-all_filtered {X} P p (x ∷ xs) h = by (p x) (all_filtered P p xs h.1)
-  where
-    by : (b : Bool) → AllByRecursion P (filter p xs) → AllByRecursion P (cond b (x ∷ filter p xs) (filter p xs))
-    by true rest = (h.0, rest)
-    by false rest = rest
 
 all_stay : {X : Type 0} (p : X → Bool) (xs : List X) → list_any p xs ≡ false → filter (λ x. not (p x)) xs ≡ xs
 all_stay p [] h = refl
@@ -201,15 +193,7 @@ module _ {A Q : Type 0} (cmp : Q → Q → Ordering) (key_of : A → Q) (is_its 
   -- what is found is there
   any_found : (q : Q) (all : List A) (found : Option A) → HasLatestOf (is_its q) is_later all found → list_any (is_its q) all ≡ is_some found
   any_found q all None h = h
-  any_found q all (Some one) h = ap (list_any (is_its q)) h.among ∙ passes h.before
-    where
-      passes : (before : List A) → list_any (is_its q) (before ++ one ∷ h.behind) ≡ true
-      passes [] = ap (λ (b : Bool). b || list_any (is_its q) h.behind) h.its
-      passes (x ∷ before) = rw (passes before) (or_true (is_its q x))
-        where
-          or_true : (b : Bool) → (b || true) ≡ true
-          or_true true = refl
-          or_true false = refl
+  any_found q all (Some one) h = ap (list_any (is_its q)) h.among ∙ passes_among (is_its q) h.before h.behind one h.its
 
   any_is : (q : Q) (xs : List A) → list_any (is_its q) xs ≡ is_some (find (is_its q) xs)
   any_is q xs = by (find (is_its q) xs) refl

@@ -1,6 +1,6 @@
 -- What is rebuilt is one: of all only one counts, and a list in order is known by what is found in it.
 use Rattle.std.proofs.Common.{◌≡◌, ◌∙◌, ◌++◌, ◌∷◌, ◌&&◌, ◌||◌, ℕ, ℤ, List, [], Bool, true, false, cond, Option, Some, None, refl, sym, ap, subst, arith}
-use Rattle.std.proofs.lemmas.Bool.{and_parts, both_ways, or_left, or_right}
+use Rattle.std.proofs.lemmas.Bool.{and_parts, both_ways}
 use Rattle.std.proofs.lemmas.Cmp.{eq_by_cmp_equiv}
 use Rattle.std.proofs.lemmas.Int.{ints}
 use Rattle.std.proofs.lemmas.Option.{none-some, same_Some}
@@ -17,14 +17,10 @@ use Rattle.feed_writing.specs.Written.{written_feed}
 use Rattle.latest_store.specs.Latest.{HasLatestOf, IsLatestOf, has_number, is_newer, is_of, was_later}
 use Rattle.gateway_core.specs.Feeds.{CountAlike, IsRebuilt, are_ordered_by, comes_before, entities_of, has_lesser_number}
 use Rattle.gateway_core.specs.Winners.{IsKeyed, has_key, key_cmp, key_of}
-use Rattle.gateway_core.proofs.HeldLemmas.{IsEarlier, IsNoLater, all_among}
+use Rattle.gateway_core.proofs.HeldLemmas.{IsEarlier, IsNoLater, all_among, passes_among}
 use Rattle.gateway_core.proofs.WinnerLemmas.{journeys, numbers}
 
 -- ---- only one counts
-
-passes : {X : Type 0} (test : X → Bool) (before behind : List X) (one : X) → test one ≡ true → list_any test (before ++ one ∷ behind) ≡ true
-passes test [] behind one e = or_left (test one) (list_any test behind) e
-passes test (first ∷ before) behind one e = or_right (test first) (list_any test (before ++ one ∷ behind)) (passes test before behind one e)
 
 module _ {A : Type 0} (is_its : A → Bool) (is_later : A → A → Bool) where
   same_place : (a b : A) (before_a behind_a before_b behind_b : List A) → before_a ++ a ∷ behind_a ≡ before_b ++ b ∷ behind_b
@@ -50,7 +46,7 @@ module _ {A : Type 0} (is_its : A → Bool) (is_later : A → A → Bool) where
 
   not_none : (all : List A) (one : A) → list_any is_its all ≡ false → IsLatestOf is_its is_later all one → ⊥
   not_none all one none latest =
-      both_ways (list_any is_its all) none (ap (list_any is_its) latest.among ∙ passes is_its latest.before latest.behind one latest.its)
+      both_ways (list_any is_its all) none (ap (list_any is_its) latest.among ∙ passes_among is_its latest.before latest.behind one latest.its)
 
   pub same_counts : (all : List A) (a b : Option A) → HasLatestOf is_its is_later all a → HasLatestOf is_its is_later all b → a ≡ b
   same_counts all None None of_a of_b = refl

@@ -13,7 +13,7 @@ use Rattle.std.specs.declared.cmp.Ordering.{Ordering}
 use Rattle.latest_store.specs.Latest.{HasLatestOf, IsLatestOf}
 use Rattle.gateway_core.specs.Winners.{IsKeyed}
 use Rattle.gateway_core.specs.Arrivals.{admit, firsts, has_room}
-use Rattle.gateway_core.proofs.HeldLemmas.{IsEarlier, IsNoLater, all_joined}
+use Rattle.gateway_core.proofs.HeldLemmas.{IsEarlier, IsNoLater, all_joined, all_weaker}
 use Rattle.gateway_core.proofs.LatestLemmas.{AreDistinct, any_firsts, distinct_firsts, fewer, key_is, no_other, own}
 
 -- ---- elements
@@ -43,10 +43,6 @@ among_all (y ∷ before) x behind = there y x (before ++ x ∷ behind) (among_al
 front_holds : {X : Type 0} (P : X → Type 0) (before behind : List X) → AllByRecursion P (before ++ behind) → AllByRecursion P before
 front_holds P [] behind h = tt
 front_holds P (x ∷ before) behind h = (h.0, front_holds P before behind h.1)
-
-weaker : {X : Type 0} (P R : X → Type 0) → ((x : X) → P x → R x) → (xs : List X) → AllByRecursion P xs → AllByRecursion R xs
-weaker P R f [] h = tt
-weaker P R f (x ∷ xs) h = (f x h.0, weaker P R f xs h.1)
 
 -- the last that passes a test
 record IsLast {X : Type 0} (t : X → Bool) (xs : List X) : Type 0 where
@@ -102,7 +98,7 @@ filter_has {X} p (x ∷ xs) = by (p x) refl (filter_has p xs)
         → (p x ≡ true → Contains (cond b (x ∷ filter p xs) (filter p xs)) x) × AllByRecursion (λ y. p y ≡ true → Contains (cond b (x ∷ filter p xs) (filter p xs)) y) xs
     by true e rest = (
       (λ passes. here x (filter p xs)),
-      weaker (λ y. p y ≡ true → Contains (filter p xs) y) (λ y. p y ≡ true → Contains (x ∷ filter p xs) y) (λ y f passes. there x y (filter p xs) (f passes)) xs rest,
+      all_weaker (λ y. p y ≡ true → Contains (filter p xs) y) (λ y. p y ≡ true → Contains (x ∷ filter p xs) y) (λ y f passes. there x y (filter p xs) (f passes)) xs rest,
     )
     by false e rest = ((λ passes. absurd (both_ways (p x) e passes)), rest)
 
@@ -146,7 +142,7 @@ module _ {A : Type 0} (is_its : A → Bool) (is_later : A → A → Bool) (never
       no_later =
           subst (AllByRecursion (IsNoLater is_its is_later one)) (sym h.among)
           (all_joined (IsNoLater is_its is_later one) h.before (one ∷ h.behind) h.none_later
-          ((λ its. no_self one), weaker (IsEarlier is_its is_later one) (IsNoLater is_its is_later one) (λ other earlier its. never_both one other (earlier its)) h.behind h.all_earlier))
+          ((λ its. no_self one), all_weaker (IsEarlier is_its is_later one) (IsNoLater is_its is_later one) (λ other earlier its. never_both one other (earlier its)) h.behind h.all_earlier))
 
       tested : (other : A) → (is_its other && not (is_later one other)) ≡ true → (is_its other ≡ true) × (is_later one other ≡ false)
       tested other e =
@@ -190,7 +186,7 @@ module _ {A : Type 0} (is_its : A → Bool) (is_later : A → A → Bool) (never
             (all_from (IsNoLater is_its is_later one) ys (λ x c. holds_of (IsNoLater is_its is_later one) xs no_later x (back x c)))));
         all_earlier =
             subst (λ (z : A). AllByRecursion (IsEarlier is_its is_later z) last.behind) (sym same)
-            (weaker (λ x. (is_its x && not (is_later one x)) ≡ false) (IsEarlier is_its is_later one) all_earlier last.behind
+            (all_weaker (λ x. (is_its x && not (is_later one x)) ≡ false) (IsEarlier is_its is_later one) all_earlier last.behind
             (none_pass (λ other. is_its other && not (is_later one other)) last.behind last.no_more));
       }
 

@@ -24,14 +24,11 @@ use Rattle.gateway_core.specs.Deliveries.{taken}
 use Rattle.gateway_core.specs.Feeds.{are_ordered_by, comes_before}
 use Rattle.gateway_core.specs.Taking.{with_room}
 use Rattle.gateway_core.specs.declared.setting.Setting.{Setting}
+use Rattle.gateway_core.proofs.HeldLemmas.{all_weaker}
 use Rattle.gateway_core.proofs.RoomLemmas.{admits}
 use Rattle.gateway_core.proofs.WindowLemmas.{among, window_from-is}
 
 -- ---- tests over lists
-
-pub all_weaker : {X : Type 0} (P Q : X → Type 0) → ((x : X) → P x → Q x) → (xs : List X) → AllByRecursion P xs → AllByRecursion Q xs
-all_weaker P Q f [] h = tt
-all_weaker P Q f (x ∷ xs) h = (f x h.0, all_weaker P Q f xs h.1)
 
 all_more : {X : Type 0} (P : X → Type 0) (xs : List X) (x : X) → AllByRecursion P xs → P x → AllByRecursion P (xs ++ x ∷ [])
 all_more P [] x h p = (p, tt)

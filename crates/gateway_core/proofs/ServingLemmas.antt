@@ -30,9 +30,10 @@ use Rattle.gateway_core.specs.declared.keys.Edition.{Edition}
 use Rattle.gateway_core.specs.declared.keys.JourneyKey.{JourneyKey}
 use Rattle.gateway_core.specs.declared.setting.Setting.{Setting}
 use Rattle.gateway_core.proofs.GivesLemmas.{gives_each}
+use Rattle.gateway_core.proofs.HeldLemmas.{all_weaker}
 use Rattle.gateway_core.proofs.KeepsLemmas.{all_latest}
 use Rattle.gateway_core.proofs.RecordingLemmas.{filter_of}
-use Rattle.gateway_core.proofs.RollLemmas.{all_admitted, all_weaker, within_servable}
+use Rattle.gateway_core.proofs.RollLemmas.{all_admitted, within_servable}
 use Rattle.gateway_core.proofs.ServedLemmas.{run_stays}
 use Rattle.gateway_core.proofs.StandingLemmas.{journeys_by_key}
 use Rattle.gateway_core.proofs.WinnerLemmas.{journeys as journeys_keyed}

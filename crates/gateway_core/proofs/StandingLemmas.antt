@@ -23,9 +23,10 @@ use Rattle.gateway_core.specs.Standing.{IsAlertServed, IsLastSiri, IsServed, Jou
 use Rattle.gateway_core.specs.Taking.{journeys_with_room, situations_with_room}
 use Rattle.gateway_core.specs.Winners.{has_key, key_cmp, key_of}
 use Rattle.gateway_core.specs.declared.setting.Setting.{Setting}
+use Rattle.gateway_core.proofs.HeldLemmas.{all_weaker}
 use Rattle.gateway_core.proofs.KeepsLemmas.{all_latest, keeps_none}
 use Rattle.gateway_core.proofs.LatestLemmas.{latest_filter}
-use Rattle.gateway_core.proofs.RollLemmas.{all_weaker, entity_stays, filter_all, filter_alike, first_rises, has_gone, left_are, present_journeys, present_rolls, within_at}
+use Rattle.gateway_core.proofs.RollLemmas.{entity_stays, filter_all, filter_alike, first_rises, has_gone, left_are, present_journeys, present_rolls, within_at}
 use Rattle.gateway_core.proofs.RecordingLemmas.{filter_of}
 use Rattle.gateway_core.proofs.RoomLemmas.{admits}
 use Rattle.gateway_core.proofs.ServedLemmas.{run_stays, served_stays}

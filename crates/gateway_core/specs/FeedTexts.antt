@@ -5,9 +5,10 @@ use Rattle.feed_reading.specs.Tables.{MeansFeed}
 use Rattle.feed_reading.specs.Faults.{HasFault, IsFeedFault}
 use Rattle.feed_reading.specs.declared.fault.FeedFault as faults
 use Rattle.feed_reading.specs.declared.fault.FeedFault.TheVariants as fault
+use Rattle.journey_model.specs.FeedReadings.{is_differential}
 use Rattle.journey_model.specs.Schedules.{Schedule}
 use Rattle.journey_model.specs.declared.report.Report.{Report}
-use Rattle.reverse_calls.specs.Siri.{HasTooMany, IsSiri, is_differential}
+use Rattle.reverse_calls.specs.Siri.{HasTooMany, IsSiri}
 use Rattle.gateway_core.specs.declared.accepted.FeedRefusal.{FeedRefusal}
 use Rattle.gateway_core.specs.declared.accepted.FeedRefusal.TheVariants as refusal
 

@@ -7,6 +7,7 @@ use Rattle.gw_base.specs.declared.messages.Feed.{Feed}
 use Rattle.feed_reading.specs.Tables.{MeansFeed}
 use Rattle.feed_reading.specs.Faults.{HasFault, IsFeedFault}
 use Rattle.journey_model.specs.FaultTexts.{fault_text}
+use Rattle.journey_model.specs.FeedReadings.{is_differential}
 use Rattle.journey_model.specs.Records.{Recorded}
 use Rattle.journey_model.specs.declared.fault.Fault.{Fault}
 use Rattle.journey_model.specs.declared.fault.Fault.TheVariants.{EntityTooLong, Full}
@@ -17,7 +18,7 @@ use Rattle.siri_calls.specs.Verdicts as journey_items
 use Rattle.siri_json.specs.Deliveries.{passed_count, tree_of, without_count}
 use Rattle.siri_situations.specs.Situations as situation_verdicts
 use Rattle.stop_schedule.specs.Seen.{seen}
-use Rattle.reverse_calls.specs.Siri.{HasTooMany, IsSiri, is_differential}
+use Rattle.reverse_calls.specs.Siri.{HasTooMany, IsSiri}
 use Rattle.gateway_core.specs.Alerts.{alert_len, alert_limit}
 use Rattle.stop_schedule.specs.Table.{Table}
 use Rattle.service_day.specs.Windows.{DayStarts}

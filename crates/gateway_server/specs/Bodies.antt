@@ -6,13 +6,14 @@ use Rattle.feed_reading.specs.Faults.{HasFault, IsFeedFault}
 use Rattle.feed_reading.specs.Tables.{MeansFeed}
 use Rattle.feed_reading.specs.declared.fault.FeedFault.{FeedFault}
 use Rattle.feed_reading.specs.declared.fault.FeedFault.TheVariants as feed_fault
+use Rattle.journey_model.specs.FeedReadings.{is_differential}
 use Rattle.journey_model.specs.Schedules.{Schedule}
 use Rattle.journey_model.specs.declared.report.Report.{Report}
 use Rattle.serde_json.specs.Data.{Data}
 use Rattle.siri_calls.specs.Verdicts as journey_items
 use Rattle.siri_json.specs.Deliveries.{tree_of}
 use Rattle.siri_situations.specs.Situations as situation_items
-use Rattle.reverse_calls.specs.Siri.{HasTooMany, is_differential}
+use Rattle.reverse_calls.specs.Siri.{HasTooMany}
 use Rattle.gateway_core.specs.Arrivals.{Arrival, Given, feed, journeys, situations}
 use Rattle.gateway_core.specs.Taking.{TakesFeed, TakesJourneys, TakesSituations}
 use Rattle.gateway_core.specs.declared.setting.Setting.{Setting}

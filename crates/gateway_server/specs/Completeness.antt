@@ -6,6 +6,7 @@ use Rattle.gw_base.specs.declared.door.Mark.{Mark}
 use Rattle.gw_base.specs.declared.door.Mark.TheVariants as mark
 use Rattle.gw_base.specs.declared.messages.Feed.{Feed}
 use Rattle.http_talk.specs.declared.refusal.Refusal.TheVariants as refusal
+use Rattle.journey_model.specs.FeedReadings.{is_differential}
 use Rattle.journey_model.specs.Records.{Recorded}
 use Rattle.journey_model.specs.Schedules.{Schedule}
 use Rattle.journey_model.specs.declared.fault.Fault.{Fault}
@@ -17,7 +18,7 @@ use Rattle.siri_json.specs.Deliveries.{passed_count, tree_of, without_count}
 use Rattle.siri_calls.specs.Verdicts as journey_items
 use Rattle.siri_situations.specs.Situations as situation_items
 use Rattle.stop_schedule.specs.Seen.{seen}
-use Rattle.reverse_calls.specs.Siri.{HasTooMany, is_differential}
+use Rattle.reverse_calls.specs.Siri.{HasTooMany}
 use Rattle.gateway_core.specs.Arrivals.{Arrival, admitted, admitted_situations, firsts, is_same_journey, is_same_number, is_within, moments_of, most_journeys, most_numbers, schedule_at, window_at}
 use Rattle.gateway_core.specs.Taking.{limited_verdicts}
 use Rattle.gateway_core.specs.declared.setting.Setting.{Setting}

@@ -75,10 +75,10 @@ shows Cause setting entries now lawful earlier entry later is shown =
 
 -- connections that were served over the setting of the words show as told
 pub headline : (Cause End : Type 0) (words : List (List ℕ)) (files : Directory) (command : Serve) (setting : Setting) (told : Connections) (clock : Change (List ℤ)) (now : Beside)
-    → IsJob words (serve_job command) → IsSettingOf command.over (Some command.keep) files (Ok setting)
+    → IsJob words (serve_job command) → IsSettingOf command.scope (Some command.keep) files (Ok setting)
     → Served Cause End command.connections setting told clock now
     → Headline Cause words files told now
-headline Cause End words files command setting told clock now accepted over served = record {
+headline Cause End words files command setting told clock now accepted setting_is served = record {
   entries = served.entries;
   left = served.left;
   logged = served.logged;
@@ -86,7 +86,7 @@ headline Cause End words files command setting told clock now accepted over serv
     command = command;
     accepted = accepted;
     setting = setting;
-    over = is_setting command.over (Some command.keep) files setting over;
+    has_setting = is_setting command.scope (Some command.keep) files setting setting_is;
     shows = shows Cause setting served.entries served.arrived served.lawful earlier entry later is shown;
   };
 }
@@ -119,7 +119,7 @@ pub of_run : (words : List (List ℕ)) (command : Serve) (ended : ℕ) (files : 
 of_run words command ended files err doorway accepted runs = by files.before runs.answer runs.work runs.ends
   where
     by : (before : Option Directory) (answer : Result Setting Exit)
-        → IfSome before (λ folder. UnlessFree is_free answer (IsSettingOf command.over (Some command.keep) folder)) → EndsServer command answer ended err doorway
+        → IfSome before (λ folder. UnlessFree is_free answer (IsSettingOf command.scope (Some command.keep) folder)) → EndsServer command answer ended err doorway
         → IfSome before (λ folder. (told : Connections) → Tells doorway.output.before doorway.before told → Headline (HasFailed doorway.output) words folder told doorway.now)
     by None answer work ends = tt
     by (Some folder) (Ok setting) work ends = λ told tells.

@@ -1,9 +1,6 @@
 -- What is published where the work was done.
-use Rattle.std.proofs.Common.{◌≡◌, ◌≢◌, ℕ, pos, Bool, true, false, List, length, Result, Ok, Err, Option, Some, None, IfSome, codes, ◌++◌, sym, ap, subst, ◌∙◌, refl, if◌then◌else◌}
-use Rattle.std.specs.Ordering.{int_eq}
+use Rattle.std.proofs.Common.{◌≡◌, ℕ, Bool, true, false, List, length, Result, Ok, Err, Option, Some, None, IfSome, codes, ◌++◌, sym, ap, subst, ◌∙◌, refl, if◌then◌else◌}
 use Rattle.std.specs.Prelude.{nat_le}
-use Rattle.std.proofs.lemmas.Bool.{true≢false}
-use Rattle.std.proofs.lemmas.Bool.Decides.{Decides-int_eq}
 use Rattle.gw_base.specs.Directory.{bytes_of}
 use Rattle.gw_base.specs.Told.{with_bytes}
 use Rattle.gw_base.specs.declared.messages.Feed.{Feed}
@@ -16,6 +13,7 @@ use Rattle.stop_schedule.specs.Timetable.{timetable}
 use Rattle.stop_schedule.specs.declared.timetable.Timetable.{Timetable}
 use Rattle.stop_schedule.specs.declared.table_fault.TableFault.{TableFault}
 use Rattle.feed_reading.specs.Tables.{MeansFeed}
+use Rattle.journey_model.specs.FeedReadings.{is_differential}
 use Rattle.gateway_top.specs.Bodies.{differential_end}
 use Rattle.gateway_top.specs.Done.{Done}
 use Rattle.gateway_top.specs.Published.{IsFullFeed, IsSetting, IsZone, Publishes, PublishesCounts, PublishesFeed, PublishesLines, PublishesSiri, PublishesSituations, PublishesTask}
@@ -46,34 +44,31 @@ found_zone : (named : NamedZone) (files : Directory) (zone : Rules) → IsNamedZ
 found_zone (by_rule text) files zone is = is
 found_zone (by_file path) files zone (bytes, read, is) = (bytes, found_body zone_limit path (bytes_of files path) bytes read, is)
 
-pub is_setting : (over : Scope) (keep : Option ℕ) (files : Directory) (setting : Setting) → IsSettingOf over keep files (Ok setting) → IsSetting over keep files setting
-is_setting over keep files setting (table, folder_is, (zone, zone_is, (table_same, zone_same, window_is, keeps))) = record {
-  folder = subst (λ (t : Timetable). timetable files over.gtfs ≡ Ok (seen t)) (sym table_same) (found_table over.gtfs (timetable files over.gtfs) (seen table) folder_is);
-  zone = subst (λ (z : Rules). IsZone over.zone files z) (sym zone_same) (found_zone over.zone files zone zone_is);
-  window = subst (λ (z : Rules). IsWindow z over.from over.days setting.window) (sym zone_same) window_is;
+pub is_setting : (scope : Scope) (keep : Option ℕ) (files : Directory) (setting : Setting) → IsSettingOf scope keep files (Ok setting) → IsSetting scope keep files setting
+is_setting scope keep files setting (table, folder_is, (zone, zone_is, (table_same, zone_same, window_is, keeps))) = record {
+  folder = subst (λ (t : Timetable). timetable files scope.gtfs ≡ Ok (seen t)) (sym table_same) (found_table scope.gtfs (timetable files scope.gtfs) (seen table) folder_is);
+  zone = subst (λ (z : Rules). IsZone scope.zone files z) (sym zone_same) (found_zone scope.zone files zone zone_is);
+  window = subst (λ (z : Rules). IsWindow z scope.from scope.days setting.window) (sym zone_same) window_is;
   keeps = keeps;
 }
 
 -- a feed that was read of a file is a full dataset
-found_full : (name : List ℕ) (read feed : Feed) → Ok feed ≡ full name read → (feed ≡ read) × (read.incrementality ≢ pos 1)
-found_full name read feed e = by (int_eq read.incrementality (pos 1)) refl e
+found_full : (name : List ℕ) (read feed : Feed) → Ok feed ≡ full name read → (feed ≡ read) × (is_differential read ≡ false)
+found_full name read feed e = by (is_differential read) refl e
   where
-    by : (b : Bool) → int_eq read.incrementality (pos 1) ≡ b → ◌≡◌ {A = Result Feed Exit} (Ok feed) (if b then Err (differential_end name) else Ok read)
-        → (feed ≡ read) × (read.incrementality ≢ pos 1)
-    by true e h = absurd cc
-    by false e h = (cc, λ same. false_test e same)
-      where
-        false_test : int_eq read.incrementality (pos 1) ≡ false → read.incrementality ≡ pos 1 → ⊥
-        false_test e same = true≢false (sym ((Decides-int_eq read.incrementality (pos 1)).1 same) ∙ e)
+    by : (b : Bool) → is_differential read ≡ b → ◌≡◌ {A = Result Feed Exit} (Ok feed) (if b then Err (differential_end name) else Ok read)
+        → (feed ≡ read) × (is_differential read ≡ false)
+    by true is h = absurd cc
+    by false is h = (cc, is)
 
 is_full_feed : (name : List ℕ) (files : Directory) (feed : Feed) → IsFileFeed name files (Ok feed) → IsFullFeed name files feed
-is_full_feed name files feed (body, held, (read, means, full_is)) =
+is_full_feed name files feed (body, file, (read, means, full_is)) =
     let same = found_full name read feed full_is in
     record {
       body = body;
-      held = found_body body_limit name (bytes_of files name) body held;
+      file = found_body body_limit name (bytes_of files name) body file;
       means = subst (λ f. MeansFeed body f) (sym same.0) means.0;
-      full = subst (λ (f : Feed). f.incrementality ≢ pos 1) (sym same.0) same.1;
+      full = subst (λ (f : Feed). is_differential f ≡ false) (sym same.0) same.1;
     }
 
 -- the feed of what arrived gives just the readings of the latest records
@@ -82,7 +77,7 @@ feed_published : (files : Directory) (command : ToGtfsrt) (done : Done) (before 
 feed_published files command done before now (setting, setting_is, (arrived, read, converted)) written =
     record {
       setting = setting;
-      over = is_setting command.over None files setting setting_is;
+      has_setting = is_setting command.scope None files setting setting_is;
       arrived = arrived;
       read = read;
       bytes = done.out;
@@ -97,7 +92,7 @@ siri_published : (files : Directory) (command : ToSiri) (done : Done) (before no
 siri_published files command done before now (setting, setting_is, (feed, read, (report, says, reported))) written =
     record {
       setting = setting;
-      over = is_setting command.over None files setting setting_is;
+      has_setting = is_setting command.scope None files setting setting_is;
       feed = feed;
       read = is_full_feed command.feed files feed read;
       text = done.out;
@@ -112,7 +107,7 @@ situations_published : (files : Directory) (command : ToSiri) (done : Done) (bef
 situations_published files command done before now (setting, setting_is, (feed, read, (report, says, reported))) written =
     record {
       setting = setting;
-      over = is_setting command.over None files setting setting_is;
+      has_setting = is_setting command.scope None files setting setting_is;
       feed = feed;
       read = is_full_feed command.feed files feed read;
       text = done.out;
@@ -127,7 +122,7 @@ lines_published : (files : Directory) (command : Show) (done : Done) (before now
 lines_published files command done before now (setting, setting_is, (feed, read, (reading, is_reading, lines, none))) written =
     record {
       setting = setting;
-      over = is_setting command.over None files setting setting_is;
+      has_setting = is_setting command.scope None files setting setting_is;
       feed = feed;
       read = is_full_feed command.feed files feed read;
       reading = reading;

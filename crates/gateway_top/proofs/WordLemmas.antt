@@ -63,17 +63,17 @@ serve_read : (name : List ℕ) (words : List (List ℕ)) → name ≡ codes "ser
     → (command : Serve) × SaysServe (name ∷ words) command
 unfolding serve
 serve_read name words named pairs =
-    let over = scoped (codes "serve") (keep_pair ∷ listen_pair ∷ connections_pair ∷ []) no_pair name words pairs in
+    let scope = scoped (codes "serve") (keep_pair ∷ listen_pair ∷ connections_pair ∷ []) no_pair name words pairs in
     let pair = pair_in (codes "serve") (keep_pair ∷ listen_pair ∷ connections_pair ∷ []) no_pair name words pairs in
     let keep = pair 4 (omega arith) in
     let listen = pair 5 (omega arith) in
     let connections = pair 6 (omega arith) in
     let days = kept (day_count keep.0) (kept_count keep.2) keep.7 in
     let count = some_of (connection_count connections.2) connections.7 in (
-      record { over = over.0; keep = days.0; listen = listen.2; connections = count.0 },
+      record { scope = scope.0; keep = days.0; listen = listen.2; connections = count.0 },
       record {
         name = ap Some named;
-        over = over.1;
+        scope = scope.1;
         keep = ap (option_and_then kept_count) keep.5 ∙ days.1;
         listen = listen.5;
         connections = ap (option_and_then connection_count) connections.5 ∙ count.1;
@@ -84,47 +84,47 @@ gtfsrt_read : (name : List ℕ) (words : List (List ℕ)) → name ≡ codes "to
     → (command : ToGtfsrt) × SaysToGtfsrt (name ∷ words) command
 unfolding to_gtfsrt
 gtfsrt_read name words named pairs =
-    let over = scoped (codes "to-gtfsrt") (at_pair ∷ []) to_gtfsrt.repeated name words pairs in
+    let scope = scoped (codes "to-gtfsrt") (at_pair ∷ []) to_gtfsrt.repeated name words pairs in
     let at = pair_in (codes "to-gtfsrt") (at_pair ∷ []) to_gtfsrt.repeated name words pairs 4 (omega arith) in
     let second = some_of (utc_of at.2) at.7 in (
-      record { over = over.0; at = second.0; more = drop 11 (name ∷ words) },
-      record { name = ap Some named; over = over.1; at = ap (option_and_then utc_of) at.5 ∙ second.1; more = refl },
+      record { scope = scope.0; at = second.0; more = drop 11 (name ∷ words) },
+      record { name = ap Some named; scope = scope.1; at = ap (option_and_then utc_of) at.5 ∙ second.1; more = refl },
     )
 
 siri_read : (name : List ℕ) (words : List (List ℕ)) → name ≡ codes "to-siri" → ArePairs to_siri 0 name words
     → (command : ToSiri) × SaysToSiri (name ∷ words) command
 unfolding to_siri
 siri_read name words named pairs =
-    let over = scoped (codes "to-siri") (at_pair ∷ feed_pair ∷ []) no_pair name words pairs in
+    let scope = scoped (codes "to-siri") (at_pair ∷ feed_pair ∷ []) no_pair name words pairs in
     let pair = pair_in (codes "to-siri") (at_pair ∷ feed_pair ∷ []) no_pair name words pairs in
     let at = pair 4 (omega arith) in
     let feed = pair 5 (omega arith) in
     let second = some_of (utc_of at.2) at.7 in (
-      record { over = over.0; at = second.0; feed = feed.2 },
-      record { name = ap Some named; over = over.1; at = ap (option_and_then utc_of) at.5 ∙ second.1; feed = feed.5 },
+      record { scope = scope.0; at = second.0; feed = feed.2 },
+      record { name = ap Some named; scope = scope.1; at = ap (option_and_then utc_of) at.5 ∙ second.1; feed = feed.5 },
     )
 
 sx_read : (name : List ℕ) (words : List (List ℕ)) → name ≡ codes "to-siri-sx" → ArePairs to_siri_sx 0 name words
     → (command : ToSiri) × SaysToSiriSx (name ∷ words) command
 unfolding to_siri_sx
 sx_read name words named pairs =
-    let over = scoped (codes "to-siri-sx") (at_pair ∷ feed_pair ∷ []) no_pair name words pairs in
+    let scope = scoped (codes "to-siri-sx") (at_pair ∷ feed_pair ∷ []) no_pair name words pairs in
     let pair = pair_in (codes "to-siri-sx") (at_pair ∷ feed_pair ∷ []) no_pair name words pairs in
     let at = pair 4 (omega arith) in
     let feed = pair 5 (omega arith) in
     let second = some_of (utc_of at.2) at.7 in (
-      record { over = over.0; at = second.0; feed = feed.2 },
-      record { name = ap Some named; over = over.1; at = ap (option_and_then utc_of) at.5 ∙ second.1; feed = feed.5 },
+      record { scope = scope.0; at = second.0; feed = feed.2 },
+      record { name = ap Some named; scope = scope.1; at = ap (option_and_then utc_of) at.5 ∙ second.1; feed = feed.5 },
     )
 
 show_read : (name : List ℕ) (words : List (List ℕ)) → name ≡ codes "show" → ArePairs show 0 name words
     → (command : Show) × SaysShow (name ∷ words) command
 unfolding show
 show_read name words named pairs =
-    let over = scoped (codes "show") (feed_pair ∷ []) no_pair name words pairs in
+    let scope = scoped (codes "show") (feed_pair ∷ []) no_pair name words pairs in
     let feed = pair_in (codes "show") (feed_pair ∷ []) no_pair name words pairs 4 (omega arith) in (
-      record { over = over.0; feed = feed.2 },
-      record { name = ap Some named; over = over.1; feed = feed.5 },
+      record { scope = scope.0; feed = feed.2 },
+      record { name = ap Some named; scope = scope.1; feed = feed.5 },
     )
 
 make_read : (name : List ℕ) (words : List (List ℕ)) → name ≡ codes "make" → ArePairs make 0 name words
@@ -258,29 +258,29 @@ has_window title further repeated name words scope pairs is =
     }
 
 -- a server has one
-pub serves : (words : List (List ℕ)) (command : Serve) → IsJob words (serve_job command) → HasWindow command.over.from command.over.days
+pub serves : (words : List (List ℕ)) (command : Serve) → IsJob words (serve_job command) → HasWindow command.scope.from command.scope.days
 unfolding commands serve to_gtfsrt to_siri to_siri_sx show make
 serves [] command is = absurd is.accepted
 serves (name ∷ words) command is =
-    has_window (codes "serve") (keep_pair ∷ listen_pair ∷ connections_pair ∷ []) no_pair name words command.over
-    (named_pairs (codes "serve") serve name words refl is.accepted is.says.name) is.says.over
+    has_window (codes "serve") (keep_pair ∷ listen_pair ∷ connections_pair ∷ []) no_pair name words command.scope
+    (named_pairs (codes "serve") serve name words refl is.accepted is.says.name) is.says.scope
 
 -- and the other commands can be carried out
 pub can_run : (words : List (List ℕ)) (task : Task) → IsJob words (task_job task) → CanRun task
 unfolding commands serve to_gtfsrt to_siri to_siri_sx show make
 can_run [] task is = absurd is.accepted
 can_run (name ∷ words) (gtfsrt_task command) is =
-    has_window (codes "to-gtfsrt") (at_pair ∷ []) to_gtfsrt.repeated name words command.over
-    (named_pairs (codes "to-gtfsrt") to_gtfsrt name words refl is.accepted is.says.name) is.says.over
+    has_window (codes "to-gtfsrt") (at_pair ∷ []) to_gtfsrt.repeated name words command.scope
+    (named_pairs (codes "to-gtfsrt") to_gtfsrt name words refl is.accepted is.says.name) is.says.scope
 can_run (name ∷ words) (siri_task command) is =
-    has_window (codes "to-siri") (at_pair ∷ feed_pair ∷ []) no_pair name words command.over
-    (named_pairs (codes "to-siri") to_siri name words refl is.accepted is.says.name) is.says.over
+    has_window (codes "to-siri") (at_pair ∷ feed_pair ∷ []) no_pair name words command.scope
+    (named_pairs (codes "to-siri") to_siri name words refl is.accepted is.says.name) is.says.scope
 can_run (name ∷ words) (sx_task command) is =
-    has_window (codes "to-siri-sx") (at_pair ∷ feed_pair ∷ []) no_pair name words command.over
-    (named_pairs (codes "to-siri-sx") to_siri_sx name words refl is.accepted is.says.name) is.says.over
+    has_window (codes "to-siri-sx") (at_pair ∷ feed_pair ∷ []) no_pair name words command.scope
+    (named_pairs (codes "to-siri-sx") to_siri_sx name words refl is.accepted is.says.name) is.says.scope
 can_run (name ∷ words) (show_task command) is =
-    has_window (codes "show") (feed_pair ∷ []) no_pair name words command.over
-    (named_pairs (codes "show") show name words refl is.accepted is.says.name) is.says.over
+    has_window (codes "show") (feed_pair ∷ []) no_pair name words command.scope
+    (named_pairs (codes "show") show name words refl is.accepted is.says.name) is.says.scope
 can_run (name ∷ words) (make_task command) is = record {
   seed_in = (in_range 0 most_seed (slice_get (name ∷ words) 2) command.seed is.says.seed).1;
   some_trip = trips.0;

@@ -57,7 +57,7 @@ pub record ShowsAsTold (Cause : Type 0) (words : List (List ℕ)) (files : Direc
   pub command : Serve
   pub accepted : IsJob words (serve_job command)
   pub setting : Setting
-  pub over : IsSetting command.over (Some command.keep) files setting
+  pub has_setting : IsSetting command.scope (Some command.keep) files setting
   pub shows : Shows Cause setting earlier entry
 
 -- over any connections: the log got entries, and each that is marked Shown shows what it is to

@@ -1,6 +1,6 @@
 -- What the commands publish, in the words of the two standards (SIRI 2.0, EstimatedVehicleJourney, PtSituationElement;
 -- GTFS Realtime 2.0, FeedMessage).
-use Rattle.std.specs.Prelude.{◌≡◌, ◌≢◌, ℕ, pos, List, Option, Some, None, Ok, IfSome}
+use Rattle.std.specs.Prelude.{◌≡◌, ℕ, false, List, Option, Some, None, Ok, IfSome}
 use Rattle.gw_base.specs.Directory.{bytes_of}
 use Rattle.gw_base.specs.Told.{with_bytes}
 use Rattle.gw_base.specs.declared.messages.Feed.{Feed}
@@ -10,6 +10,7 @@ use Rattle.service_day.specs.declared.zones.Rules.{Rules}
 use Rattle.stop_schedule.specs.Seen.{seen}
 use Rattle.stop_schedule.specs.Timetable.{timetable}
 use Rattle.feed_reading.specs.Tables.{MeansFeed}
+use Rattle.journey_model.specs.FeedReadings.{is_differential}
 use Rattle.journey_model.specs.declared.report.Report.{Report}
 use Rattle.propagation.specs.Feeds.{IsReading}
 use Rattle.propagation.specs.declared.feeds.FeedReading.{FeedReading}
@@ -34,10 +35,10 @@ IsZone (by_file path) files zone = (bytes : List ℕ) × (bytes_of files path �
 
 -- the folder has a timetable, and the days make a window in the zone that is named, of which so many days are kept as
 -- it rolls, or which stays: together they are the setting
-pub record IsSetting (over : Scope) (keep : Option ℕ) (files : Directory) (setting : Setting) : Type 0 where
-  pub folder : timetable files over.gtfs ≡ Ok (seen setting.table)
-  pub zone : IsZone over.zone files setting.zone
-  pub window : IsWindow setting.zone over.from over.days setting.window
+pub record IsSetting (scope : Scope) (keep : Option ℕ) (files : Directory) (setting : Setting) : Type 0 where
+  pub folder : timetable files scope.gtfs ≡ Ok (seen setting.table)
+  pub zone : IsZone scope.zone files setting.zone
+  pub window : IsWindow setting.zone scope.from scope.days setting.window
   pub keeps : setting.keep ≡ keep
 
 -- standard output got the feed that is rebuilt of what arrived of the files' deliveries, in order, each taken after
@@ -46,7 +47,7 @@ pub record IsSetting (over : Scope) (keep : Option ℕ) (files : Directory) (set
 -- of the last-recorded SIRI journey
 pub record PublishesFeed (command : ToGtfsrt) (files : Directory) (before now : Option (List ℕ)) : Type 0 where
   pub setting : Setting
-  pub over : IsSetting command.over None files setting
+  pub has_setting : IsSetting command.scope None files setting
   pub arrived : Arrived
   pub read : Arrives setting command.at files command.more nothing (Ok arrived)
   pub bytes : List ℕ
@@ -58,15 +59,15 @@ pub record PublishesFeed (command : ToGtfsrt) (files : Directory) (before now : 
 -- the file has these bytes, and they mean this feed, which is a full dataset
 pub record IsFullFeed (name : List ℕ) (files : Directory) (feed : Feed) : Type 0 where
   pub body : List ℕ
-  pub held : bytes_of files name ≡ Some body
+  pub file : bytes_of files name ≡ Some body
   pub means : MeansFeed body feed
-  pub full : feed.incrementality ≢ pos 1
+  pub full : is_differential feed ≡ false
 
 -- standard output got the delivery that says what the file's feed says: each call has the propagated time of its stop,
 -- and read again it gives just the journeys of the feed with their readings
 pub record PublishesSiri (command : ToSiri) (files : Directory) (before now : Option (List ℕ)) : Type 0 where
   pub setting : Setting
-  pub over : IsSetting command.over None files setting
+  pub has_setting : IsSetting command.scope None files setting
   pub feed : Feed
   pub read : IsFullFeed command.feed files feed
   pub text : List ℕ
@@ -79,7 +80,7 @@ pub record PublishesSiri (command : ToSiri) (files : Directory) (before now : Op
 -- from
 pub record PublishesSituations (command : ToSiri) (files : Directory) (before now : Option (List ℕ)) : Type 0 where
   pub setting : Setting
-  pub over : IsSetting command.over None files setting
+  pub has_setting : IsSetting command.scope None files setting
   pub feed : Feed
   pub read : IsFullFeed command.feed files feed
   pub text : List ℕ
@@ -90,7 +91,7 @@ pub record PublishesSituations (command : ToSiri) (files : Directory) (before no
 -- standard output got the lines of what the file's feed says of each journey
 pub record PublishesLines (command : Show) (files : Directory) (before now : Option (List ℕ)) : Type 0 where
   pub setting : Setting
-  pub over : IsSetting command.over None files setting
+  pub has_setting : IsSetting command.scope None files setting
   pub feed : Feed
   pub read : IsFullFeed command.feed files feed
   pub reading : FeedReading

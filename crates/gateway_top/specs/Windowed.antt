@@ -14,8 +14,8 @@ pub record HasWindow (first : ℤ) (days : ℕ) : Type 0 where
 
 -- what a command works over has a window, and the numbers of a sample are in their ranges
 abbrev pub CanRun : Task → Type 0
-CanRun (gtfsrt_task command) = HasWindow command.over.from command.over.days
-CanRun (siri_task command) = HasWindow command.over.from command.over.days
-CanRun (sx_task command) = HasWindow command.over.from command.over.days
-CanRun (show_task command) = HasWindow command.over.from command.over.days
+CanRun (gtfsrt_task command) = HasWindow command.scope.from command.scope.days
+CanRun (siri_task command) = HasWindow command.scope.from command.scope.days
+CanRun (sx_task command) = HasWindow command.scope.from command.scope.days
+CanRun (show_task command) = HasWindow command.scope.from command.scope.days
 CanRun (make_task command) = IsSample command.seed command.trips command.stops

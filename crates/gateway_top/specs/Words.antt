@@ -106,7 +106,7 @@ pub record Scope : Type 0 where
 -- what the words of `serve` say: what it works over, how many days before the local one are kept, the address, and how
 -- many connections are served
 pub record Serve : Type 0 where
-  pub over : Scope
+  pub scope : Scope
   pub keep : ℕ
   pub listen : List ℕ
   pub connections : ℕ
@@ -114,20 +114,20 @@ pub record Serve : Type 0 where
 -- what the words of `to-gtfsrt` say: what it works over, the second since 1970 at which the feed is made, and the words
 -- of the deliveries, for each a flag and a file
 pub record ToGtfsrt : Type 0 where
-  pub over : Scope
+  pub scope : Scope
   pub at : ℤ
   pub more : List (List ℕ)
 
 -- what the words of `to-siri` and of `to-siri-sx` say: what it works over, the second at which the delivery is made,
 -- and the feed's file
 pub record ToSiri : Type 0 where
-  pub over : Scope
+  pub scope : Scope
   pub at : ℤ
   pub feed : List ℕ
 
 -- what the words of `show` say: what it works over, and the feed's file
 pub record Show : Type 0 where
-  pub over : Scope
+  pub scope : Scope
   pub feed : List ℕ
 
 -- what the words of `make` say: the seed of a sample, and how many trips and stops it has
@@ -159,32 +159,32 @@ pub record SaysScope (words : List (List ℕ)) (scope : Scope) : Type 0 where
 
 pub record SaysServe (words : List (List ℕ)) (command : Serve) : Type 0 where
   pub name : slice_get words 0 ≡ Some (codes "serve")
-  pub over : SaysScope words command.over
+  pub scope : SaysScope words command.scope
   pub keep : option_and_then kept_count (slice_get words 10) ≡ Some command.keep
   pub listen : slice_get words 12 ≡ Some command.listen
   pub connections : option_and_then connection_count (slice_get words 14) ≡ Some command.connections
 
 pub record SaysToGtfsrt (words : List (List ℕ)) (command : ToGtfsrt) : Type 0 where
   pub name : slice_get words 0 ≡ Some (codes "to-gtfsrt")
-  pub over : SaysScope words command.over
+  pub scope : SaysScope words command.scope
   pub at : option_and_then utc_of (slice_get words 10) ≡ Some command.at
   pub more : drop 11 words ≡ command.more
 
 pub record SaysToSiri (words : List (List ℕ)) (command : ToSiri) : Type 0 where
   pub name : slice_get words 0 ≡ Some (codes "to-siri")
-  pub over : SaysScope words command.over
+  pub scope : SaysScope words command.scope
   pub at : option_and_then utc_of (slice_get words 10) ≡ Some command.at
   pub feed : slice_get words 12 ≡ Some command.feed
 
 pub record SaysToSiriSx (words : List (List ℕ)) (command : ToSiri) : Type 0 where
   pub name : slice_get words 0 ≡ Some (codes "to-siri-sx")
-  pub over : SaysScope words command.over
+  pub scope : SaysScope words command.scope
   pub at : option_and_then utc_of (slice_get words 10) ≡ Some command.at
   pub feed : slice_get words 12 ≡ Some command.feed
 
 pub record SaysShow (words : List (List ℕ)) (command : Show) : Type 0 where
   pub name : slice_get words 0 ≡ Some (codes "show")
-  pub over : SaysScope words command.over
+  pub scope : SaysScope words command.scope
   pub feed : slice_get words 10 ≡ Some command.feed
 
 pub record SaysMake (words : List (List ℕ)) (command : Make) : Type 0 where

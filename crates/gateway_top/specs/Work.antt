@@ -9,12 +9,13 @@ use Rattle.gw_base.specs.declared.messages.Feed.{Feed}
 use Rattle.gw_base.specs.Limits.{body_limit}
 use Rattle.feed_reading.specs.Faults.{IsTold}
 use Rattle.feed_reading.specs.declared.fault.FeedFault.{FeedFault}
+use Rattle.journey_model.specs.FeedReadings.{is_differential}
 use Rattle.journey_model.specs.declared.report.Report.{Report}
 use Rattle.propagation.specs.Feeds.{IsReading}
 use Rattle.propagation.specs.declared.feeds.FeedReading.{FeedReading}
 use Rattle.show_command.specs.Lines.{shown as shown_lines}
 use Rattle.reverse_alerts.specs.Sx.{IsSx}
-use Rattle.reverse_calls.specs.Siri.{HasTooMany, IsSiri, is_differential}
+use Rattle.reverse_calls.specs.Siri.{HasTooMany, IsSiri}
 use Rattle.service_day.specs.Windows.{IsWindow}
 use Rattle.service_day.specs.Zones.{IsRuleZone, IsBadRule, IsTableZone, IsBadTable}
 use Rattle.service_day.specs.declared.zones.Rules.{Rules}
@@ -114,9 +115,9 @@ IsSettingOver table named first days keep files = do
 
 -- what a command works over, and how many days it keeps
 abbrev pub IsSettingOf : Scope → Option ℕ → Directory → Result Setting Exit → Type 0
-IsSettingOf over keep files = do
-  table ← IsFolder over.gtfs files
-  IsSettingOver table over.zone over.from over.days keep files
+IsSettingOf scope keep files = do
+  table ← IsFolder scope.gtfs files
+  IsSettingOver table scope.zone scope.from scope.days keep files
 
 -- what a delivery's body gives at that moment after some arrivals, with the report on it; or the end that its fault is
 abbrev pub GivesJourneys : Setting → ℤ → List ℕ → List ℕ → List Arrival → Result (Given × Report) Exit → Type 0
@@ -187,7 +188,7 @@ IsConversion at setting words files = do
 -- the work of `to-gtfsrt`
 abbrev pub IsToGtfsrtWork : ToGtfsrt → Directory → Result Done Exit → Type 0
 IsToGtfsrtWork command files = do
-  setting ← IsSettingOf command.over None files
+  setting ← IsSettingOf command.scope None files
   IsConversion command.at setting command.more files
 
 -- the feed that bytes mean, or the end that their fault is
@@ -228,7 +229,7 @@ IsSiriOfFile at setting name files = do
 -- the work of `to-siri`
 abbrev pub IsToSiriWork : ToSiri → Directory → Result Done Exit → Type 0
 IsToSiriWork command files = do
-  setting ← IsSettingOf command.over None files
+  setting ← IsSettingOf command.scope None files
   IsSiriOfFile command.at setting command.feed files
 
 -- the delivery of the situations that a feed's alerts are, and the report on its entities
@@ -245,7 +246,7 @@ IsSxOfFile at setting name files = do
 -- the work of `to-siri-sx`
 abbrev pub IsToSiriSxWork : ToSiri → Directory → Result Done Exit → Type 0
 IsToSiriSxWork command files = do
-  setting ← IsSettingOf command.over None files
+  setting ← IsSettingOf command.scope None files
   IsSxOfFile command.at setting command.feed files
 
 -- the lines of what a feed says
@@ -263,7 +264,7 @@ IsLinesOfFile setting name files = do
 -- the work of `show`
 abbrev pub IsShowWork : Show → Directory → Result Done Exit → Type 0
 IsShowWork command files = do
-  setting ← IsSettingOf command.over None files
+  setting ← IsSettingOf command.scope None files
   IsLinesOfFile setting command.feed files
 
 -- the work of `make`, which reads no files: the line of the sample's counts

@@ -16,13 +16,13 @@ zone_of (File path) = by_file path.now
 
 -- what a command works over
 abbrev pub scope_of : Scope → Said
-scope_of over = record { gtfs = over.gtfs.now; zone = zone_of over.zone; from = over.from; days = over.days }
+scope_of scope = record { gtfs = scope.gtfs.now; zone = zone_of scope.zone; from = scope.from; days = scope.days }
 
 -- what `serve` says
 abbrev pub server_of : Server → Serve
 server_of server =
     record {
-      over = scope_of server.over;
+      scope = scope_of server.scope;
       keep = server.keep;
       listen = server.listen.now;
       connections = server.connections;
@@ -30,10 +30,10 @@ server_of server =
 
 -- what a command says that writes its result and ends
 abbrev pub task_of : Task → SaidTask
-task_of (ToGtfsrt over at more) = gtfsrt_task (record { over = scope_of over; at = at; more = more.now })
-task_of (ToSiri over at feed) = siri_task (record { over = scope_of over; at = at; feed = feed.now })
-task_of (ToSiriSx over at feed) = sx_task (record { over = scope_of over; at = at; feed = feed.now })
-task_of (Show over feed) = show_task (record { over = scope_of over; feed = feed.now })
+task_of (ToGtfsrt scope at more) = gtfsrt_task (record { scope = scope_of scope; at = at; more = more.now })
+task_of (ToSiri scope at feed) = siri_task (record { scope = scope_of scope; at = at; feed = feed.now })
+task_of (ToSiriSx scope at feed) = sx_task (record { scope = scope_of scope; at = at; feed = feed.now })
+task_of (Show scope feed) = show_task (record { scope = scope_of scope; feed = feed.now })
 task_of (Make seed trips stops) = make_task (record { seed = seed; trips = trips; stops = stops })
 
 -- what the command says

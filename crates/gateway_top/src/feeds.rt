@@ -1,7 +1,8 @@
 //! What the commands make of a feed's file. The functions meet `specs/Work.antt`.
-ghost use Rattle.std.specs.Prelude.{◌≡◌, ◌≢◌, ◌++◌, Ok, IfOk, IfSome, IsErrOf, codes, decimal, pos};
+ghost use Rattle.std.specs.Prelude.{◌≡◌, ◌++◌, false, Ok, IfOk, IfSome, IsErrOf, codes, decimal};
 ghost use Rattle.gw_base.specs.Answers.{UnlessFree};
 ghost use Rattle.gw_base.specs.Count.{Counts};
+ghost use Rattle.journey_model.specs.FeedReadings.{is_differential};
 ghost use Rattle.gateway_top.specs.Bodies as ends;
 ghost use Rattle.gateway_top.specs.Exits.{is_free};
 ghost use Rattle.gateway_top.specs.Work as steps;
@@ -80,7 +81,7 @@ fn feed_of(alloc: Global, name: &str, body: &[u8]) -> Result<Feed, Exit>
 // The feed, which is a full dataset.
 fn full(alloc: Global, name: &str, feed: Feed) -> Result<Feed, Exit>
     ensures told { UnlessFree is_free result (steps.IsFullDataset name.now feed) }
-    ensures full { IfOk result (λ feed. feed.incrementality ≢ pos 1) }
+    ensures full { IfOk result (λ feed. is_differential feed ≡ false) }
     ensures calm { ¬ IsErrOf result Exit.Failed }
 {
     if feed.incrementality == DIFFERENTIAL {
@@ -92,7 +93,7 @@ fn full(alloc: Global, name: &str, feed: Feed) -> Result<Feed, Exit>
 // The feed of a body, which is a full dataset.
 fn body_feed(alloc: Global, name: &str, body: &[u8]) -> Result<Feed, Exit>
     ensures told { UnlessFree is_free result (steps.IsBodyFeed name.now body.now) }
-    ensures full { IfOk result (λ feed. feed.incrementality ≢ pos 1) }
+    ensures full { IfOk result (λ feed. is_differential feed ≡ false) }
     ensures calm { ¬ IsErrOf result Exit.Failed }
 {
     let feed = feed_of(alloc, name, body)?;
@@ -102,7 +103,7 @@ fn body_feed(alloc: Global, name: &str, body: &[u8]) -> Result<Feed, Exit>
 /// The feed of a file, which is a full dataset.
 pub fn feed_file<F: Files>(alloc: Global, files: &mut F, name: &str) -> Result<Feed, Exit>
     ensures told { IfSome (F.told files.old) (λ told. UnlessFree is_free result (steps.IsFileFeed name.now told)) }
-    ensures full { IfOk result (λ feed. feed.incrementality ≢ pos 1) }
+    ensures full { IfOk result (λ feed. is_differential feed ≡ false) }
     ensures counts { Counts (IsErrOf result Exit.Failed) (F.faults files.old) (F.faults files.new) }
     ensures same { F.told files.new ≡ F.told files.old }
 {
@@ -118,7 +119,7 @@ pub fn siri_of(
     name: &str,
     feed: &Feed,
 ) -> Result<Done, Exit>
-    requires { feed.now.incrementality ≢ pos 1 }
+    requires { is_differential feed.now ≡ false }
     ensures told { UnlessFree is_free result (steps.IsSiriOf at setting.now name.now feed.now) }
     ensures calm { ¬ IsErrOf result Exit.Failed }
 {
@@ -143,7 +144,7 @@ pub fn sx_of(
     name: &str,
     feed: &Feed,
 ) -> Result<Done, Exit>
-    requires { feed.now.incrementality ≢ pos 1 }
+    requires { is_differential feed.now ≡ false }
     ensures told { UnlessFree is_free result (steps.IsSxOf at setting.now name.now feed.now) }
     ensures calm { ¬ IsErrOf result Exit.Failed }
 {

@@ -65,7 +65,7 @@ pub fn run_server<F: Files, D: Door, C: Clock, E: Sink>(
     clock: &mut C,
     err: &mut E,
 ) -> u8
-    requires window { HasWindow server.now.over.from server.now.over.days }
+    requires window { HasWindow server.now.scope.from server.now.scope.days }
     requires absent { (D.beside door.old).present ≡ false }
     ensures run { RunsServer (server_of server.now) result (change F.told F.faults files.old files.new)
         (change E.told E.faults err.old err.new) (record {
@@ -81,7 +81,7 @@ pub fn run_server<F: Files, D: Door, C: Clock, E: Sink>(
     ensures counts { (F.faults files.old ≤ F.faults files.new) × (E.faults err.old ≤ E.faults err.new)
         × (D.faults door.old ≤ D.faults door.new) × (C.faults clock.old ≤ C.faults clock.new) }
 {
-    let setting = match setting(alloc, files, &server.over, Some(server.keep)) {
+    let setting = match setting(alloc, files, &server.scope, Some(server.keep)) {
         Ok(setting) => setting,
         Err(exit) => return ended(err, &exit),
     };

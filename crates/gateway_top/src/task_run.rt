@@ -13,7 +13,7 @@ use crate::done::Done;
 use crate::ending::ended;
 use crate::exit::{DONE, Exit};
 use crate::words::Task;
-use crate::work::carried_out;
+use crate::work::task_work;
 use gw_base::{Failed, Files, Sink, put_all};
 use std::alloc::Global;
 
@@ -55,7 +55,7 @@ pub fn run_task<F: Files, S: Sink, E: Sink>(
     ensures counts { (F.faults files.old ≤ F.faults files.new)
         × (S.faults out.old ≤ S.faults out.new) × (E.faults err.old ≤ E.faults err.new) }
 {
-    let done = match carried_out(alloc, task, files) {
+    let done = match task_work(alloc, task, files) {
         Ok(done) => done,
         Err(exit) => return ended(err, &exit),
     };

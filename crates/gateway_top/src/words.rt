@@ -1,6 +1,6 @@
 //! The words of a command line. Only exactly the lists of words of a command are accepted.
 ghost use Rattle.std.specs.Prelude.{◌≡◌, IfOk, IfErr};
-ghost use Rattle.gateway_top.specs.Words as said;
+ghost use Rattle.gateway_top.specs.Words as spec;
 ghost use Rattle.gateway_top.specs.Words.{IsJob, IsRefusedAt, Says, SaysMake, SaysScope, SaysServe, SaysShow, SaysTask, SaysToGtfsrt, SaysToSiri, SaysToSiriSx, zone_by};
 ghost use Rattle.gateway_top.specs.Works.{job_of, scope_of, server_of, task_of, zone_of};
 
@@ -48,7 +48,7 @@ pub struct Scope<'a> {
 #[derive(Clone, Copy, Debug)]
 pub struct Server<'a> {
     /// What it works over.
-    pub over: Scope<'a>,
+    pub scope: Scope<'a>,
     /// How many days before the local one are kept as the window rolls, fewer than it has.
     pub keep: u8,
     /// The address at which connections are taken.
@@ -63,7 +63,7 @@ pub enum Task<'a> {
     /// `to-gtfsrt`: deliveries become a feed.
     ToGtfsrt {
         /// What it works over.
-        over: Scope<'a>,
+        scope: Scope<'a>,
         /// The moment at which the feed is made.
         at: Moment,
         /// The words of the deliveries: for each a flag, which says what it delivers, and a file.
@@ -72,7 +72,7 @@ pub enum Task<'a> {
     /// `to-siri`: a feed becomes a delivery.
     ToSiri {
         /// What it works over.
-        over: Scope<'a>,
+        scope: Scope<'a>,
         /// The moment at which the delivery is made.
         at: Moment,
         /// The feed's file.
@@ -81,7 +81,7 @@ pub enum Task<'a> {
     /// `to-siri-sx`: the alerts of a feed become a delivery of situations.
     ToSiriSx {
         /// What it works over.
-        over: Scope<'a>,
+        scope: Scope<'a>,
         /// The moment at which the delivery is made.
         at: Moment,
         /// The feed's file.
@@ -90,7 +90,7 @@ pub enum Task<'a> {
     /// `show`: what a feed says.
     Show {
         /// What it works over.
-        over: Scope<'a>,
+        scope: Scope<'a>,
         /// The feed's file.
         feed: &'a Text,
     },
@@ -229,8 +229,8 @@ fn zone_word<'a>(flag: &Text, value: &'a Text) -> ZoneWord<'a>
 }
 
 // What the words say of what a command works over.
-fn over(words: &[Text]) -> Scope<'_>
-    requires { (over : said.Scope) × SaysScope words.now over }
+fn scope(words: &[Text]) -> Scope<'_>
+    requires { (scope : spec.Scope) × SaysScope words.now scope }
     ensures { SaysScope words.now (scope_of result) }
 {
     Scope {
@@ -243,11 +243,11 @@ fn over(words: &[Text]) -> Scope<'_>
 
 // What the words of `serve` say.
 fn serve(words: &[Text]) -> Server<'_>
-    requires { (command : said.Serve) × SaysServe words.now command }
+    requires { (command : spec.Serve) × SaysServe words.now command }
     ensures { SaysServe words.now (server_of result) }
 {
     Server {
-        over: over(words),
+        scope: scope(words),
         keep: kept_count(&words[10]).unwrap(),
         listen: &words[12],
         connections: connection_count(&words[14]).unwrap(),
@@ -256,11 +256,11 @@ fn serve(words: &[Text]) -> Server<'_>
 
 // What the words of `to-gtfsrt` say.
 fn to_gtfsrt(words: &[Text]) -> Task<'_>
-    requires { (command : said.ToGtfsrt) × SaysToGtfsrt words.now command }
+    requires { (command : spec.ToGtfsrt) × SaysToGtfsrt words.now command }
     ensures { SaysTask words.now (task_of result) }
 {
     Task::ToGtfsrt {
-        over: over(words),
+        scope: scope(words),
         at: moment(&words[10]).unwrap(),
         more: &words[11..],
     }
@@ -268,11 +268,11 @@ fn to_gtfsrt(words: &[Text]) -> Task<'_>
 
 // What the words of `to-siri` say.
 fn to_siri(words: &[Text]) -> Task<'_>
-    requires { (command : said.ToSiri) × SaysToSiri words.now command }
+    requires { (command : spec.ToSiri) × SaysToSiri words.now command }
     ensures { SaysTask words.now (task_of result) }
 {
     Task::ToSiri {
-        over: over(words),
+        scope: scope(words),
         at: moment(&words[10]).unwrap(),
         feed: &words[12],
     }
@@ -280,11 +280,11 @@ fn to_siri(words: &[Text]) -> Task<'_>
 
 // What the words of `to-siri-sx` say.
 fn to_siri_sx(words: &[Text]) -> Task<'_>
-    requires { (command : said.ToSiri) × SaysToSiriSx words.now command }
+    requires { (command : spec.ToSiri) × SaysToSiriSx words.now command }
     ensures { SaysTask words.now (task_of result) }
 {
     Task::ToSiriSx {
-        over: over(words),
+        scope: scope(words),
         at: moment(&words[10]).unwrap(),
         feed: &words[12],
     }
@@ -292,18 +292,18 @@ fn to_siri_sx(words: &[Text]) -> Task<'_>
 
 // What the words of `show` say.
 fn show(words: &[Text]) -> Task<'_>
-    requires { (command : said.Show) × SaysShow words.now command }
+    requires { (command : spec.Show) × SaysShow words.now command }
     ensures { SaysTask words.now (task_of result) }
 {
     Task::Show {
-        over: over(words),
+        scope: scope(words),
         feed: &words[10],
     }
 }
 
 // What the words of `make` say.
 fn make(words: &[Text]) -> Task<'_>
-    requires { (command : said.Make) × SaysMake words.now command }
+    requires { (command : spec.Make) × SaysMake words.now command }
     ensures { SaysTask words.now (task_of result) }
 {
     Task::Make {
@@ -315,7 +315,7 @@ fn make(words: &[Text]) -> Task<'_>
 
 // What the words of a command say.
 fn read(words: &[Text]) -> Work<'_>
-    requires { (job : said.Job) × IsJob words.now job }
+    requires { (job : spec.Job) × IsJob words.now job }
     ensures { Says words.now (job_of result) }
 {
     match words[0].as_str() {
@@ -330,7 +330,7 @@ fn read(words: &[Text]) -> Work<'_>
 
 /// The address at which connections are to be taken, which is empty for other commands than `serve`. Takes no memory.
 pub fn address(words: &[Text]) -> &str
-    ensures listens { (command : said.Serve) → IsJob words.now (said.serve_job command) → result.now ≡ command.listen }
+    ensures listens { (command : spec.Serve) → IsJob words.now (spec.serve_job command) → result.now ≡ command.listen }
 {
     match job(words) {
         Ok(Work::Serve(server)) => server.listen.as_str(),

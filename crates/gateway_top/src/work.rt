@@ -83,7 +83,7 @@ fn zone<F: Files>(alloc: Global, files: &mut F, word: &ZoneWord<'_>) -> Result<Z
 }
 
 // The zone and the window after a timetable.
-fn over<F: Files>(
+fn setting_over<F: Files>(
     alloc: Global,
     files: &mut F,
     scope: &Scope<'_>,
@@ -120,7 +120,7 @@ pub fn setting<F: Files>(
     ensures same { F.told files.new ≡ F.told files.old }
 {
     match folder(alloc, files, scope.gtfs.as_str()) {
-        Ok(table) => over(alloc, files, scope, keep, table),
+        Ok(table) => setting_over(alloc, files, scope, keep, table),
         Err(end) => Err(end),
     }
 }
@@ -156,7 +156,7 @@ fn to_gtfsrt<F: Files>(
     requires { HasWindow scope.now.from scope.now.days }
     ensures told { IfSome (F.told files.old) (λ told. UnlessFree is_free result
         (steps.IsToGtfsrtWork
-        (record { over = scope_of scope.now; at = at; more = more.now }) told)) }
+        (record { scope = scope_of scope.now; at = at; more = more.now }) told)) }
     ensures counts { Counts (IsErrOf result Exit.Failed) (F.faults files.old) (F.faults files.new) }
     ensures same { F.told files.new ≡ F.told files.old }
 {
@@ -196,7 +196,7 @@ fn to_siri<F: Files>(
     requires { HasWindow scope.now.from scope.now.days }
     ensures told { IfSome (F.told files.old) (λ told. UnlessFree is_free result
         (steps.IsToSiriWork
-        (record { over = scope_of scope.now; at = at; feed = feed.now }) told)) }
+        (record { scope = scope_of scope.now; at = at; feed = feed.now }) told)) }
     ensures counts { Counts (IsErrOf result Exit.Failed) (F.faults files.old) (F.faults files.new) }
     ensures same { F.told files.new ≡ F.told files.old }
 {
@@ -236,7 +236,7 @@ fn to_siri_sx<F: Files>(
     requires { HasWindow scope.now.from scope.now.days }
     ensures told { IfSome (F.told files.old) (λ told. UnlessFree is_free result
         (steps.IsToSiriSxWork
-        (record { over = scope_of scope.now; at = at; feed = feed.now }) told)) }
+        (record { scope = scope_of scope.now; at = at; feed = feed.now }) told)) }
     ensures counts { Counts (IsErrOf result Exit.Failed) (F.faults files.old) (F.faults files.new) }
     ensures same { F.told files.new ≡ F.told files.old }
 {
@@ -268,7 +268,7 @@ fn lines_of_file<F: Files>(
 fn show<F: Files>(alloc: Global, files: &mut F, scope: &Scope<'_>, feed: &str) -> Result<Done, Exit>
     requires { HasWindow scope.now.from scope.now.days }
     ensures told { IfSome (F.told files.old) (λ told. UnlessFree is_free result
-        (steps.IsShowWork (record { over = scope_of scope.now; feed = feed.now }) told)) }
+        (steps.IsShowWork (record { scope = scope_of scope.now; feed = feed.now }) told)) }
     ensures counts { Counts (IsErrOf result Exit.Failed) (F.faults files.old) (F.faults files.new) }
     ensures same { F.told files.new ≡ F.told files.old }
 {
@@ -279,7 +279,7 @@ fn show<F: Files>(alloc: Global, files: &mut F, scope: &Scope<'_>, feed: &str) -
 }
 
 /// The work of a command over the files: what it writes, or how it ends.
-pub fn carried_out<F: Files>(alloc: Global, task: &Task<'_>, files: &mut F) -> Result<Done, Exit>
+pub fn task_work<F: Files>(alloc: Global, task: &Task<'_>, files: &mut F) -> Result<Done, Exit>
     requires { CanRun (task_of task.now) }
     ensures told { steps.OverFiles (task_of task.now) (F.told files.old) (λ told. UnlessFree is_free result
         (steps.IsTaskWork (task_of task.now) told)) }
@@ -288,10 +288,10 @@ pub fn carried_out<F: Files>(alloc: Global, task: &Task<'_>, files: &mut F) -> R
     ensures unread { steps.reads_files (task_of task.now) ≡ false → files.new ≡ files.old }
 {
     match task {
-        Task::ToGtfsrt { over, at, more } => to_gtfsrt(alloc, files, over, *at, more),
-        Task::ToSiri { over, at, feed } => to_siri(alloc, files, over, *at, feed.as_str()),
-        Task::ToSiriSx { over, at, feed } => to_siri_sx(alloc, files, over, *at, feed.as_str()),
-        Task::Show { over, feed } => show(alloc, files, over, feed.as_str()),
+        Task::ToGtfsrt { scope, at, more } => to_gtfsrt(alloc, files, scope, *at, more),
+        Task::ToSiri { scope, at, feed } => to_siri(alloc, files, scope, *at, feed.as_str()),
+        Task::ToSiriSx { scope, at, feed } => to_siri_sx(alloc, files, scope, *at, feed.as_str()),
+        Task::Show { scope, feed } => show(alloc, files, scope, feed.as_str()),
         Task::Make { seed, trips, stops } => made_line(alloc, *seed, *trips, *stops),
     }
 }

@@ -22,6 +22,10 @@ use Rattle.journey_model.specs.declared.readings.JourneyReading.{JourneyReading}
 use Rattle.journey_model.specs.declared.readings.JourneyReading.TheVariants.{Cancelled, Stops}
 use Rattle.journey_model.specs.declared.readings.StopReading.TheVariants.{Absent}
 
+-- a feed that says only what has changed (GTFS Realtime reference, FeedHeader, incrementality DIFFERENTIAL)
+abbrev pub is_differential : Feed → Bool
+is_differential feed = int_eq feed.incrementality (pos 1)
+
 -- a timestamp, where it is a moment
 abbrev pub moment_in : Option ℕ → Option ℤ
 moment_in timestamp = option_and_then (λ secs. moment_if (pos secs)) timestamp

@@ -1,8 +1,8 @@
 -- The SIRI delivery of situations that says what a feed's alerts say (SIRI 2.0, SituationExchangeDelivery; GTFS
 -- Realtime reference, Alert).
-use Rattle.std.specs.Prelude.{◌≡◌, ℕ, ℤ, pos, Bool, List, map, MatchBool, Result, Ok, Err}
-use Rattle.std.specs.Ordering.{int_eq}
+use Rattle.std.specs.Prelude.{◌≡◌, ℕ, ℤ, List, map, MatchBool, Result, Ok, Err}
 use Rattle.gw_base.specs.declared.messages.Feed.{Feed}
+use Rattle.journey_model.specs.FeedReadings.{is_differential}
 use Rattle.journey_model.specs.Schedules.{Schedule}
 use Rattle.journey_model.specs.declared.report.Report.{Report}
 use Rattle.journey_model.specs.declared.situation.Situation.{Situation}
@@ -14,10 +14,6 @@ use Rattle.reverse_alerts.specs.SituationTree.{delivery_text}
 use Rattle.reverse_alerts.specs.Taken.{alerts, report_on, situations}
 use Rattle.reverse_alerts.specs.declared.sx_fault.SxFault.{SxFault}
 use Rattle.reverse_alerts.specs.declared.sx_fault.SxFault.TheVariants.{Differential, Memory}
-
--- a feed that says only what has changed (GTFS Realtime reference, FeedHeader, incrementality DIFFERENTIAL)
-abbrev pub is_differential : Feed → Bool
-is_differential feed = int_eq feed.incrementality (pos 1)
 
 -- what the alert of a situation says
 abbrev pub alert_sense : Table → Situation → Sense

@@ -1,9 +1,9 @@
 -- The SIRI delivery that says what a feed says of journeys (SIRI 2.0, EstimatedTimetableDelivery; GTFS Realtime
 -- reference, FeedMessage).
-use Rattle.std.specs.Prelude.{◌≡◌, ◌<◌, ◌≤◌, ℕ, ℤ, pos, Bool, List, length, sum_by, min, MatchBool, Result, Ok, Err}
-use Rattle.std.specs.Ordering.{int_eq}
+use Rattle.std.specs.Prelude.{◌≡◌, ◌<◌, ◌≤◌, ℕ, ℤ, List, length, sum_by, min, MatchBool, Result, Ok, Err}
 use Rattle.gw_base.specs.Count.{last_count}
 use Rattle.gw_base.specs.declared.messages.Feed.{Feed}
+use Rattle.journey_model.specs.FeedReadings.{is_differential}
 use Rattle.journey_model.specs.Schedules.{Schedule}
 use Rattle.journey_model.specs.declared.readings.DatedReading.{DatedReading}
 use Rattle.journey_model.specs.declared.report.Report.{Report}
@@ -15,10 +15,6 @@ use Rattle.reverse_calls.specs.declared.readings_fault.ReadingsFault.{ReadingsFa
 use Rattle.reverse_calls.specs.declared.readings_fault.ReadingsFault.TheVariants as of_readings
 use Rattle.reverse_calls.specs.declared.reverse_fault.ReverseFault.{ReverseFault}
 use Rattle.reverse_calls.specs.declared.reverse_fault.ReverseFault.TheVariants.{Differential, TooManyCalls, Memory}
-
--- a feed that says only what has changed (GTFS Realtime reference, FeedHeader, incrementality DIFFERENTIAL)
-abbrev pub is_differential : Feed → Bool
-is_differential feed = int_eq feed.incrementality (pos 1)
 
 -- a journey has a call for each stop of its trip, also where it is cancelled
 abbrev pub stop_count : Schedule → DatedReading → ℕ

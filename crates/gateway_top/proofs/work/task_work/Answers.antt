@@ -1,5 +1,5 @@
 -- Each command's work is that of its words.
-use Rattle.gateway_top.proofs.work.carried_out.Goals as goal
+use Rattle.gateway_top.proofs.work.task_work.Goals as goal
 
 pub to_gtfsrt-requires : goal.to_gtfsrt-requires
 to_gtfsrt-requires g c = rw c.in-ToGtfsrt.is at c.requires
