@@ -3,6 +3,7 @@ use Rattle.std.specs.Prelude.{◌≡◌, ◌≤◌, ◌+◌, ◌++◌, ◌⊎◌
 use Rattle.gw_base.specs.Connections.{Beside}
 use Rattle.gw_base.specs.Limits.{body_limit}
 use Rattle.http_talk.specs.Asked.{is_post}
+use Rattle.http_talk.specs.Ends.{head_limit}
 use Rattle.http_talk.specs.Request.{IsHead, IsRequest}
 use Rattle.http_talk.specs.Request as request
 use Rattle.http_talk.specs.declared.target.Head.{Head}
@@ -25,9 +26,9 @@ IsWithinPost bytes =
     (count : ℕ) × (head : Head) × IsHead bytes count (Ok head) × (is_post head.target ≡ true)
     × (length bytes ≤ count + head.length) × (head.length ≤ body_limit)
 
--- so much may be read for a request: what a head may have, 16,384 bytes, or the head of a POST and its body
+-- so much may be read for a request: what a head may have, or the head of a POST and its body
 abbrev pub IsWithin : List ℕ → Type 0
-IsWithin bytes = (length bytes ≤ 16384) ⊎ IsWithinPost bytes
+IsWithin bytes = (length bytes ≤ head_limit) ⊎ IsWithinPost bytes
 
 -- the present connection's input is at its end
 abbrev pub IsEnded : Beside → Type 0

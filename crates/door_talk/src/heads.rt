@@ -1,11 +1,12 @@
 //! The head of a request, read off a door piece by piece.
 ghost use Rattle.std.specs.Prelude.{◌≡◌, ◌≤◌, ◌<◌, true, [], ℕ, List, length, IfOk, IsErr};
 ghost use Rattle.gw_base.specs.Count.{Counts};
+ghost use Rattle.http_talk.specs.Ends.{head_limit};
 ghost use Rattle.door_talk.specs.Requests.{HasRead, ReadsHead};
 
 use crate::piece::read_piece;
 use gw_base::{Door, Failed};
-use http_talk::{Fed, Head, HeadReader, Refusal};
+use http_talk::{Fed, HEAD_LIMIT, Head, HeadReader, Refusal};
 
 /// How the reading of a head ended.
 #[derive(Clone, Copy, Debug)]
@@ -17,9 +18,6 @@ pub enum HeadRead {
     /// The request is refused, as the input ended in its head.
     Cut(Refusal),
 }
-
-/// The most bytes that are read for a head, with the empty lines at its front.
-const HEAD_LIMIT: usize = 16_384;
 
 /// Reads the head of the present connection's request, by pieces that fit in `piece`.
 pub fn read_head<D: Door>(
@@ -33,7 +31,7 @@ pub fn read_head<D: Door>(
     ensures room { length piece.new ≡ length piece.old }
     ensures reads { (bytes : List ℕ) × HasRead (D.beside door.old) (D.beside door.new) bytes
         × IfOk result (λ it. ReadsHead (D.beside door.new) bytes piece.new it)
-        × (length bytes ≤ 16384) }
+        × (length bytes ≤ head_limit) }
     ensures output { D.told door.new ≡ D.told door.old }
     ensures counts { Counts (IsErr result) (D.faults door.old) (D.faults door.new) }
 {

@@ -31,19 +31,23 @@ pub record IsHeadLength (input : List ℕ) (count : ℕ) : Type 0 where
   pub ends : ends_head (take count input) ≡ true
   pub shortest : (fewer : ℕ) → fewer < count → ends_head (take fewer input) ≡ false
 
--- no head ends in the first 16,384 bytes
+-- the most bytes that a head may have, with the empty lines at its front
+abbrev pub head_limit : ℕ
+head_limit = 16384
+
+-- no head ends in so many bytes
 abbrev pub HasNoEnd : List ℕ → Type 0
-HasNoEnd input = (count : ℕ) → count ≤ 16384 → ends_head (take count input) ≡ false
+HasNoEnd input = (count : ℕ) → count ≤ head_limit → ends_head (take count input) ≡ false
 
 -- a head may still end, where more bytes come
 pub record IsOpen (input : List ℕ) : Type 0 where
   pub none : HasNoEnd input
-  pub short : length input < 16384
+  pub short : length input < head_limit
 
 -- the head is longer than it may be
 pub record IsTooLong (input : List ℕ) : Type 0 where
   pub none : HasNoEnd input
-  pub long : 16384 ≤ length input
+  pub long : head_limit ≤ length input
 
 -- how many lines a head has, without the empty ones at its front: the request line, the header lines and the empty line
 abbrev pub line_count : List ℕ → ℕ

@@ -6,7 +6,7 @@ use Rattle.http_talk.specs.declared.fed.Fed.{Fed}
 use Rattle.http_talk.specs.declared.fed.Fed.TheVariants.{More, Whole, Refused}
 use Rattle.http_talk.specs.declared.refusal.Refusal.{Refusal}
 use Rattle.http_talk.specs.declared.target.Head.{Head}
-use Rattle.http_talk.specs.Ends.{IsOpen}
+use Rattle.http_talk.specs.Ends.{IsOpen, head_limit}
 use Rattle.http_talk.specs.Places.{place_of}
 use Rattle.http_talk.specs.Request.{IsHead, IsRefused}
 
@@ -14,7 +14,7 @@ use Rattle.http_talk.specs.Request.{IsHead, IsRefused}
 pub record IsReader (held : List ℕ) (room : ℕ) (place : Place) : Type 0 where
   pub opens : IsOpen held
   pub place_is : place_of held ≡ place
-  pub room_is : 16384 ≤ room
+  pub room_is : head_limit ≤ room
 
 -- the answer to a piece after the bytes held: `More` exactly where no head ends in fewer than 16,384 bytes, else what
 -- each input has that begins with them

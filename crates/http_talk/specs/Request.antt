@@ -5,7 +5,7 @@ use Rattle.http_talk.specs.declared.target.Target.{Target}
 use Rattle.http_talk.specs.declared.target.Head.{Head}
 use Rattle.http_talk.specs.declared.refusal.Refusal.{Refusal}
 use Rattle.http_talk.specs.declared.refusal.Refusal.TheVariants as refusal
-use Rattle.http_talk.specs.Ends.{IsHeadLength, IsOpen, IsTooLong}
+use Rattle.http_talk.specs.Ends.{IsHeadLength, IsOpen, IsTooLong, head_limit}
 use Rattle.http_talk.specs.Asked.{is_post, IsAnswer}
 
 -- a GET of a target, a POST of a target with a body, or a refusal
@@ -17,7 +17,7 @@ pub data Request : Type 0 where
 -- the first so many bytes of the input are its head, which asks for this
 pub record IsHead (input : List ℕ) (count : ℕ) (answer : Result Head Refusal) : Type 0 where
   pub shortest : IsHeadLength input count
-  pub most : count ≤ 16384
+  pub most : count ≤ head_limit
   pub answers : IsAnswer (take count input) answer
 
 -- the request of a head with what follows it: the body of a POST is so many bytes, and no more is read

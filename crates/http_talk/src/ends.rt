@@ -2,6 +2,9 @@
 ghost use Rattle.std.specs.Prelude.{◌≡◌, reverse};
 ghost use Rattle.http_talk.specs.Ends as ends;
 
+/// The most bytes that a head may have, with the empty lines at its front.
+pub const HEAD_LIMIT: usize = 16_384;
+
 // Whether LF stands at the front.
 fn begins_feed(bytes: &[u8]) -> bool
     ensures { result ≡ ends.begins_feed bytes.now }

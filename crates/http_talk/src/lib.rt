@@ -16,6 +16,7 @@ mod texts;
 mod whole;
 
 pub use answer::{Answer, HeadBytes, answer_head};
+pub use ends::HEAD_LIMIT;
 pub use fed::Fed;
 pub use laws::an_input_asks_for_one_thing;
 pub use reader::HeadReader;

@@ -7,6 +7,7 @@ ghost use Rattle.http_talk.specs.Reading as reading;
 ghost use Rattle.http_talk.specs.Reading.{Feeds, held_after};
 ghost use Rattle.http_talk.specs.Request.{IsRequest, Refused};
 
+use crate::ends::HEAD_LIMIT;
 use crate::fed::Fed;
 use crate::head::answer_of;
 use crate::place::{Place, Scan, look_on};
@@ -14,9 +15,6 @@ use crate::refusal::Refusal;
 use crate::target::Head;
 use std::alloc::{AllocError, Global};
 use std::marker::Model;
-
-/// The most bytes that a head may have, with the empty lines at its front.
-const HEAD_LIMIT: usize = 16_384;
 
 /// A reader of heads. A contract sees the bytes of the head that came so far.
 #[derive(Debug, Drop)]

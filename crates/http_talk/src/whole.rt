@@ -1,17 +1,14 @@
 //! The request of a whole input, read as its definition says it, front by front. It is slow on many empty lines, and
 //! serves to compare: a connection is read by `HeadReader`.
 ghost use Rattle.std.specs.Prelude.{◌≡◌, ◌≤◌, Ok, MatchOption};
-ghost use Rattle.http_talk.specs.Ends.{IsHeadLength, HasNoEnd};
+ghost use Rattle.http_talk.specs.Ends.{IsHeadLength, HasNoEnd, head_limit};
 ghost use Rattle.http_talk.specs.Request.{IsRequest, Refused, with_body};
 ghost use Rattle.http_talk.specs.Whole.{told};
 
-use crate::ends::ends_head;
+use crate::ends::{HEAD_LIMIT, ends_head};
 use crate::head::answer_of;
 use crate::refusal::Refusal;
 use crate::target::{Head, Target};
-
-/// The most bytes that a head may have, with the empty lines at its front.
-const HEAD_LIMIT: usize = 16_384;
 
 /// A target that is asked for, with the body, which is empty for a GET.
 #[derive(Clone, Copy, Debug)]
@@ -23,7 +20,7 @@ pub struct Asked<'a> {
 // The length of the input's head.
 fn head_len(input: &[u8]) -> Option<usize>
     ensures { MatchOption result (HasNoEnd input.now)
-        (λ count. IsHeadLength input.now count × (count ≤ 16384)) }
+        (λ count. IsHeadLength input.now count × (count ≤ head_limit)) }
 {
     for count in 0..HEAD_LIMIT.min(input.len()) + 1 {
         let (front, _) = input.split_at(count);

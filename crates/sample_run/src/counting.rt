@@ -5,7 +5,9 @@ ghost use Rattle.gw_base.specs.Count.{last_count};
 ghost use Rattle.journey_model.specs.declared.readings.JourneyReading as readings;
 ghost use Rattle.propagation.specs.Feeds.{IsServable};
 ghost use Rattle.sample_maker.specs.Pieces.{all_below};
+ghost use Rattle.stop_schedule.specs.Limits.{row_limit, stop_limit};
 ghost use Rattle.stop_schedule.specs.Seen.{seen};
+ghost use Rattle.stop_schedule.specs.declared.table_file.TableFile.TheVariants as file;
 ghost use Rattle.sample_run.specs.Counts as spec;
 ghost use Rattle.sample_run.specs.Steps as steps;
 ghost use Rattle.sample_run.specs.Steps.{AreSaid, HasOneDay, IsWithin, plus, stops_said, tally};
@@ -22,7 +24,7 @@ fn given(context: &Context<'_>, one: &DatedReading) -> Tally
     requires { IsServable context.now one.now }
     ensures value { result ≡ tally (spec.each_stop
         (length (context.now.table.stops_of one.now.trip.0)) one.now.reading) }
-    ensures few { IsWithin 250 result }
+    ensures few { IsWithin stop_limit result }
 {
     let stops = context.table.stops_of(one.trip);
     match &one.reading {
@@ -40,7 +42,7 @@ fn not_given(table: &Timetable, trip: TripNo) -> Tally
     requires { trip.0 < length table.now.trips }
     ensures value { result ≡ tally (replicate (length ((seen table.now).stops_of trip.0))
         StopReading.Absent) }
-    ensures few { IsWithin 250 result }
+    ensures few { IsWithin stop_limit result }
 {
     Tally {
         skipped: 0,
@@ -59,13 +61,13 @@ fn add_trip<'r>(
 ) -> &'r [DatedReading]
     requires trip { trip < length context.now.table.trips }
     requires servable { AllByRecursion (IsServable context.now) rest.now }
-    requires few { IsWithin (250 * trip) sum.old }
-    requires room { trip < 200000 }
+    requires few { IsWithin (stop_limit * trip) sum.old }
+    requires room { trip < row_limit file.Trips }
     ensures rest { result.now ≡ steps.behind trip rest.now }
     ensures servable { AllByRecursion (IsServable context.now) result.now }
     ensures sum { sum.new ≡ plus sum.old
         (tally (stops_said context.now trip (steps.head_said trip rest.now))) }
-    ensures few { IsWithin (250 * (trip + 1)) sum.new }
+    ensures few { IsWithin (stop_limit * (trip + 1)) sum.new }
 {
     match rest.split_first() {
         Some((one, behind)) if one.trip.0 == trip => {

@@ -2,6 +2,7 @@
 use Rattle.std.proofs.Common.{◌≡◌, ◌≤◌, ap, arith, length, subst, sym}
 use Rattle.journey_model.specs.Schedules.{Schedule}
 use Rattle.journey_model.specs.declared.readings.JourneyReading.TheVariants.{Stops}
+use Rattle.stop_schedule.specs.Limits.{stop_limit}
 use Rattle.sample_run.specs.Steps.{IsWithin}
 use Rattle.sample_run.specs.declared.tally.Tally.{Tally}
 use Rattle.sample_run.proofs.StopLemmas.{stops_read}
@@ -14,5 +15,5 @@ returns-in-Stops-clause-few c =
     let same = stops_read c.args.context.now c.args.one.now c.as_slice.result.now c.requires is in
     let stops = subst (λ (lent : Schedule). c.stops_of-stops.result.now ≡ lent.table.stops_of c.args.one.now.trip.0) c.context.view_is c.stops_of-stops.ensures.value in
     let value = ap length stops in
-    let few : length c.as_slice.result.now ≤ 250 = omega arith in
-    subst (λ (t : Tally). IsWithin 250 t) (sym c.tally_of.ensures) (tally_within c.as_slice.result.now 250 few)
+    let few : length c.as_slice.result.now ≤ stop_limit = omega arith in
+    subst (λ (t : Tally). IsWithin stop_limit t) (sym c.tally_of.ensures) (tally_within c.as_slice.result.now stop_limit few)

@@ -4,6 +4,7 @@ use Rattle.std.specs.List.{AllByRecursion}
 use Rattle.journey_model.specs.declared.readings.JourneyReading.{JourneyReading}
 use Rattle.propagation.specs.Feeds.{IsServable}
 use Rattle.sample_maker.specs.Pieces.{all_below}
+use Rattle.stop_schedule.specs.Limits.{stop_limit}
 use Rattle.sample_run.specs.Steps.{AreSaid, IsWithin, stops_said, tally}
 use Rattle.sample_run.proofs.counting.sum_of.Given as goal
 
@@ -12,5 +13,5 @@ invariant-loop-trip l = record {
   counted : (said : ℕ → Option JourneyReading) → AreSaid said 0 l.journeys
       → (l.sum ≡ tally (all_below (λ trip. stops_said l.context trip (said trip)) l.trip)) × AreSaid said l.trip l.rest;
   servable : AllByRecursion (IsServable l.context) l.rest;
-  few : IsWithin (250 * l.trip) l.sum;
+  few : IsWithin (stop_limit * l.trip) l.sum;
 }
