@@ -141,7 +141,8 @@ EndsServer command (Ok setting) ended err doorway =
 pub record RunsServer (command : Serve) (ended : ℕ) (files : Change Directory) (err : Change (List ℕ))
     (doorway : Doorway) : Type 0 where
   pub answer : Result Setting Exit
-  pub work : IfSome files.before (λ told. UnlessFree is_free answer (IsSettingOf command.scope (Some command.keep) told))
+  pub work : IfSome files.before
+      (λ told. UnlessFree is_free answer (IsSettingOf command.scope (Some command.keep) told))
   pub cause : answer ≡ Err Failed → HasFailed files
   pub ends : EndsServer command answer ended err doorway
 
