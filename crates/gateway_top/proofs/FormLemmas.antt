@@ -1,5 +1,6 @@
 -- What values of a form are read as, and a value of each form.
 use Rattle.std.proofs.Common.{◌≡◌, refl, ℕ, ◌≤◌, ℤ, List, [], ◌∷◌, map, Option, Some, None, Result, Ok, length, subst, arith, rules, Bool, true, false, cond, ◌&&◌}
+use Rattle.std.proofs.lemmas.Bool.{and_parts}
 use Rattle.std.specs.Prelude.{IsTrue, pos, codes, int_le, nat_le, nat_lt}
 use Rattle.std.proofs.Math.IntN.{+ℤ-neg_ℤ_cancel}
 use Rattle.std.proofs.lemmas.Bool.Decides.{nat_tests}
@@ -29,10 +30,6 @@ pub cond_then : {A : Type 0} (b : Bool) (o : Option A) (x : A) → cond b o None
 cond_then true o x h = (refl, h)
 cond_then false o x h = absurd (none-some x h)
 
-both : (a b : Bool) → (a && b) ≡ true → (a ≡ true) × (b ≡ true)
-both true b h = (refl, h)
-both false b h = absurd cc
-
 -- the number that `parse` reads is the one that the digits spell
 
 own : IsNumeralModel (λ ds. list_all is_ascii_digit ds ≡ true) (going_on 0)
@@ -40,8 +37,8 @@ own = numerals_by_fold _ (search rules) going_on (search rules)
 
 pub number_parsed : {E : Type 0} (text : List ℕ) (r : Result ℕ E) → ParsesUnsigned 64 10 text r → is_number text ≡ true → r ≡ Ok (going_on 0 text)
 number_parsed text r h is =
-    let parts = both (nat_le 1 (length text) && nat_le (length text) 10) _ is in
-    let within : (nat_le 1 (length text) ≡ true) × (nat_le (length text) 10 ≡ true) = both _ _ parts.0 in
+    let parts = and_parts (nat_le 1 (length text) && nat_le (length text) 10) _ is in
+    let within : (nat_le 1 (length text) ≡ true) × (nat_le (length text) 10 ≡ true) = and_parts _ _ parts.0 in
     let some : 1 ≤ length text = grind (arith, nat_tests, within.0) in
     let short : length text ≤ 10 = grind (arith, nat_tests, within.1) in
     parse_gives own 64 text r h parts.1 (omega arith) (omega (arith, digits_value_short own text 10 parts.1 short))
@@ -51,7 +48,7 @@ pub beginning_range : (word : List ℕ) (first : ℤ) → beginning word ≡ Som
 beginning_range word first h =
     option_and_then_some _ (day_of Dashed word) first h (λ day found within.
     let kept = cond_then (int_le first_day day && int_le day last_day) _ first within in
-    both _ _ (subst (λ d. (int_le first_day d && int_le d last_day) ≡ true) (same_Some day first kept.1) kept.0))
+    and_parts _ _ (subst (λ d. (int_le first_day d && int_le d last_day) ≡ true) (same_Some day first kept.1) kept.0))
 
 -- a value of each form: a text, 1971-01-01, one day, 1970-01-01T00:00:00Z, and the least numbers
 
@@ -75,7 +72,7 @@ day_count_some : (word : List ℕ) (days : ℕ) → day_count word ≡ Some days
 day_count_some word days h =
     option_and_then_some _ (decimal_number word) days h (λ number found within.
     let kept = cond_then (nat_le 1 number && nat_le number most_days) _ days within in
-    let some : nat_le 1 number ≡ true = (both _ _ kept.0).0 in
+    let some : nat_le 1 number ≡ true = (and_parts _ _ kept.0).0 in
     subst (λ d. nat_lt 0 d ≡ true) (same_Some number days kept.1) (grind (arith, nat_tests, some)))
 
 kept_count_met : CanBeMet is_kept_count
@@ -114,17 +111,17 @@ form_met form.StopCount = stop_count_met
 pairs_met : (pairs : List Pair) → list_all (λ pair. nat_lt 0 (length pair.flags.now)) pairs ≡ true → AllByRecursion CanStand (map pair_of pairs)
 pairs_met [] h = tt
 pairs_met (pair ∷ pairs) h =
-    let parts : (nat_lt 0 (length pair.flags.now) ≡ true) × _ = both _ _ h in
+    let parts : (nat_lt 0 (length pair.flags.now) ≡ true) × _ = and_parts _ _ h in
     ((simp length-map (grind (arith, nat_tests, parts.0)), form_met pair.form), pairs_met pairs parts.1)
 
 rows_met : (rows : List Command) → list_all (λ row. list_all (λ pair. nat_lt 0 (length pair.flags.now)) row.pairs.now) rows ≡ true
     → AllByRecursion IsSatisfiable (map row_of rows)
 rows_met [] h = tt
 rows_met (row ∷ rows) h =
-    let parts = both _ _ h in (record { pairs = pairs_met row.pairs.now parts.0; repeated = form_met row.repeated.form }, rows_met rows parts.1)
+    let parts = and_parts _ _ h in (record { pairs = pairs_met row.pairs.now parts.0; repeated = form_met row.repeated.form }, rows_met rows parts.1)
 
 -- so any table of pairs with flags can be met
 pub satisfiable : (rows : List Command) → have_flags rows ≡ true → AreSatisfiable (map row_of rows)
 satisfiable rows h =
-    let parts : (nat_lt 0 (length rows) ≡ true) × _ = both _ _ h in
+    let parts : (nat_lt 0 (length rows) ≡ true) × _ = and_parts _ _ h in
     record { some = simp length-map (grind (arith, nat_tests, parts.0)); each = rows_met rows parts.1 }

@@ -1,5 +1,6 @@
 -- A delivery is written one entity after the other.
-use Rattle.std.proofs.Common.{◌≡◌, ◌∙◌, ◌&&◌, ℕ, ℤ, ◌+◌, ◌≤◌, ◌<◌, min, Bool, true, false, nat_lt, int_le, List, [], ◌∷◌, ◌++◌, length, drop, get_or, Option, Some, None, Ok, Err, refl, ap, sym, subst, append_assoc, arith, if◌then◌else◌}
+use Rattle.std.proofs.Common.{◌≡◌, ◌∙◌, ℕ, ℤ, ◌+◌, ◌≤◌, ◌<◌, min, Bool, true, false, nat_lt, int_le, List, [], ◌∷◌, ◌++◌, length, drop, get_or, Option, Some, None, Ok, Err, refl, ap, sym, subst, append_assoc, arith, if◌then◌else◌}
+use Rattle.std.proofs.lemmas.Bool.{and_parts}
 use Rattle.std.specs.List.{AllByRecursion, filter_map, sum_by}
 use Rattle.std.specs.Option.{option_or}
 use Rattle.std.specs.Prelude.{All, pos}
@@ -149,17 +150,13 @@ run_ends table moment all number text report past h =
 
 -- ---- an alert without a fault
 
-both : (a b : Bool) → (a && b) ≡ true → (a ≡ true) × (b ≡ true)
-both true b h = (refl, h)
-both false b h = absurd (cc)
-
 bound_told : (member : Member) (bound : Option ℕ) → bound_fault member bound ≡ None → IsBound bound
 bound_told member None h = tt
 bound_told member (Some secs) h = by (is_moment (pos secs)) refl h
   where
     by : (b : Bool) → is_moment (pos secs) ≡ b → (if b then None else Some (BadField member)) ≡ None → secs ≤ last_moment
     by false e h = absurd (cc)
-    by true e h = omega (arith, ints, (both (int_le (pos 0) (pos secs)) (int_le (pos secs) (pos last_moment)) e).1)
+    by true e h = omega (arith, ints, (and_parts (int_le (pos 0) (pos secs)) (int_le (pos secs) (pos last_moment)) e).1)
 
 first_none : (a b : Option Fault) → option_or a b ≡ None → (a ≡ None) × (b ≡ None)
 first_none None b h = (refl, h)

@@ -1,7 +1,7 @@
 -- The times of the stops of a journey are moments; and its readings are one for each stop.
 use Rattle.std.proofs.Common.{◌≡◌, ◌==◌, ◌&&◌, ◌<◌, ◌≤◌, ◌∷◌, [], ℕ, suc, ℤ, pos, ◌+ℤ◌, ◌-ℤ◌, Bool, true, false, List, length, take, drop, get_or, Option, Some, None, option_map, refl, sym, subst, ap, arith}
 use Rattle.std.specs.Prelude.{All, nat_le, nat_lt, slice_get}
-use Rattle.std.proofs.lemmas.Bool.{false≢true}
+use Rattle.std.proofs.lemmas.Bool.{and_parts, false≢true}
 use Rattle.std.proofs.lemmas.Int.{ints}
 use Rattle.std.proofs.lemmas.Option.{none-some}
 use Rattle.std.proofs.lemmas.List.Elements.{All-get_or, All-from_recursion}
@@ -37,11 +37,6 @@ servable_fits schedule journeys servable = λ place one within. (servable place 
 pub at_place : {X : Type 0} (P : X → Type 0) (xs : List X) (place : ℕ) (x : X) → All P xs → place < length xs → x ≡ get_or xs place x → P x
 at_place P xs place x all within is = subst P (sym is) (All-get_or P xs place x within all)
 
-both : (a b : Bool) → (a && b) ≡ true → (a ≡ true) × (b ≡ true)
-both true true h = (refl, refl)
-both true false h = absurd (false≢true h)
-both false b h = absurd (false≢true h)
-
 -- a time within a week of a planned one is a moment
 near_moment : (start : ℤ) (second : ℕ) (time : ℤ) → IsDayStart start → second ≤ 359999 → is_delay (time -ℤ (start +ℤ pos second)) ≡ true → IsMoment time
 near_moment start second time begins timed near = grind (arith, ints)
@@ -53,8 +48,8 @@ stop_moments : (start : ℤ) (row : StopRow) (reading : StopReading) → IsDaySt
 stop_moments start row Absent begins timed near = tt
 stop_moments start row Skipped begins timed near = tt
 stop_moments start row (Timed arrival departure) begins timed near =
-    let seconds = both (nat_le row.arrival 359999) (nat_le row.departure 359999) timed in
-    let delays = both (is_delay (arrival -ℤ (start +ℤ pos row.arrival))) (is_delay (departure -ℤ (start +ℤ pos row.departure))) near in (
+    let seconds = and_parts (nat_le row.arrival 359999) (nat_le row.departure 359999) timed in
+    let delays = and_parts (is_delay (arrival -ℤ (start +ℤ pos row.arrival))) (is_delay (departure -ℤ (start +ℤ pos row.departure))) near in (
       near_moment start row.arrival arrival begins (second_in row.arrival seconds.0) delays.0,
       near_moment start row.departure departure begins (second_in row.departure seconds.1) delays.1,
     )
@@ -83,23 +78,23 @@ stops_dated schedule trip day reading ids dated fits on_day = by (start_in sched
 -- the stops of a trip are stops of the timetable
 known_stops : (stops : ℕ) (rows : List StopRow) → are_stops_of stops rows ≡ true → are_known stops rows ≡ true
 known_stops stops rows h =
-    let behind_few = both (nat_le (length rows) 250) (are_rising rows && (are_known stops rows && are_timed rows)) h in
-    let behind_rising = both (are_rising rows) (are_known stops rows && are_timed rows) behind_few.1 in
-    (both (are_known stops rows) (are_timed rows) behind_rising.1).0
+    let behind_few = and_parts (nat_le (length rows) 250) (are_rising rows && (are_known stops rows && are_timed rows)) h in
+    let behind_rising = and_parts (are_rising rows) (are_known stops rows && are_timed rows) behind_few.1 in
+    (and_parts (are_known stops rows) (are_timed rows) behind_rising.1).0
 
 of_trip : (routes stops : ℕ) (rows : List StopRow) (one : CarriedTrip) → is_in_range routes stops rows one ≡ true → are_stops_of stops (drop one.first (take one.end rows)) ≡ true
 of_trip routes stops rows one h =
     let its : Bool = are_stops_of stops (drop one.first (take one.end rows)) in
-    let behind_route = both (nat_lt one.route routes) (nat_le one.first one.end && (nat_le one.end (length rows) && its)) h in
-    let behind_first = both (nat_le one.first one.end) (nat_le one.end (length rows) && its) behind_route.1 in
-    (both (nat_le one.end (length rows)) its behind_first.1).1
+    let behind_route = and_parts (nat_lt one.route routes) (nat_le one.first one.end && (nat_le one.end (length rows) && its)) h in
+    let behind_first = and_parts (nat_le one.first one.end) (nat_le one.end (length rows) && its) behind_route.1 in
+    (and_parts (nat_le one.end (length rows)) its behind_first.1).1
 
 all_in : (trips routes stops : List (List ℕ)) (carried : List CarriedTrip) (rows : List StopRow) → are_in_range trips routes stops carried rows ≡ true
     → list_all (is_in_range (length routes) (length stops) rows) carried ≡ true
 all_in trips routes stops carried rows h =
     let all : Bool = list_all (is_in_range (length routes) (length stops) rows) carried in
-    let behind_same = both (length carried == length trips) (nat_le (length trips) 200000 && all) h in
-    (both (nat_le (length trips) 200000) all behind_same.1).1
+    let behind_same = and_parts (length carried == length trips) (nat_le (length trips) 200000 && all) h in
+    (and_parts (nat_le (length trips) 200000) all behind_same.1).1
 
 known_at : (routes stops : ℕ) (carried : List CarriedTrip) (rows : List StopRow) (trip : ℕ) (found : Option CarriedTrip) → list_all (is_in_range routes stops rows) carried ≡ true
     → slice_get carried trip ≡ found → are_known stops (stops_held rows found) ≡ true
@@ -118,7 +113,7 @@ one_each start [] [] near = refl
 one_each start [] (reading ∷ readings) near = absurd (false≢true near)
 one_each start (row ∷ rows) [] near = absurd (false≢true near)
 one_each start (row ∷ rows) (reading ∷ readings) near =
-    let rest = one_each start rows readings (both (is_near (planned start row) reading) (are_near start rows readings) near).1 in
+    let rest = one_each start rows readings (and_parts (is_near (planned start row) reading) (are_near start rows readings) near).1 in
     ap suc rest
 
 -- and their times are moments
@@ -128,8 +123,8 @@ all_moments start [] [] begins timed near = tt
 all_moments start [] (reading ∷ readings) begins timed near = absurd (false≢true near)
 all_moments start (row ∷ rows) [] begins timed near = tt
 all_moments start (row ∷ rows) (reading ∷ readings) begins timed near =
-    let here = both (is_near (planned start row) reading) (are_near start rows readings) near in
-    let times = both (is_timed row) (are_timed rows) timed in
+    let here = and_parts (is_near (planned start row) reading) (are_near start rows readings) near in
+    let times = and_parts (is_timed row) (are_timed rows) timed in
     (stop_moments start row reading begins times.0 here.0, all_moments start rows readings begins times.1 here.1)
 
 pub moments : (start : ℤ) (rows : List StopRow) (readings : List StopReading) → IsDayStart start → are_timed rows ≡ true → are_near start rows readings ≡ true

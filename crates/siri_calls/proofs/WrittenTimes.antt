@@ -1,5 +1,6 @@
 -- The times that a journey says are moments.
-use Rattle.std.proofs.Common.{◌≡◌, ℕ, ℤ, pos, map, ap, ◌+ℤ◌, ◌-ℤ◌, ◌≤◌, ◌<◌, Bool, true, false, ◌&&◌, List, [], ◌∷◌, length, slice_get, Some, nat_le, refl, arith, suc, zero}
+use Rattle.std.proofs.Common.{◌≡◌, ℕ, ℤ, pos, map, ap, ◌+ℤ◌, ◌-ℤ◌, ◌≤◌, ◌<◌, Bool, true, List, [], ◌∷◌, length, slice_get, Some, nat_le, refl, arith, suc, zero}
+use Rattle.std.proofs.lemmas.Bool.{and_parts}
 use Rattle.std.specs.List.{list_all}
 use Rattle.std.proofs.lemmas.Bool.Decides.{nat_tests}
 use Rattle.std.proofs.lemmas.Int.{ints}
@@ -19,15 +20,10 @@ use Rattle.journey_model.specs.declared.readings.StopReading.TheVariants.{Absent
 use Rattle.siri_calls.specs.DeliveryTree.{skipped_at, stop_readings}
 use Rattle.siri_calls.specs.DeliveryTexts.{SaysMoments}
 
--- both of two tests
-both : (a b : Bool) → (a && b) ≡ true → (a ≡ true) × (b ≡ true)
-both true b h = (refl, h)
-both false b h = absurd (cc)
-
 -- the times of a stop, as facts
 few : (row : StopRow) → is_timed row ≡ true → (row.arrival ≤ 359999) × (row.departure ≤ 359999)
 few row timed =
-    let h = both (nat_le row.arrival 359999) (nat_le row.departure 359999) timed in
+    let h = and_parts (nat_le row.arrival 359999) (nat_le row.departure 359999) timed in
     (grind (arith, nat_tests, h.0), grind (arith, nat_tests, h.1))
 
 -- a time at most a week from a planned one
@@ -41,7 +37,7 @@ pub says_moments : (start : ℤ) (row : StopRow) (reading : StopReading) → IsD
 says_moments start row Absent day timed near = tt
 says_moments start row Skipped day timed near = tt
 says_moments start row (Timed arrival departure) day timed near =
-    let h = both (is_delay (arrival -ℤ (planned start row).0)) (is_delay (departure -ℤ (planned start row).1)) near in
+    let h = and_parts (is_delay (arrival -ℤ (planned start row).0)) (is_delay (departure -ℤ (planned start row).1)) near in
     let seconds = few row timed in
     (near_moment start row.arrival arrival day seconds.0 h.0, near_moment start row.departure departure day seconds.1 h.1)
 
@@ -54,9 +50,9 @@ near_at start (one ∷ rows) [] place row reading near at there = absurd (cc)
 near_at start (one ∷ rows) (first ∷ readings) zero row reading near at there =
     let same : one ≡ row = cc in
     let same_reading : first ≡ reading = cc in
-    rw (← same, ← same_reading) (both _ _ near).0
+    rw (← same, ← same_reading) (and_parts _ _ near).0
 near_at start (one ∷ rows) (first ∷ readings) (suc place) row reading near at there =
-    near_at start rows readings place row reading (both (is_near (planned start one) first) (are_near start rows readings) near).1 at there
+    near_at start rows readings place row reading (and_parts (is_near (planned start one) first) (are_near start rows readings) near).1 at there
 
 -- there are as many readings as stops
 pub as_many : (start : ℤ) (rows : List StopRow) (readings : List StopReading) → are_near start rows readings ≡ true → length readings ≡ length rows
@@ -64,7 +60,7 @@ as_many start [] [] near = refl
 as_many start [] (first ∷ readings) near = absurd (cc)
 as_many start (one ∷ rows) [] near = absurd (cc)
 as_many start (one ∷ rows) (first ∷ readings) near =
-    ap suc (as_many start rows readings (both (is_near (planned start one) first) (are_near start rows readings) near).1)
+    ap suc (as_many start rows readings (and_parts (is_near (planned start one) first) (are_near start rows readings) near).1)
 
 -- a journey that skips all stops is near
 pub all_skipped : (start : ℤ) (rows : List StopRow) → are_near start rows (map skipped_at rows) ≡ true
@@ -74,8 +70,8 @@ all_skipped start (row ∷ rows) = all_skipped start rows
 -- what holds of each of the stops holds of one
 pub each_at : (test : StopRow → Bool) (rows : List StopRow) (place : ℕ) (row : StopRow) → list_all test rows ≡ true → slice_get rows place ≡ Some row → test row ≡ true
 each_at test [] place row all at = absurd (cc)
-each_at test (one ∷ rows) zero row all at = let same : one ≡ row = cc in rw (← same) (both (test one) (list_all test rows) all).0
-each_at test (one ∷ rows) (suc place) row all at = each_at test rows place row (both (test one) (list_all test rows) all).1 at
+each_at test (one ∷ rows) zero row all at = let same : one ≡ row = cc in rw (← same) (and_parts (test one) (list_all test rows) all).0
+each_at test (one ∷ rows) (suc place) row all at = each_at test rows place row (and_parts (test one) (list_all test rows) all).1 at
 
 -- a journey that skips all stops skips each
 pub skipped_there : (rows : List StopRow) (place : ℕ) → place < length rows → slice_get (map skipped_at rows) place ≡ Some Skipped

@@ -1,5 +1,6 @@
 -- What a situation affects is known.
 use Rattle.std.proofs.Common.{◌≡◌, ◌∙◌, ℕ, refl, ap, subst, Bool, true, false, ◌&&◌, List, [], ◌∷◌, ◌++◌, length, map, Option, Some, None, option_map, Result, Ok, Err, if◌then◌else◌}
+use Rattle.std.proofs.lemmas.Bool.{and_parts}
 use Rattle.std.specs.Prelude.{⊤, cond, nat_lt, option_to_list, position}
 use Rattle.std.specs.List.{cons_option, list_all, position_or_len}
 use Rattle.std.specs.Str.{bytes_eq}
@@ -116,13 +117,10 @@ references : (table : Table) (tree : Data) → OnFound (AreThere table) (spec.re
 references table tree = after (AreThere table) (trees_at (Object Member.Affects) tree) _ (λ affects is. references_below table affects)
 
 -- what is known of references
-both : (a b : Bool) → (a && b) ≡ true → (a ≡ true) × (b ≡ true)
-both true b h = (refl, h)
-both false b h = cc
 
 known : (table : Table) (all : List Reference) → AreThere table all → list_all (is_known table) (spec.known all) ≡ true
 known table [] h = refl
-known table (one ∷ others) h = by one.known (both (is_there table one.known) (are_there table others) h).0 (known table others (both (is_there table one.known) (are_there table others) h).1)
+known table (one ∷ others) h = by one.known (and_parts (is_there table one.known) (are_there table others) h).0 (known table others (and_parts (is_there table one.known) (are_there table others) h).1)
   where
     by : (place : Option Ref) → is_there table place ≡ true → list_all (is_known table) (spec.known others) ≡ true
         → list_all (is_known table) (cons_option place (spec.known others)) ≡ true
