@@ -3,3 +3,4 @@ pub mod MemberLemmas
 pub mod RangeLemmas
 pub mod NumberLemmas
 pub mod ArrayLemmas
+pub mod KeptLemmas

@@ -35,7 +35,7 @@ at_last : (found : Option json.Json) → later found None ≡ option_map data_of
 at_last None = refl
 at_last (Some tree) = refl
 
-found_in : (name : List ℕ) (tree : json.Json) → get name (data_of tree) ≡ option_map data_of (json_find.get name tree)
+pub found_in : (name : List ℕ) (tree : json.Json) → get name (data_of tree) ≡ option_map data_of (json_find.get name tree)
 found_in name json.null = refl
 found_in name (json.boolean b) = refl
 found_in name (json.number text) = refl

@@ -1,6 +1,7 @@
 pub mod CallLemmas
 pub mod DenseLemmas
 pub mod FrameLemmas
+pub mod KeptLemmas
 pub mod OrderLemmas
 pub mod PlaceLemmas
 pub mod PlacedLemmas

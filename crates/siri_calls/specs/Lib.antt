@@ -6,6 +6,7 @@ pub mod Frame
 pub mod Journeys
 pub mod Judged
 pub mod MatchedCalls
+pub mod ReadMembers
 pub mod SaidAgain
 pub mod Sayable
 pub mod Seen

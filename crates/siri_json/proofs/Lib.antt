@@ -1,3 +1,4 @@
 pub mod DeliveryLemmas
 pub mod FormLemmas
+pub mod KeptLemmas
 pub mod TreeLemmas
