@@ -6,7 +6,7 @@ use Rattle.json.specs.Json as json
 use Rattle.json.specs.Find as json_find
 use Rattle.serde_json.specs.Data.{Data}
 use Rattle.serde_json.specs.Find.{get}
-use Rattle.json_tree.specs.Kept.{kept, kept_members}
+use Rattle.json_tree.specs.Kept.{kept, kept_members, member_if}
 use Rattle.json_tree.specs.Trees.{data_of}
 use Rattle.json_tree.proofs.MemberLemmas.{found_in}
 
@@ -43,7 +43,7 @@ get_member-kept has name asked (json.member key first others) = by (has key) ref
   where
     by : (stay : Bool) → has key ≡ stay
         → json_find.get_member name (kept_members has others) ≡ option_map (kept has) (json_find.get_member name others)
-        → json_find.get_member name (if stay then json.member key (kept has first) (kept_members has others) else kept_members has others)
+        → json_find.get_member name (member_if stay key (kept has first) (kept_members has others))
         ≡ option_map (kept has) (json_find.get_member name (json.member key first others))
     by true e later =
         ap (λ rest. json_find.later_or rest (cond (bytes_eq key name) (Some (kept has first)) None)) later

@@ -6,7 +6,7 @@ use Rattle.serde_json.specs.Data.{Data, Items, Members, no_members, item, put}
 use Rattle.serde_json.specs.Read.{of_json, of_items, of_members}
 use Rattle.json_tree.specs.Trees.{Tree}
 
-is_some-map : {A B : Type 0} (make : A → B) (found : Option A) → is_some (option_map make found) ≡ is_some found
+pub is_some-map : {A B : Type 0} (make : A → B) (found : Option A) → is_some (option_map make found) ≡ is_some found
 is_some-map make None = refl
 is_some-map make (Some a) = refl
 
@@ -17,7 +17,7 @@ items_fit trees = is_some (of_items (items_of (map value_view trees)))
 abbrev pub members_fit : List (Bor (List ℕ) × Tree) → Bool
 members_fit members = is_some (of_members (members_of (map (λ m. (m.0, value_view m.1)) members)) no_members)
 
-one_item : (first : Option Data) (others : Option Items) → is_some (option_and_then (λ one. option_map (item one) others) first) ≡ is_some first && is_some others
+pub one_item : (first : Option Data) (others : Option Items) → is_some (option_and_then (λ one. option_map (item one) others) first) ≡ is_some first && is_some others
 one_item None others = refl
 one_item (Some one) others = is_some-map (item one) others
 
@@ -29,12 +29,12 @@ either : (first : Option Data) (a b : Data → Option Members) → ((d : Data) �
 either None a b same = refl
 either (Some d) a b same = same d
 
-whatever : (members : json.Members) (a b : Members) → is_some (of_members members a) ≡ is_some (of_members members b)
+pub whatever : (members : json.Members) (a b : Members) → is_some (of_members members a) ≡ is_some (of_members members b)
 whatever json.no_members a b = refl
 whatever (json.member name first others) a b =
     either (of_json first) (λ d. of_members others (put name d a)) (λ d. of_members others (put name d b)) (λ d. whatever others (put name d a) (put name d b))
 
-one_member : (first : Option Data) (others : Data → Option Members) (left : Bool) → ((d : Data) → is_some (others d) ≡ left) → is_some (option_and_then others first) ≡ is_some first && left
+pub one_member : (first : Option Data) (others : Data → Option Members) (left : Bool) → ((d : Data) → is_some (others d) ≡ left) → is_some (option_and_then others first) ≡ is_some first && left
 one_member None others left same = refl
 one_member (Some d) others left same = same d
 

@@ -1,2 +1,4 @@
 pub mod Trees
 pub mod Faults
+pub mod Kept
+pub mod Keeping

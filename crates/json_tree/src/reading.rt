@@ -20,11 +20,11 @@ pub enum TreeFault {
     Memory,
 }
 
-// How deep arrays and objects may nest.
-const MOST_DEPTH: usize = 127;
+/// How deep arrays and objects may nest.
+pub const MOST_DEPTH: usize = 127;
 
-// Whether each number of a tree is in range.
-fn are_in_range(tree: &Value<'_>) -> bool
+/// Whether each number of a tree is in range.
+pub fn are_in_range(tree: &Value<'_>) -> bool
     ensures { result ≡ is_some (of_json (value_view tree.now)) }
 {
     match tree {

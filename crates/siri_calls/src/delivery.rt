@@ -12,10 +12,11 @@ ghost use Rattle.siri_json.specs.Deliveries.{HasVerdicts, ReadsTree};
 
 use crate::frame::{Place, frames_in};
 use crate::items::{item_place, verdict};
+use crate::read_members::ReadMembers;
 use gw_base::Member;
 use journey_model::{Context, JourneyRecord};
 use json::{Scratch, Value};
-use json_tree::read_tree;
+use json_tree::read_kept;
 use siri_json::DeliveryFault;
 use siri_json::frame::repeated_under;
 use std::alloc::{AllocError, Global};
@@ -104,7 +105,7 @@ pub fn read_delivery(
         AreServable context.now delivery.items) }
 {
     let mut scratch = Scratch::new(alloc);
-    match read_tree(alloc, body, &mut scratch) {
+    match read_kept::<ReadMembers>(alloc, body, &mut scratch) {
         Ok(root) => tree_delivery(alloc, &root, context),
         Err(fault) => Err(DeliveryFault::from(fault)),
     }

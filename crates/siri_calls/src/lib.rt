@@ -12,6 +12,7 @@ mod header;
 mod items;
 mod judging;
 mod matching_calls;
+mod read_members;
 mod trip_run;
 mod writing;
 
