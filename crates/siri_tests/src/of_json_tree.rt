@@ -1,6 +1,6 @@
 //! Texts and what stands in them under `a`.
 use json::{Scratch, Value};
-use json_tree::{TreeFault, find, read_tree, whole_number};
+use json_tree::{Names, TreeFault, find, read_kept, read_tree, whole_number};
 use std::alloc::Global;
 use std::process::Abort;
 
@@ -15,6 +15,29 @@ fn number_at(tree: &Value<'_>) -> u64 {
 fn read(alloc: Global, bytes: &[u8]) -> Result<u64, TreeFault> {
     let mut scratch = Scratch::new(alloc);
     match read_tree(alloc, bytes, &mut scratch) {
+        Ok(tree) => Ok(number_at(&tree)),
+        Err(fault) => Err(fault),
+    }
+}
+
+// The name that is looked for.
+struct NamedA;
+
+impl Names for NamedA {
+    ghost use Rattle.std.specs.Prelude.{codes};
+    ghost use Rattle.std.specs.Str.{bytes_eq};
+
+    ghost has = { λ name. bytes_eq name (codes "a") };
+
+    fn has(name: &str) -> bool {
+        name == "a"
+    }
+}
+
+// The same of a tree that keeps no other members.
+fn read_named(alloc: Global, bytes: &[u8]) -> Result<u64, TreeFault> {
+    let mut scratch = Scratch::new(alloc);
+    match read_kept::<NamedA>(alloc, bytes, &mut scratch) {
         Ok(tree) => Ok(number_at(&tree)),
         Err(fault) => Err(fault),
     }
@@ -50,16 +73,49 @@ static CASES: [(&[u8], Result<u64, TreeFault>); 17] = [
     (b"\xef\xbb\xbf{\"a\":1}", NOT_JSON),
 ];
 
-// Each text is read so.
+// Each text is read so, whole or not.
 fn assert_each(rt: &impl Abort, alloc: Global, cases: &[(&[u8], Result<u64, TreeFault>)]) {
     for (bytes, wanted) in cases {
         assert_eq!(rt; read(alloc, bytes), *wanted);
+        assert_eq!(rt; read_named(alloc, bytes), *wanted);
     }
 }
 
 #[test]
 fn texts_are_read(rt: HostRuntime) {
     assert_each(&rt, rt.alloc(), &CASES);
+}
+
+// How many members an object has, and how many items an array.
+fn size(tree: &Value<'_>) -> usize {
+    match tree {
+        Value::Object(members) => members.len(),
+        Value::Array(items) => items.len(),
+        _ => 0,
+    }
+}
+
+// How many members are kept, and how many in the one under `a`.
+fn sizes(alloc: Global, bytes: &[u8]) -> Result<(usize, usize), TreeFault> {
+    let mut scratch = Scratch::new(alloc);
+    match read_kept::<NamedA>(alloc, bytes, &mut scratch) {
+        Ok(tree) => Ok((
+            size(&tree),
+            find(&tree, "a").map(|found| size(found)).unwrap_or(0),
+        )),
+        Err(fault) => Err(fault),
+    }
+}
+
+#[test]
+fn members_of_other_names_are_left_out_at_any_depth(rt: HostRuntime) {
+    let alloc = rt.alloc();
+    let other_names = b"{\"b\":{\"a\":1},\"a\":{\"b\":2,\"c\":[{\"a\":1}]}}";
+    assert_eq!(rt; sizes(alloc, other_names), Ok((1, 0)));
+    let several = b"{\"a\":0,\"\\u0061\":{\"aa\":0,\"a\":1,\"A\":0,\"a\":2}}";
+    assert_eq!(rt; sizes(alloc, several), Ok((2, 2)));
+    let items = b"{\"a\":[1,{\"b\":2},[]]}";
+    assert_eq!(rt; sizes(alloc, items), Ok((1, 3)));
 }
 
 // So many arrays in one another.
