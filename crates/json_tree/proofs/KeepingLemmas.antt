@@ -1,10 +1,10 @@
 -- What is kept of values, items and members, one after another.
-use Rattle.std.proofs.Common.{◌≡◌, ◌∙◌, ℕ, zero, suc, ◌-◌, ◌<◌, List, [], ◌∷◌, length, Bool, true, false, cond, ◌&&◌, Option, Some, None, option_map, option_and_then, is_some, refl, sym, ap, subst, arith}
+use Rattle.std.proofs.Common.{◌≡◌, ◌∙◌, ℕ, zero, suc, ◌-◌, ◌<◌, List, [], Bool, true, false, cond, ◌&&◌, Option, Some, None, option_map, option_and_then, is_some, refl, sym, ap, subst, arith}
 use Rattle.std.specs.Prelude.{⊤}
 use Rattle.json.specs.Token.{Token}
 use Rattle.json.specs.Json as json
 use Rattle.json.specs.Json.{Parse, parse_map, after_end_array, read_key, if_last, value}
-use Rattle.json.proofs.Grammar.{items_fail, items_more, members_fail, members_more, members_no_key, items_end, members_end, left_some}
+use Rattle.json.proofs.Grammar.{items_fail, items_more, members_fail, members_more, left_some}
 use Rattle.json.proofs.Trees.{none_before}
 use Rattle.serde_json.specs.Data.{Data, number, array, object, no_members, put}
 use Rattle.serde_json.specs.Read.{number_of, of_json, of_items, of_members, converted}

@@ -1,9 +1,8 @@
 -- What is kept, where all numbers are in range; those of members that aren't kept count too.
-use Rattle.std.specs.Prelude.{ℕ, List, Bool, cond, Option, Some, None, is_some, option_map}
-use Rattle.json.specs.Token.{Token}
+use Rattle.std.specs.Prelude.{ℕ, List, Bool, cond, Option, Some, None, is_some}
 use Rattle.json.specs.Json as json
 use Rattle.serde_json.specs.Data.{no_members}
-use Rattle.serde_json.specs.Read.{of_json, of_items, of_members, converted}
+use Rattle.serde_json.specs.Read.{of_json, of_items, of_members}
 use Rattle.json_tree.specs.Kept.{kept, kept_items, kept_members}
 
 -- whether each number of a tree, of items or of members is in range

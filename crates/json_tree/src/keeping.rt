@@ -58,17 +58,20 @@ fn pass_value<'a>(alloc: Global, reader: &mut Reader<'a>, depth: usize) -> Resul
     }
 }
 
-// What is kept of the next value of the reader. Arrays and objects may nest `depth` deep.
+// What is kept of the next value of the reader. Arrays and objects may nest `depth` deep. Members are gathered in one
+// list for all objects that aren't at their end yet, so that the list of each is made with just its room.
 #[cycle(keep)]
 #[inline(always)]
 fn keep_value<'a, N: Names>(
     alloc: Global,
     reader: &mut Reader<'a>,
+    gathered: &mut Vec<(&'a str, Value<'a>)>,
     depth: usize,
 ) -> Result<Value<'a>, TreeFault>
     ensures ok { IfOk result
         (λ tree. converted (kept_if_fits N.has) (value depth reader.old) ≡ Some (value_view tree, reader.new)) }
     ensures shorter { OnOk result (length reader.new < length reader.old) }
+    ensures stays { OnOk result (gathered.new.items ≡ gathered.old.items) }
     ensures fault { IfErr result (Says (converted (kept_if_fits N.has) (value depth reader.old) ≡ None)) }
 {
     let Some(token) = reader.next() else {
@@ -90,7 +93,7 @@ fn keep_value<'a, N: Names>(
             if depth == 0 {
                 return Err(TreeFault::NotJson);
             }
-            match keep_items::<N>(alloc, reader, depth - 1) {
+            match keep_items::<N>(alloc, reader, gathered, depth - 1) {
                 Ok(list) => Ok(Value::Array(list)),
                 Err(fault) => Err(fault),
             }
@@ -99,7 +102,7 @@ fn keep_value<'a, N: Names>(
             if depth == 0 {
                 return Err(TreeFault::NotJson);
             }
-            match keep_members::<N>(alloc, reader, depth - 1) {
+            match keep_members::<N>(alloc, reader, gathered, depth - 1) {
                 Ok(list) => Ok(Value::Object(list)),
                 Err(fault) => Err(fault),
             }
@@ -113,18 +116,20 @@ fn keep_value<'a, N: Names>(
 fn keep_items<'a, N: Names>(
     alloc: Global,
     reader: &mut Reader<'a>,
+    gathered: &mut Vec<(&'a str, Value<'a>)>,
     depth: usize,
 ) -> Result<Vec<Value<'a>>, TreeFault>
     ensures ok { IfOk result
         (λ list. converted (items_if_fit N.has) (items (value depth) (length reader.old) reader.old)
         ≡ Some (items_view list.items, reader.new)) }
     ensures shorter { OnOk result (length reader.new < length reader.old) }
+    ensures stays { OnOk result (gathered.new.items ≡ gathered.old.items) }
     ensures fault { IfErr result
         (Says (converted (items_if_fit N.has) (items (value depth) (length reader.old) reader.old) ≡ None)) }
 {
     let mut found = Vec::new(alloc);
     while !reader.take_end_array() {
-        let item = match keep_value::<N>(alloc, reader, depth) {
+        let item = match keep_value::<N>(alloc, reader, gathered, depth) {
             Ok(item) => item,
             Err(fault) => return Err(fault),
         };
@@ -141,20 +146,27 @@ fn keep_items<'a, N: Names>(
 fn keep_members<'a, N: Names>(
     alloc: Global,
     reader: &mut Reader<'a>,
+    gathered: &mut Vec<(&'a str, Value<'a>)>,
     depth: usize,
 ) -> Result<Vec<(&'a str, Value<'a>)>, TreeFault>
     ensures ok { IfOk result
         (λ list. converted (members_if_fit N.has) (members (value depth) (length reader.old) reader.old)
         ≡ Some (members_view list.items, reader.new)) }
     ensures shorter { OnOk result (length reader.new < length reader.old) }
+    ensures stays { OnOk result (gathered.new.items ≡ gathered.old.items) }
     ensures fault { IfErr result
         (Says (converted (members_if_fit N.has) (members (value depth) (length reader.old) reader.old) ≡ None)) }
 {
-    let mut found = Vec::new(alloc);
+    let start = gathered.len();
     loop {
         let key = match reader.next_key() {
             Ok(Some(key)) => key,
-            Ok(None) => return Ok(found),
+            Ok(None) => {
+                return match gathered.split_off(start) {
+                    Ok(list) => Ok(list),
+                    Err(_) => Err(TreeFault::Memory),
+                };
+            }
             Err(_) => return Err(TreeFault::NotJson),
         };
         if !N::has(key) {
@@ -163,11 +175,11 @@ fn keep_members<'a, N: Names>(
                 Err(fault) => return Err(fault),
             }
         }
-        let member = match keep_value::<N>(alloc, reader, depth) {
+        let member = match keep_value::<N>(alloc, reader, gathered, depth) {
             Ok(member) => member,
             Err(fault) => return Err(fault),
         };
-        if push(&mut found, (key, member)).is_err() {
+        if push(gathered, (key, member)).is_err() {
             return Err(TreeFault::Memory);
         }
     }
@@ -186,7 +198,8 @@ fn kept_of_text<'a, N: Names>(
         Ok(reader) => reader,
         Err(AllocError) => return Err(TreeFault::Memory),
     };
-    let tree = match keep_value::<N>(alloc, &mut reader, MOST_DEPTH) {
+    let mut gathered = Vec::new(alloc);
+    let tree = match keep_value::<N>(alloc, &mut reader, &mut gathered, MOST_DEPTH) {
         Ok(tree) => tree,
         Err(fault) => return Err(fault),
     };

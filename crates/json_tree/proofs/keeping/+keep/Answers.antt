@@ -1,12 +1,14 @@
-use Rattle.std.proofs.Common.{◌≡◌, ◌-◌, ◌<◌, [], ◌∷◌, ◌++◌, length, true, false, cond, is_some, option_map, Some, None, sym, ap, ap₂, ◌∙◌, arith, rules}
+use Rattle.std.proofs.Common.{ℕ, List, Bor, Global, take, drop, ◌≡◌, ◌-◌, ◌<◌, [], ◌∷◌, ◌++◌, length, true, false, option_map, Some, None, sym, ap, ap₂, ◌∙◌, arith, rules}
+use Rattle.std.proofs.Math.Seq.{drop-append_seam, take-append_seam}
+use Rattle.std.proofs.lemmas.List.{append_assoc, append-nil}
 use Rattle.json.specs.Token.{Token}
 use Rattle.json.specs.Json.{Json, array, object, parse_map, after_end_array, read_key, items, members, value}
 use Rattle.json.specs.Reads.{token_of}
-use Rattle.json.specs.Value.{value_view}
-use Rattle.json.specs.declared.value.Value.{String, Number, Bool, Null, the_lemmas}
+use Rattle.json.specs.Value.{value_view, members_view}
+use Rattle.json.specs.declared.value.Value.{Value, String, Number, Bool, Null, the_lemmas}
 use Rattle.json.proofs.Grammar.{value_is, value-begin_array, value-begin_object, read_key-shorter, items_end, members_end, members_no_key}
 use Rattle.json.proofs.Trees.{items_before, members_before, items_before-no_items, members_before-no_members, one_more_item, one_more_member, none_before, view-Array, view-Object}
-use Rattle.serde_json.specs.Read.{converted, number_of}
+use Rattle.serde_json.specs.Read.{converted}
 use Rattle.json_tree.specs.Keeping.{kept_if_fits, items_if_fit, members_if_fit}
 use Rattle.json_tree.proofs.KeepingLemmas.{item_kept, item_not_read, member_kept, member_left_out, member_not_read, nothing_kept, number_fits, array_read, object_read, at, says}
 use Rattle.json_tree.proofs.keeping.+keep.Goals as goal
@@ -29,6 +31,7 @@ keep_items-loop-alloc-preserved g t c =
       l.invariant.2 ∙ ap (parse_map (items_before l.found.items)) turn ∙ one_more_item l.found.items v _
           ∙ ap (λ vs. parse_map (items_before vs) (converted (items_if_fit has) (items p (n - 1) r))) (sym pushed),
       omega (arith, l.invariant.3),
+      done.stays ∙ l.invariant.4,
     )
 
 pub keep_items-returns-clause-ok : goal.keep_items-returns-clause-ok
@@ -40,14 +43,23 @@ keep_items-returns-clause-ok g t c =
     l.invariant.2 ∙ ap (λ o. parse_map (items_before l.found.items) (converted (items_if_fit g.N.Names.has) o)) (items_end p n l.reader r l.invariant.1 (grind arith))
     ∙ ap (λ js. Some (js, r)) (items_before-no_items l.found.items)
 
-pub keep_members-returns-in-Ok-None-clause-ok : goal.keep_members-returns-in-Ok-None-clause-ok
-keep_members-returns-in-Ok-None-clause-ok g t c =
+pub keep_members-returns-in-Ok-clause-ok : goal.keep_members-returns-in-Ok-clause-ok
+keep_members-returns-in-Ok-clause-ok g t c =
     let p = value c.args.depth in
     let l = c.loop-key in
     let n = l.invariant.0 in
+    let found = l.invariant.1 in
+    let before = c.args.gathered.now.items in
     let r = c.next_key.new.self in
-    l.invariant.2 ∙ ap (λ o. parse_map (members_before l.found.items) (converted (members_if_fit g.N.Names.has) o)) (members_end p n l.reader r l.invariant.1 (grind arith))
-    ∙ ap (λ ms. Some (ms, r)) (members_before-no_members l.found.items)
+    let list = c.in-Ok.list in
+    let is : list.items ≡ found = c.in-Ok.ensures.tail ∙ ap₂ drop l.invariant.6 l.invariant.5 ∙ drop-append_seam before found in
+    l.invariant.3 ∙ ap (λ o. parse_map (members_before found) (converted (members_if_fit g.N.Names.has) o)) (members_end p n l.reader r l.invariant.2 (grind arith))
+    ∙ ap (λ ms. Some (ms, r)) (members_before-no_members found) ∙ ap (λ ms. Some (members_view ms, r)) (sym is)
+
+pub keep_members-returns-in-Ok-clause-stays : goal.keep_members-returns-in-Ok-clause-stays
+keep_members-returns-in-Ok-clause-stays g t c =
+    let l = c.loop-key in
+    c.in-Ok.ensures.items ∙ ap₂ take l.invariant.6 l.invariant.5 ∙ take-append_seam c.args.gathered.now.items l.invariant.1
 
 pub keep_members-returns-in-Err-clause-fault : goal.keep_members-returns-in-Err-clause-fault
 keep_members-returns-in-Err-clause-fault g t c =
@@ -55,7 +67,7 @@ keep_members-returns-in-Err-clause-fault g t c =
     let l = c.loop-key in
     let n = l.invariant.0 in
     let ended : read_key l.reader ≡ None = grind arith in
-    l.invariant.2 ∙ ap (λ o. parse_map (members_before l.found.items) (converted (members_if_fit g.N.Names.has) o)) (members_no_key p n l.reader ended)
+    l.invariant.3 ∙ ap (λ o. parse_map (members_before l.invariant.1) (converted (members_if_fit g.N.Names.has) o)) (members_no_key p n l.reader ended)
 
 pub keep_value-returns-in_default-clause-fault : goal.keep_value-returns-in_default-clause-fault
 keep_value-returns-in_default-clause-fault g t c =
@@ -177,7 +189,7 @@ keep_members-returns-in-Err-pass_value-clause-fault g t c =
     let s = c.next_key.new.self in
     let key : read_key l.reader ≡ Some (Some k, s) = grind arith in
     let done = c.in-Err-pass_value in
-    says (λ failed. l.invariant.2 ∙ ap (parse_map (members_before l.found.items)) (member_not_read p has n k l.reader s key (nothing_kept has (p s) failed))) done.fault done.ensures.fault
+    says (λ failed. l.invariant.3 ∙ ap (parse_map (members_before l.invariant.1)) (member_not_read p has n k l.reader s key (nothing_kept has (p s) failed))) done.fault done.ensures.fault
 
 pub keep_members-returns-in-Err-keep_value-clause-fault : goal.keep_members-returns-in-Err-keep_value-clause-fault
 keep_members-returns-in-Err-keep_value-clause-fault g t c =
@@ -189,10 +201,10 @@ keep_members-returns-in-Err-keep_value-clause-fault g t c =
     let s = c.next_key.new.self in
     let key : read_key l.reader ≡ Some (Some k, s) = grind arith in
     let done = c.in-Err-keep_value in
-    says (λ failed. l.invariant.2 ∙ ap (parse_map (members_before l.found.items)) (member_not_read p has n k l.reader s key failed)) done.fault done.ensures.fault
+    says (λ failed. l.invariant.3 ∙ ap (parse_map (members_before l.invariant.1)) (member_not_read p has n k l.reader s key failed)) done.fault done.ensures.fault
 
-pub keep_members-loop-key-preserved-in-Ok : goal.keep_members-loop-key-preserved-in-Ok
-keep_members-loop-key-preserved-in-Ok g t c =
+pub keep_members-loop-key-preserved-in-Ok-pass_value : goal.keep_members-loop-key-preserved-in-Ok-pass_value
+keep_members-loop-key-preserved-in-Ok-pass_value g t c =
     let has = g.N.Names.has in
     let p = value c.args.depth in
     let l = c.loop-key in
@@ -201,15 +213,18 @@ keep_members-loop-key-preserved-in-Ok g t c =
     let s = c.next_key.new.self in
     let key : read_key l.reader ≡ Some (Some k, s) = grind arith in
     let unnamed : has k ≡ false = grind arith in
-    let done = c.in-Ok.ensures in
+    let done = c.in-Ok-pass_value.ensures in
     let r = c.pass_value.new.reader in
     let less = read_key-shorter l.reader (Some k) s key in
     let lesser = done.shorter in
-    let turn = member_left_out p has n k l.reader s r (omega (arith, l.invariant.1)) key unnamed done.ok in (
+    let turn = member_left_out p has n k l.reader s r (omega (arith, l.invariant.2)) key unnamed done.ok in (
       n - 1,
-      omega (arith, l.invariant.1),
-      l.invariant.2 ∙ ap (parse_map (members_before l.found.items)) turn,
-      omega (arith, l.invariant.3),
+      l.invariant.1,
+      omega (arith, l.invariant.2),
+      l.invariant.3 ∙ ap (parse_map (members_before l.invariant.1)) turn,
+      omega (arith, l.invariant.4),
+      l.invariant.5,
+      l.invariant.6,
     )
 
 pub keep_members-loop-key-preserved : goal.keep_members-loop-key-preserved
@@ -227,11 +242,18 @@ keep_members-loop-key-preserved g t c =
     let r = c.keep_value.new.reader in
     let less = read_key-shorter l.reader (Some k) s key in
     let lesser = done.shorter in
-    let pushed : c.push.new.list.items ≡ l.found.items ++ (c.in-Ok-Some.key, v) ∷ [] = search rules in
-    let turn = member_kept p has n k l.reader s r (value_view v) (omega (arith, l.invariant.1)) key named done.ok in (
+    let one : Bor (List ℕ) × Value Global = (c.in-Ok-Some.key, v) in
+    let pushed : c.push.new.list.items ≡ c.keep_value.new.gathered.items ++ one ∷ [] = search rules in
+    let turn = member_kept p has n k l.reader s r (value_view v) (omega (arith, l.invariant.2)) key named done.ok in (
       n - 1,
-      omega (arith, l.invariant.1),
-      l.invariant.2 ∙ ap (parse_map (members_before l.found.items)) turn ∙ one_more_member l.found.items (c.in-Ok-Some.key, v) _
-          ∙ ap (λ ms. parse_map (members_before ms) (converted (members_if_fit has) (members p (n - 1) r))) (sym pushed),
-      omega (arith, l.invariant.3),
+      l.invariant.1 ++ one ∷ [],
+      omega (arith, l.invariant.2),
+      l.invariant.3 ∙ ap (parse_map (members_before l.invariant.1)) turn ∙ one_more_member l.invariant.1 one _,
+      omega (arith, l.invariant.4),
+      pushed ∙ ap (λ ms. ms ++ one ∷ []) (done.stays ∙ l.invariant.5) ∙ append_assoc c.args.gathered.now.items l.invariant.1 (one ∷ []),
+      l.invariant.6,
     )
+
+pub keep_members-loop-key-init : goal.keep_members-loop-key-init
+keep_members-loop-key-init g t c =
+    (length c.args.reader.now, [], omega arith, none_before _, omega arith, sym (append-nil c.args.gathered.now.items), grind arith)

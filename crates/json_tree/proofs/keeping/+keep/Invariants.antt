@@ -1,4 +1,5 @@
-use Rattle.std.proofs.Common.{◌≡◌, ℕ, ◌+◌, ◌*◌, ◌≤◌, length}
+use Rattle.std.proofs.Common.{◌≡◌, ℕ, ◌+◌, ◌*◌, ◌≤◌, length, List, ◌++◌, Bor, Global}
+use Rattle.json.specs.declared.value.Value.{Value}
 use Rattle.json.specs.Json.{items, members, value, parse_map}
 use Rattle.json.proofs.Trees.{items_before, members_before}
 use Rattle.serde_json.specs.Read.{converted}
@@ -19,17 +20,17 @@ invariant-keep_items-loop-alloc g l =
     (n : ℕ) × (length l.reader ≤ n)
     × (converted (items_if_fit g.N.Names.has) (items (value l.depth) (length l.initial.reader) l.initial.reader)
     ≡ parse_map (items_before l.found.items) (converted (items_if_fit g.N.Names.has) (items (value l.depth) n l.reader)))
-    × (length l.reader ≤ length l.initial.reader)
+    × (length l.reader ≤ length l.initial.reader) × (l.gathered.items ≡ l.fn.gathered.items)
 
 abbrev pub decreases-keep_items-loop-alloc : goal.decreases-keep_items-loop-alloc
 decreases-keep_items-loop-alloc g l = length l.reader
 
 abbrev pub invariant-keep_members-loop-key : goal.invariant-keep_members-loop-key
 invariant-keep_members-loop-key g l =
-    (n : ℕ) × (length l.reader ≤ n)
+    (n : ℕ) × (found : List (Bor (List ℕ) × Value Global)) × (length l.reader ≤ n)
     × (converted (members_if_fit g.N.Names.has) (members (value l.depth) (length l.initial.reader) l.initial.reader)
-    ≡ parse_map (members_before l.found.items) (converted (members_if_fit g.N.Names.has) (members (value l.depth) n l.reader)))
-    × (length l.reader ≤ length l.initial.reader)
+    ≡ parse_map (members_before found) (converted (members_if_fit g.N.Names.has) (members (value l.depth) n l.reader)))
+    × (length l.reader ≤ length l.initial.reader) × (l.gathered.items ≡ l.fn.gathered.items ++ found) × (l.start ≡ length l.fn.gathered.items)
 
 abbrev pub decreases-keep_members-loop-key : goal.decreases-keep_members-loop-key
 decreases-keep_members-loop-key g l = length l.reader

@@ -1,5 +1,5 @@
-use Rattle.std.proofs.Common.{◌≡◌, ◌∙◌, [], Some, ap, arith}
-use Rattle.json.specs.Json.{max_depth, value}
+use Rattle.std.proofs.Common.{◌≡◌, [], Some, arith}
+use Rattle.json.specs.Json.{value}
 use Rattle.json.specs.Lex.{tokens}
 use Rattle.json.specs.Value.{value_view}
 use Rattle.serde_json.specs.Read.{converted}
