@@ -229,7 +229,7 @@ fn zone_word<'a>(flag: &Text, value: &'a Text) -> ZoneWord<'a>
 }
 
 // What the words say of what a command works over.
-fn scope(words: &[Text]) -> Scope<'_>
+fn scope_in(words: &[Text]) -> Scope<'_>
     requires { (scope : spec.Scope) × SaysScope words.now scope }
     ensures { SaysScope words.now (scope_of result) }
 {
@@ -247,7 +247,7 @@ fn serve(words: &[Text]) -> Server<'_>
     ensures { SaysServe words.now (server_of result) }
 {
     Server {
-        scope: scope(words),
+        scope: scope_in(words),
         keep: kept_count(&words[10]).unwrap(),
         listen: &words[12],
         connections: connection_count(&words[14]).unwrap(),
@@ -260,7 +260,7 @@ fn to_gtfsrt(words: &[Text]) -> Task<'_>
     ensures { SaysTask words.now (task_of result) }
 {
     Task::ToGtfsrt {
-        scope: scope(words),
+        scope: scope_in(words),
         at: moment(&words[10]).unwrap(),
         more: &words[11..],
     }
@@ -272,7 +272,7 @@ fn to_siri(words: &[Text]) -> Task<'_>
     ensures { SaysTask words.now (task_of result) }
 {
     Task::ToSiri {
-        scope: scope(words),
+        scope: scope_in(words),
         at: moment(&words[10]).unwrap(),
         feed: &words[12],
     }
@@ -284,7 +284,7 @@ fn to_siri_sx(words: &[Text]) -> Task<'_>
     ensures { SaysTask words.now (task_of result) }
 {
     Task::ToSiriSx {
-        scope: scope(words),
+        scope: scope_in(words),
         at: moment(&words[10]).unwrap(),
         feed: &words[12],
     }
@@ -296,7 +296,7 @@ fn show(words: &[Text]) -> Task<'_>
     ensures { SaysTask words.now (task_of result) }
 {
     Task::Show {
-        scope: scope(words),
+        scope: scope_in(words),
         feed: &words[10],
     }
 }

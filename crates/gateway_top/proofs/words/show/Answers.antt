@@ -8,6 +8,6 @@ returns c =
     let words = c.args.words.now in
     record {
       name = is.name;
-      scope = c.scope.ensures;
+      scope = c.scope_in.ensures;
       feed = slice_get_read words _ 10 _ refl (slice_get_within words 10 _ is.feed) c.index-words-10.is;
     }

@@ -10,7 +10,7 @@ returns c =
     let words = c.args.words.now in
     record {
       name = is.name;
-      scope = c.scope.ensures;
+      scope = c.scope_in.ensures;
       at = read_at utc_of words 10 _ _ _ is.at c.index-words-10.is (sym c.moment.ensures ∙ c.unwrap.ensures);
       feed = slice_get_read words _ 12 _ refl (slice_get_within words 12 _ is.feed) c.index-words-12.is;
     }

@@ -2,7 +2,7 @@ use Rattle.std.proofs.Common.{refl, sym, ◌∙◌}
 use Rattle.std.proofs.lemmas.Option.{slice_get_read, slice_get_within}
 use Rattle.gateway_top.specs.Forms.{beginning, day_count}
 use Rattle.gateway_top.proofs.WordLemmas.{read_at}
-use Rattle.gateway_top.proofs.words.scope.Goals as goal
+use Rattle.gateway_top.proofs.words.scope_in.Goals as goal
 
 pub returns : goal.returns
 returns c =
