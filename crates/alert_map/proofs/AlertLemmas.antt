@@ -23,11 +23,11 @@ use Rattle.feed_writing.specs.Written.{feed_entity, written}
 use Rattle.feed_reading.proofs.Building.{means_more}
 
 -- bytes begin with one number at most
-pub one_number : (bytes : List ℕ) (a b : ℕ) (behind_a behind_b : List ℕ) → BeginsNumber bytes a behind_a → BeginsNumber bytes b behind_b → a ≡ b
-one_number bytes a b behind_a behind_b first second =
-    let found : varint_at bytes ≡ Ok (a, behind_a) = rw first.1 (varint_again first.0 behind_a a first.2) in
-    let again : varint_at bytes ≡ Ok (b, behind_b) = rw second.1 (varint_again second.0 behind_b b second.2) in
-    let same : (a, behind_a) ≡ (b, behind_b) = cc in
+pub one_number : (bytes : List ℕ) (a b : ℕ) (after_a after_b : List ℕ) → BeginsNumber bytes a after_a → BeginsNumber bytes b after_b → a ≡ b
+one_number bytes a b after_a after_b first second =
+    let found : varint_at bytes ≡ Ok (a, after_a) = rw first.1 (varint_again first.0 after_a a first.2) in
+    let again : varint_at bytes ≡ Ok (b, after_b) = rw second.1 (varint_again second.0 after_b b second.2) in
+    let same : (a, after_a) ≡ (b, after_b) = cc in
     ap (λ (one : ℕ × List ℕ). one.0) same
 
 -- the tag of an entity takes one byte
@@ -36,8 +36,8 @@ unfolding varint seven_bits_each
 tag_is = refl
 
 -- after it stand the length of the body and the body
-behind_tag : (bytes body : List ℕ) → bytes ≡ bytes_field 2 body → drop 1 bytes ≡ varint (length body) ++ body
-behind_tag bytes body is = rw is (rw tag_is refl)
+after_tag : (bytes body : List ℕ) → bytes ≡ bytes_field 2 body → drop 1 bytes ≡ varint (length body) ++ body
+after_tag bytes body is = rw is (rw tag_is refl)
 
 field_within : (body : List ℕ) → length body ≤ length (bytes_field 2 body)
 field_within body = simp length-append (omega arith)
@@ -53,7 +53,7 @@ rest_is (byte ∷ bytes) = take_all (length (byte ∷ bytes) - 1) bytes (omega a
 body_begins : (bytes body : List ℕ) → bytes ≡ bytes_field 2 body → length bytes < 2 ^ 64 → BeginsNumber (take (length bytes - 1) (drop 1 bytes)) (length body) body
 body_begins bytes body is few =
     let within : length body < 2 ^ 64 = omega (arith, body_within bytes body is) in
-    let rest : take (length bytes - 1) (drop 1 bytes) ≡ varint (length body) ++ body = rest_is bytes ∙ behind_tag bytes body is in
+    let rest : take (length bytes - 1) (drop 1 bytes) ≡ varint (length body) ++ body = rest_is bytes ∙ after_tag bytes body is in
     (varint (length body), rest, varint_written (length body) within)
 
 pub begins_len : (bytes : List ℕ) (entity : Entity) → bytes ≡ written entity → length bytes < 2 ^ 64

@@ -51,20 +51,20 @@ asks_cut before now bytes why h end is = by before.told h.1
         subst (λ (z : List ℕ). IsRequest z (Refused why)) (sym (unread ∙ ap (λ (z : List ℕ). bytes ++ z) none ∙ append-nil bytes)) is
 
 -- what is asked for after a head
-pub asks_behind : (Stands : Target → List ℕ → Type 0) (before now : Beside) (bytes part : List ℕ) (count : ℕ) (head : Head) (asked : Asked) → HasRead before now bytes
+pub asks_after : (Stands : Target → List ℕ → Type 0) (before now : Beside) (bytes part : List ℕ) (count : ℕ) (head : Head) (asked : Asked) → HasRead before now bytes
     → ((more : List ℕ) → IsHead (bytes ++ more) count (Ok head)) → drop count bytes ≡ part → count ≤ length bytes
     → IfSome now.told (λ told. (input : List ℕ) (count : ℕ) → IsHead input count (Ok head) → drop count input ≡ part ++ told.unread → AsksFor Stands input asked)
     → IfSome before.told (λ told. AsksFor Stands told.unread asked)
-asks_behind Stands before now bytes part count head asked h is_head behind within asks = by before.told h.1
+asks_after Stands before now bytes part count head asked h is_head after within asks = by before.told h.1
   where
     by : (t : Option Connections) → Read t now bytes → IfSome t (λ told. AsksFor Stands told.unread asked)
     by None e = tt
     by (Some k) (rest, unread, told) =
         subst (λ (z : List ℕ). AsksFor Stands z asked) (sym unread)
         (subst (λ (s : Option Connections). IfSome s (λ told. (input : List ℕ) (count : ℕ) → IsHead input count (Ok head) → drop count input ≡ part ++ told.unread → AsksFor Stands input asked)) told asks
-        (bytes ++ rest) count (is_head rest) (drop-append-le count bytes rest within ∙ ap (λ (z : List ℕ). z ++ rest) behind))
+        (bytes ++ rest) count (is_head rest) (drop-append-le count bytes rest within ∙ ap (λ (z : List ℕ). z ++ rest) after))
 
--- a body of which a front came with the head
+-- a body of which a prefix came with the head
 pub asks_post : (before now : Beside) (bytes part front body : List ℕ) (head : Head) → HasRead before now bytes → is_post head.target ≡ true
     → front ≡ take (min head.length (length part)) part → body ≡ front ++ bytes → length body ≡ head.length
     → IfSome before.told (λ told. (input : List ℕ) (count : ℕ) → IsHead input count (Ok head) → drop count input ≡ part ++ told.unread → IsRequest input (Post head.target body))
@@ -97,9 +97,9 @@ asks_post before now bytes part front body head h post front_is body_is size = b
         → IfSome t (λ told. (input : List ℕ) (count : ℕ) → IsHead input count (Ok head) → drop count input ≡ part ++ told.unread → IsRequest input (Post head.target body))
     by None e = tt
     by (Some k) (rest, unread, told) =
-        λ input count is_head behind.
+        λ input count is_head after.
         let left : (left : List ℕ) × (part ++ k.unread ≡ body ++ left) = more k.unread rest unread (nat_le head.length (length part)) refl in
-        posts input body left.0 count head is_head post (behind ∙ left.1) size
+        posts input body left.0 count head is_head post (after ∙ left.1) size
 
 -- a body that isn't whole
 pub asks_less : (before now : Beside) (bytes part front : List ℕ) (head : Head) → HasRead before now bytes → is_post head.target ≡ true
@@ -129,14 +129,14 @@ asks_less before now bytes part front head h post front_is end less = by before.
         → IfSome t (λ told. (input : List ℕ) (count : ℕ) → IsHead input count (Ok head) → drop count input ≡ part ++ told.unread → IsRequest input (Refused refusal.Cut))
     by None e = tt
     by (Some k) (rest, unread, told) =
-        λ input count is_head behind.
+        λ input count is_head after.
         let none : rest ≡ [] = subst (λ (s : Option Connections). IfSome s (λ t. t.unread ≡ [])) told end in
         cut input (front ++ bytes) count head is_head post
-        (behind ∙ ap (λ (z : List ℕ). part ++ z) (unread ∙ ap (λ (z : List ℕ). bytes ++ z) none ∙ append-nil bytes) ∙ ap (λ (z : List ℕ). z ++ bytes) (sym (cases (nat_le head.length (length part)) refl))) less
+        (after ∙ ap (λ (z : List ℕ). part ++ z) (unread ∙ ap (λ (z : List ℕ). bytes ++ z) none ∙ append-nil bytes) ∙ ap (λ (z : List ℕ). z ++ bytes) (sym (cases (nat_le head.length (length part)) refl))) less
 
 -- what took the body of a POST stands for it
 pub asks_taken : (Stands : Target → List ℕ → Type 0) (told : Option Connections) (part body : List ℕ) (head : Head) → Stands head.target body
     → IfSome told (λ told. (input : List ℕ) (count : ℕ) → IsHead input count (Ok head) → drop count input ≡ part ++ told.unread → IsRequest input (Post head.target body))
     → IfSome told (λ told. (input : List ℕ) (count : ℕ) → IsHead input count (Ok head) → drop count input ≡ part ++ told.unread → AsksFor Stands input (asked.Post head.target))
 asks_taken Stands None part body head stands h = tt
-asks_taken Stands (Some told) part body head stands h = λ input count is_head behind. (body, h input count is_head behind, stands)
+asks_taken Stands (Some told) part body head stands h = λ input count is_head after. (body, h input count is_head after, stands)

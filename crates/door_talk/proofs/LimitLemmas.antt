@@ -80,11 +80,11 @@ pub one_more : (held piece came : List ℕ) (count left : ℕ) → left + length
     → length came ≡ count → length (held ++ take count piece) ≤ 16384
 one_more held piece came count left all most front size = omega (arith, all, most, ap length front, size, length-append held (take count piece))
 
--- after a head that is read with a front of its body
+-- after a head that is read with a prefix of its body
 pub within : (bytes part more : List ℕ) (count : ℕ) (head : Head) → length bytes ≤ 16384
     → ((later : List ℕ) → IsHead (bytes ++ later) count (Ok head)) → is_post head.target ≡ true
     → drop count bytes ≡ part → count ≤ length bytes → length more ≤ head.length - length part → IsWithin (bytes ++ more)
-within bytes part more count head small is_head post behind long up = by (nat_le head.length (length part)) refl
+within bytes part more count head small is_head post after long up = by (nat_le head.length (length part)) refl
   where
     le : (a b : ℕ) → nat_le a b ≡ true → a ≤ b
     le a b e = grind arith
@@ -95,4 +95,4 @@ within bytes part more count head small is_head post behind long up = by (nat_le
     by : (c : Bool) → nat_le head.length (length part) ≡ c → IsWithin (bytes ++ more)
     by true e = inl (omega (arith, small, up, le head.length (length part) e, length-append bytes more))
     by false e =
-        inr (count, head, is_head more, post, omega (arith, up, gt head.length (length part) e, ap length behind, length-drop count bytes, length-append bytes more, long), small_body (bytes ++ more) count head (is_head more))
+        inr (count, head, is_head more, post, omega (arith, up, gt head.length (length part) e, ap length after, length-drop count bytes, length-append bytes more, long), small_body (bytes ++ more) count head (is_head more))

@@ -78,11 +78,11 @@ ends target size body short = rw (at size (length body) short) refl
 -- a POST, whose body is whole, and one whose input ends before
 pub posts : (input body rest : List ℕ) (count : ℕ) (head : Head) → IsHead input count (Ok head) → is_post head.target ≡ true
     → drop count input ≡ body ++ rest → length body ≡ head.length → IsRequest input (Post head.target body)
-posts input body rest count head is_head post behind size = headed count (Ok head) is_head (rw (post, behind) (sym (whole head.target head.length body rest size)))
+posts input body rest count head is_head post after size = headed count (Ok head) is_head (rw (post, after) (sym (whole head.target head.length body rest size)))
 
 pub cut : (input body : List ℕ) (count : ℕ) (head : Head) → IsHead input count (Ok head) → is_post head.target ≡ true
     → drop count input ≡ body → length body < head.length → IsRequest input (Refused refusal.Cut)
-cut input body count head is_head post behind short = headed count (Ok head) is_head (rw (post, behind) (sym (ends head.target head.length body short)))
+cut input body count head is_head post after short = headed count (Ok head) is_head (rw (post, after) (sym (ends head.target head.length body short)))
 
 -- ---- the end of the input
 

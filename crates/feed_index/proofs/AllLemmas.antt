@@ -103,20 +103,20 @@ module _ {K X : Type 0} (key_of : X → K) {cmp : K → K → Ordering} (o : IsT
       by Greater e more_is = ap (with_all key_of cmp xs) (greater_first y x more h e) ∙ sym (one_apart xs (y ∷ more) x (new_above (key_of x) (y ∷ more) (above_greater y x more h e)))
 
   -- elements after a rising list
-  one_behind : (xs : List X) (y : X) (ys : List X) → AreRising key_of cmp (xs ++ y ∷ ys) → with_one key_of cmp xs y ≡ xs ++ y ∷ []
-  one_behind xs y ys h =
+  one_after : (xs : List X) (y : X) (ys : List X) → AreRising key_of cmp (xs ++ y ∷ ys) → with_one key_of cmp xs y ≡ xs ++ y ∷ []
+  one_after xs y ys h =
       let low = (rising_parts key_of o xs y ys h).low in
       rw (
         filter_all (λ x. is_lt (cmp (key_of x) (key_of y))) xs (each_weaker (λ x. cmp (key_of x) (key_of y) ≡ Less) (λ x. is_lt (cmp (key_of x) (key_of y)) ≡ true) (λ x e. ap is_lt e) xs low),
         filter_none (λ x. is_gt (cmp (key_of x) (key_of y))) xs (each_weaker (λ x. cmp (key_of x) (key_of y) ≡ Less) (λ x. is_gt (cmp (key_of x) (key_of y)) ≡ false) (λ x e. ap is_gt e) xs low),
       ) refl
 
-  pub all_behind : (xs ys : List X) → AreRising key_of cmp (xs ++ ys) → with_all key_of cmp xs ys ≡ xs ++ ys
-  all_behind xs [] h = sym (append-nil xs)
-  all_behind xs (y ∷ ys) h =
+  pub all_after : (xs ys : List X) → AreRising key_of cmp (xs ++ ys) → with_all key_of cmp xs ys ≡ xs ++ ys
+  all_after xs [] h = sym (append-nil xs)
+  all_after xs (y ∷ ys) h =
       let P : List X → Type 0 = λ zs. AreRising key_of cmp zs in
-      ap (λ (zs : List X). with_all key_of cmp zs ys) (one_behind xs y ys h)
-      ∙ all_behind (xs ++ y ∷ []) ys (subst P (sym (append_assoc xs (y ∷ []) ys)) h)
+      ap (λ (zs : List X). with_all key_of cmp zs ys) (one_after xs y ys h)
+      ∙ all_after (xs ++ y ∷ []) ys (subst P (sym (append_assoc xs (y ∷ []) ys)) h)
       ∙ append_assoc xs (y ∷ []) ys
 
   -- ---- what a key finds

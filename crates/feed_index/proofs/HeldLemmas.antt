@@ -57,34 +57,34 @@ module _ {K R : Type 0} where
       by (Some bytes) e = (bytes, e)
 
   -- what a new span leaves of rows
-  pub record Added (before : List (Row K R)) (row : Row K R) (behind : List (Row K R)) (spans now : List (ℕ × List ℕ)) (bytes : List ℕ) : Type 0 where
-    pub held : AreHeld (before ++ row ∷ behind) now
+  pub record Added (before : List (Row K R)) (row : Row K R) (after : List (Row K R)) (spans now : List (ℕ × List ℕ)) (bytes : List ℕ) : Type 0 where
+    pub held : AreHeld (before ++ row ∷ after) now
     pub front : entries_of now before ≡ entries_of spans before
-    pub back : entries_of now behind ≡ entries_of spans behind
+    pub back : entries_of now after ≡ entries_of spans after
     pub own : bytes_of now row.slot ≡ Some bytes
 
-  pub added : (before : List (Row K R)) (row : Row K R) (behind : List (Row K R)) (spans now : List (ℕ × List ℕ)) (bytes : List ℕ) →
-      AreHeld (before ++ behind) spans → bytes_of spans row.slot ≡ None → now ≡ spans ++ (row.slot, bytes) ∷ [] → live_bytes now ≡ live_bytes spans + length bytes →
-      Added before row behind spans now bytes
-  added before row behind spans now bytes held none is more =
-      let kept : (slot : ℕ) → 1 ≤ count (before ++ behind) slot → bytes_of now slot ≡ bytes_of spans slot = λ slot h.
-      let live = live_from_count (before ++ behind) spans held slot h in
+  pub added : (before : List (Row K R)) (row : Row K R) (after : List (Row K R)) (spans now : List (ℕ × List ℕ)) (bytes : List ℕ) →
+      AreHeld (before ++ after) spans → bytes_of spans row.slot ≡ None → now ≡ spans ++ (row.slot, bytes) ∷ [] → live_bytes now ≡ live_bytes spans + length bytes →
+      Added before row after spans now bytes
+  added before row after spans now bytes held none is more =
+      let kept : (slot : ℕ) → 1 ≤ count (before ++ after) slot → bytes_of now slot ≡ bytes_of spans slot = λ slot h.
+      let live = live_from_count (before ++ after) spans held slot h in
       rw is (added_other spans row.slot bytes slot live.0 live.1 ∙ sym live.1) in
-      let front = same_entries spans now before (λ slot h. kept slot (omega (arith, count-append before behind slot))) in
-      let back = same_entries spans now behind (λ slot h. kept slot (omega (arith, count-append before behind slot))) in
+      let front = same_entries spans now before (λ slot h. kept slot (omega (arith, count-append before after slot))) in
+      let back = same_entries spans now after (λ slot h. kept slot (omega (arith, count-append before after slot))) in
       let own : bytes_of now row.slot ≡ Some bytes = rw is (added_new spans row.slot bytes none) in
       record {
         held = record {
           once = λ slot.
-              let was : count (before ++ behind) slot ≡ lives spans slot = held.once slot in
+              let was : count (before ++ after) slot ≡ lives spans slot = held.once slot in
               let one : lives now slot ≡ lives spans slot + cond (row.slot == slot) 1 0 = rw is (lives-added spans row.slot bytes none slot) in
-              omega (arith, count-round before row behind slot);
+              omega (arith, count-round before row after slot);
           total_is =
-              let joined : entries_of spans before ++ entries_of spans behind ≡ entries_of spans (before ++ behind) = sym (entries-append spans before behind) in
-              let was : live_bytes spans ≡ total (entries_of spans before ++ entries_of spans behind) = rw joined held.total_is in
+              let joined : entries_of spans before ++ entries_of spans after ≡ entries_of spans (before ++ after) = sym (entries-append spans before after) in
+              let was : live_bytes spans ≡ total (entries_of spans before ++ entries_of spans after) = rw joined held.total_is in
               let size : length (entry_of now row).bytes ≡ length bytes = rw own refl in
-              let round = total-round (entries_of spans before) (entry_of now row) (entries_of spans behind) in
-              let all : total (entries_of now (before ++ row ∷ behind)) ≡ total (entries_of spans before ++ entry_of now row ∷ entries_of spans behind) = rw (entries-append now before (row ∷ behind), front, back) refl in
+              let round = total-round (entries_of spans before) (entry_of now row) (entries_of spans after) in
+              let all : total (entries_of now (before ++ row ∷ after)) ≡ total (entries_of spans before ++ entry_of now row ∷ entries_of spans after) = rw (entries-append now before (row ∷ after), front, back) refl in
               omega arith;
         };
         front = front;
@@ -93,44 +93,44 @@ module _ {K R : Type 0} where
       }
 
   -- what a span that is given back leaves of rows
-  pub record Removed (before : List (Row K R)) (behind : List (Row K R)) (spans now : List (ℕ × List ℕ)) : Type 0 where
-    pub held : AreHeld (before ++ behind) now
+  pub record Removed (before : List (Row K R)) (after : List (Row K R)) (spans now : List (ℕ × List ℕ)) : Type 0 where
+    pub held : AreHeld (before ++ after) now
     pub front : entries_of now before ≡ entries_of spans before
-    pub back : entries_of now behind ≡ entries_of spans behind
+    pub back : entries_of now after ≡ entries_of spans after
 
-  pub own_is_live : (before : List (Row K R)) (row : Row K R) (behind : List (Row K R)) (spans : List (ℕ × List ℕ)) → AreHeld (before ++ row ∷ behind) spans → IsSome (bytes_of spans row.slot)
-  own_is_live before row behind spans held =
-      let at : count (before ++ row ∷ behind) row.slot ≡ 1 + count (before ++ behind) row.slot = count-round before row behind row.slot ∙ rw (same_number row.slot) refl in
-      let live = live_from_count (before ++ row ∷ behind) spans held row.slot (omega arith) in
+  pub own_is_live : (before : List (Row K R)) (row : Row K R) (after : List (Row K R)) (spans : List (ℕ × List ℕ)) → AreHeld (before ++ row ∷ after) spans → IsSome (bytes_of spans row.slot)
+  own_is_live before row after spans held =
+      let at : count (before ++ row ∷ after) row.slot ≡ 1 + count (before ++ after) row.slot = count-round before row after row.slot ∙ rw (same_number row.slot) refl in
+      let live = live_from_count (before ++ row ∷ after) spans held row.slot (omega arith) in
       rw live.1 refl
 
-  pub gone : (before : List (Row K R)) (row : Row K R) (behind : List (Row K R)) (spans now : List (ℕ × List ℕ)) →
-      AreHeld (before ++ row ∷ behind) spans → now ≡ without spans row.slot → live_bytes spans ≡ live_bytes now + length (unwrap_or (bytes_of spans row.slot) []) →
-      Removed before behind spans now
-  gone before row behind spans now held is less =
-      let own = own_is_live before row behind spans held in
-      let each : (slot : ℕ) → count (before ++ behind) slot ≡ lives now slot = λ slot.
-      let was : count (before ++ row ∷ behind) slot ≡ lives spans slot = held.once slot in
+  pub gone : (before : List (Row K R)) (row : Row K R) (after : List (Row K R)) (spans now : List (ℕ × List ℕ)) →
+      AreHeld (before ++ row ∷ after) spans → now ≡ without spans row.slot → live_bytes spans ≡ live_bytes now + length (unwrap_or (bytes_of spans row.slot) []) →
+      Removed before after spans now
+  gone before row after spans now held is less =
+      let own = own_is_live before row after spans held in
+      let each : (slot : ℕ) → count (before ++ after) slot ≡ lives now slot = λ slot.
+      let was : count (before ++ row ∷ after) slot ≡ lives spans slot = held.once slot in
       let one : lives spans slot ≡ lives now slot + cond (row.slot == slot) 1 0 = rw is (lives-without spans row.slot own slot) in
-      omega (arith, count-round before row behind slot) in
-      let kept : (slot : ℕ) → 1 ≤ count (before ++ behind) slot → bytes_of now slot ≡ bytes_of spans slot = λ slot h. stays slot (row.slot == slot) refl (each slot) h in
-      let front = same_entries spans now before (λ slot h. kept slot (omega (arith, count-append before behind slot))) in
-      let back = same_entries spans now behind (λ slot h. kept slot (omega (arith, count-append before behind slot))) in
+      omega (arith, count-round before row after slot) in
+      let kept : (slot : ℕ) → 1 ≤ count (before ++ after) slot → bytes_of now slot ≡ bytes_of spans slot = λ slot h. stays slot (row.slot == slot) refl (each slot) h in
+      let front = same_entries spans now before (λ slot h. kept slot (omega (arith, count-append before after slot))) in
+      let back = same_entries spans now after (λ slot h. kept slot (omega (arith, count-append before after slot))) in
       record {
         held = record {
           once = each;
           total_is =
-              let was : live_bytes spans ≡ total (entries_of spans (before ++ row ∷ behind)) = held.total_is in
-              let parts : total (entries_of spans (before ++ row ∷ behind)) ≡ total (entries_of spans before ++ entry_of spans row ∷ entries_of spans behind) = rw (entries-append spans before (row ∷ behind)) refl in
-              let round = total-round (entries_of spans before) (entry_of spans row) (entries_of spans behind) in
-              let all : total (entries_of now (before ++ behind)) ≡ total (entries_of spans before ++ entries_of spans behind) = rw (entries-append now before behind, front, back) refl in
+              let was : live_bytes spans ≡ total (entries_of spans (before ++ row ∷ after)) = held.total_is in
+              let parts : total (entries_of spans (before ++ row ∷ after)) ≡ total (entries_of spans before ++ entry_of spans row ∷ entries_of spans after) = rw (entries-append spans before (row ∷ after)) refl in
+              let round = total-round (entries_of spans before) (entry_of spans row) (entries_of spans after) in
+              let all : total (entries_of now (before ++ after)) ≡ total (entries_of spans before ++ entries_of spans after) = rw (entries-append now before after, front, back) refl in
               omega arith;
         };
         front = front;
         back = back;
       }
     where
-      stays : (slot : ℕ) (c : Bool) → (row.slot == slot) ≡ c → count (before ++ behind) slot ≡ lives now slot → 1 ≤ count (before ++ behind) slot → bytes_of now slot ≡ bytes_of spans slot
+      stays : (slot : ℕ) (c : Bool) → (row.slot == slot) ≡ c → count (before ++ after) slot ≡ lives now slot → 1 ≤ count (before ++ after) slot → bytes_of now slot ≡ bytes_of spans slot
       stays slot true e once h =
           let same : row.slot ≡ slot = eqb-true row.slot slot e in
           let none : lives now slot ≡ 0 = rw (is, ← same, without_gone spans row.slot) refl in

@@ -136,10 +136,6 @@ module _ {K X : Type 0} (key_of : X → K) {cmp : K → K → Ordering} (o : IsT
   pub below_above : (a b : K) → cmp a b ≡ Less → (xs : List X) → below key_of cmp a (above key_of cmp b xs) ≡ []
   below_above a b h xs = filter_apart (λ x. is_lt (cmp (key_of x) a)) (λ x. is_gt (cmp (key_of x) b)) (λ x e. ap is_lt (greater_trans o (key_of x) b a (is_greater _ e) (turned_less o a b h))) xs
 
-  -- the elements of the key of x itself
-  lt_self : (x : X) → is_lt (cmp (key_of x) (key_of x)) ≡ false
-  lt_self x = ap is_lt (tied_itself o (key_of x))
-
   -- ---- one more element, and one part
 
   below_one : (b : K) (x : X) → IsBelow b x → (xs : List X) → below key_of cmp b (with_one key_of cmp xs x) ≡ with_one key_of cmp (below key_of cmp b xs) x
@@ -220,9 +216,9 @@ module _ {K X : Type 0} (key_of : X → K) {cmp : K → K → Ordering} (o : IsT
   above_all b xs (x ∷ more) h = above_all b (with_one key_of cmp xs x) more h.1 ∙ above_one b x h.0 xs
 
   -- elements behind one that stay behind it
-  behind_one : (low : List X) (b : X) (high : List X) (x : X) → AreBelow (key_of b) low → IsAbove (key_of b) x →
+  after_one : (low : List X) (b : X) (high : List X) (x : X) → AreBelow (key_of b) low → IsAbove (key_of b) x →
       with_one key_of cmp (low ++ b ∷ high) x ≡ low ++ b ∷ with_one key_of cmp high x
-  behind_one low b high x h k =
+  after_one low b high x h k =
       let lt : cmp (key_of b) (key_of x) ≡ Less = turned_greater o (key_of x) (key_of b) k in
       let front : AllByRecursion (λ y. is_lt (cmp (key_of y) (key_of x)) ≡ true) low = each_weaker _ _ (λ y e. ap is_lt (o.trans (key_of y) (key_of b) (key_of x) e lt)) low h in
       let back : AllByRecursion (λ y. is_gt (cmp (key_of y) (key_of x)) ≡ false) low = each_weaker _ _ (λ y e. ap is_gt (o.trans (key_of y) (key_of b) (key_of x) e lt)) low h in
@@ -235,17 +231,17 @@ module _ {K X : Type 0} (key_of : X → K) {cmp : K → K → Ordering} (o : IsT
       )
       (append_assoc low _ _)
 
-  behind_all : (low : List X) (b : X) (high more : List X) → AreBelow (key_of b) low → AreAbove (key_of b) more →
+  after_all : (low : List X) (b : X) (high more : List X) → AreBelow (key_of b) low → AreAbove (key_of b) more →
       with_all key_of cmp (low ++ b ∷ high) more ≡ low ++ b ∷ with_all key_of cmp high more
-  behind_all low b high [] h k = refl
-  behind_all low b high (x ∷ more) h k = ap (λ (ys : List X). with_all key_of cmp ys more) (behind_one low b high x h k.0) ∙ behind_all low b (with_one key_of cmp high x) more h k.1
+  after_all low b high [] h k = refl
+  after_all low b high (x ∷ more) h k = ap (λ (ys : List X). with_all key_of cmp ys more) (after_one low b high x h k.0) ∙ after_all low b (with_one key_of cmp high x) more h k.1
 
   -- elements in two parts round one
-  pub all_round : (xs before : List X) (b : X) (behind : List X) → AreBelow (key_of b) before → AreAbove (key_of b) behind →
-      with_all key_of cmp xs (before ++ b ∷ behind) ≡ with_all key_of cmp (below key_of cmp (key_of b) xs) before ++ b ∷ with_all key_of cmp (above key_of cmp (key_of b) xs) behind
-  all_round xs before b behind h k =
+  pub all_round : (xs before : List X) (b : X) (after : List X) → AreBelow (key_of b) before → AreAbove (key_of b) after →
+      with_all key_of cmp xs (before ++ b ∷ after) ≡ with_all key_of cmp (below key_of cmp (key_of b) xs) before ++ b ∷ with_all key_of cmp (above key_of cmp (key_of b) xs) after
+  all_round xs before b after h k =
       let mid = with_all key_of cmp xs before in
       let low : AreBelow (key_of b) (below key_of cmp (key_of b) mid) = each_weaker _ _ (λ y e. is_less _ e) _ (each_passes (λ y. is_lt (cmp (key_of y) (key_of b))) mid) in
-      fold-append (with_one key_of cmp) xs before (b ∷ behind)
-      ∙ behind_all (below key_of cmp (key_of b) mid) b (above key_of cmp (key_of b) mid) behind low k
+      fold-append (with_one key_of cmp) xs before (b ∷ after)
+      ∙ after_all (below key_of cmp (key_of b) mid) b (above key_of cmp (key_of b) mid) after low k
       ∙ rw (below_all (key_of b) xs before h, above_all (key_of b) xs before h) refl

@@ -13,14 +13,14 @@ use Rattle.feed_index.proofs.TurnLemmas.{last_of}
 
 module _ {K X : Type 0} (key_of : X → K) (cmp : K → K → Ordering) where
   -- the list is a first run, a second one and what is merged; and the runs are still to be merged to what was to come
-  pub record Runs (rows first behind : List X) (front end : ℕ) : Type 0 where
+  pub record Runs (rows first after : List X) (front end : ℕ) : Type 0 where
     pub low : List X
     pub run : List X
     pub done : List X
     pub is : rows ≡ low ++ (run ++ done)
     pub front_is : length low ≡ front
     pub end_is : length low + length run ≡ end
-    pub result : with_all key_of cmp first behind ≡ with_all key_of cmp low run ++ done
+    pub result : with_all key_of cmp first after ≡ with_all key_of cmp low run ++ done
     pub low_rises : AreRising key_of cmp low
     pub run_rises : AreRising key_of cmp run
     pub apart : AllByRecursion (λ x. IsNew key_of cmp low (key_of x)) run
@@ -46,15 +46,15 @@ module _ {K X : Type 0} (key_of : X → K) {cmp : K → K → Ordering} (o : IsT
   }
 
   -- the last of the second run
-  pub record Last (rows first behind : List X) (front end : ℕ) (runs : Runs key_of cmp rows first behind front end) (one : X) : Type 0 where
+  pub record Last (rows first after : List X) (front end : ℕ) (runs : Runs key_of cmp rows first after front end) (one : X) : Type 0 where
     pub run : List X
     pub run_is : runs.run ≡ run ++ one ∷ []
     pub below_it : AreBelow key_of o (key_of one) run
     pub rises : AreRising key_of cmp run
     pub apart : AllByRecursion (λ x. IsNew key_of cmp runs.low (key_of x)) run
 
-  pub last : (rows first behind : List X) (front end : ℕ) (runs : Runs key_of cmp rows first behind front end) → front < end → (one : X) → one ≡ get_or rows (end - 1) one → Last rows first behind front end runs one
-  last rows first behind front end runs lt one is_one =
+  pub last : (rows first after : List X) (front end : ℕ) (runs : Runs key_of cmp rows first after front end) → front < end → (one : X) → one ≡ get_or rows (end - 1) one → Last rows first after front end runs one
+  last rows first after front end runs lt one is_one =
       let a : length runs.low ≡ front = runs.front_is in
       let b : length runs.low + length runs.run ≡ end = runs.end_is in
       let parts = last_of runs.run (omega arith) in
@@ -76,10 +76,10 @@ module _ {K X : Type 0} (key_of : X → K) {cmp : K → K → Ordering} (o : IsT
         apart = each_front (λ x. IsNew key_of cmp runs.low (key_of x)) parts.0 (one ∷ []) new;
       }
 
-  pub runs_more : (rows now first behind : List X) (front end : ℕ) (runs : Runs key_of cmp rows first behind front end) (one : X) → front < end → Last rows first behind front end runs one → (at : ℕ) → at ≤ front →
+  pub runs_more : (rows now first after : List X) (front end : ℕ) (runs : Runs key_of cmp rows first after front end) (one : X) → front < end → Last rows first after front end runs one → (at : ℕ) → at ≤ front →
       below key_of cmp (key_of one) runs.low ≡ take at runs.low → above key_of cmp (key_of one) runs.low ≡ drop at runs.low →
-      now ≡ take at runs.low ++ (runs.run ++ (drop at runs.low ++ runs.done)) → Runs key_of cmp now first behind at (end - (front - at + 1))
-  runs_more rows now first behind front end runs one lt at_last at le low high is =
+      now ≡ take at runs.low ++ (runs.run ++ (drop at runs.low ++ runs.done)) → Runs key_of cmp now first after at (end - (front - at + 1))
+  runs_more rows now first after front end runs one lt at_last at le low high is =
       let a : length runs.low ≡ front = runs.front_is in
       let b : length runs.low + length runs.run ≡ end = runs.end_is in
       let short : at ≤ length runs.low = omega arith in

@@ -49,8 +49,8 @@ module _ {K X : Type 0} (key_of : X → K) {cmp : K → K → Ordering} (o : IsT
       subst P h (each_joined (λ x. is_eq (cmp (key_of x) k) ≡ false) _ _ (each_weaker _ _ (λ x g. ap is_eq g) _ (low_parts key_of o k front)) (each_weaker _ _ (λ x g. ap is_eq g) _ (high_parts key_of o k front)))
 
   -- an element of the front has the key: it is new to the back
-  pub new_behind : (front back : List X) (at : ℕ) (k : K) → at < length front → ((d : X) → cmp (key_of (get_or front at d)) k ≡ Equal) → AllByRecursion (λ x. IsNew key_of cmp front (key_of x)) back → IsNew key_of cmp back k
-  new_behind front back at k lt same apart =
+  pub new_after : (front back : List X) (at : ℕ) (k : K) → at < length front → ((d : X) → cmp (key_of (get_or front at d)) k ≡ Equal) → AllByRecursion (λ x. IsNew key_of cmp front (key_of x)) back → IsNew key_of cmp back k
+  new_after front back at k lt same apart =
       each_weaker (λ x. IsNew key_of cmp front (key_of x)) (λ x. is_eq (cmp (key_of x) k) ≡ false) (λ x new.
       let other = All-from_recursion (λ y. is_eq (cmp (key_of y) (key_of x)) ≡ false) front new at x lt in
       ap is_eq (o.antisymm (key_of x) k) ∙ eq_turned (cmp k (key_of x)) ∙ ap is_eq (sym (o.congr (key_of (get_or front at x)) k (key_of x) (same x))) ∙ other) back apart

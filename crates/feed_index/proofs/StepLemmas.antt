@@ -20,10 +20,10 @@ module _ {K R : Type 0} {cmp : K → K → Ordering} (o : IsTotalOrder cmp) wher
       let within : at ≤ length (take front rows) = (gap one).within in
       omega (arith, length-take-le front rows (omega arith))
 
-  pub runs_step : (rows now first behind : List (Row K R)) (front end at : ℕ) → Runs (λ (row : Row K R). row.key) cmp rows first behind front end → front < end → end ≤ length rows →
+  pub runs_step : (rows now first after : List (Row K R)) (front end at : ℕ) → Runs (λ (row : Row K R). row.key) cmp rows first after front end → front < end → end ≤ length rows →
       ((other : Row K R) → IsGapAt cmp (take front rows) (get_or rows (end - 1) other).key at) → IsTurned at front end rows now →
-      Runs (λ (row : Row K R). row.key) cmp now first behind at (end - (front - at + 1))
-  runs_step rows now first behind front end at runs lt le gap turned =
+      Runs (λ (row : Row K R). row.key) cmp now first after at (end - (front - at + 1))
+  runs_step rows now first after front end at runs lt le gap turned =
       let at_le : at ≤ front = gap_within rows front end at lt le gap in
       let parts = split_at rows (end - 1) (omega arith) in
       let one = parts.0 in
@@ -39,5 +39,5 @@ module _ {K R : Type 0} {cmp : K → K → Ordering} (o : IsTotalOrder cmp) wher
       let short : length (take at low) ≡ at = length-take-le at low (omega arith) in
       let rest : length (drop at low) ≡ length low - at = length-drop at low in
       let moved = turned (take at low) (drop at low) runs.run runs.done whole short (omega arith) (omega arith) in
-      runs_more (λ (row : Row K R). row.key) o rows now first behind front end runs one lt
-      (last (λ (row : Row K R). row.key) o rows first behind front end runs lt one (sym (parts.2 one))) at at_le here.low here.high moved
+      runs_more (λ (row : Row K R). row.key) o rows now first after front end runs one lt
+      (last (λ (row : Row K R). row.key) o rows first after front end runs lt one (sym (parts.2 one))) at at_le here.low here.high moved

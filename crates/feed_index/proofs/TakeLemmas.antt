@@ -18,7 +18,7 @@ use Rattle.feed_index.proofs.MapLemmas.{all-map}
 use Rattle.feed_index.proofs.OrderLemmas.{each_weaker}
 use Rattle.feed_index.proofs.RisingLemmas.{split_at}
 use Rattle.feed_index.proofs.SetLemmas.{each_seen, each_shown, put_found, put_gap, sorted_rows}
-use Rattle.feed_index.proofs.StageLemmas.{new_at_gap, new_behind}
+use Rattle.feed_index.proofs.StageLemmas.{new_at_gap, new_after}
 
 module _ {K R : Type 0} {cmp : K → K → Ordering} (o : IsTotalOrder cmp) where
   pub never_new : (rows : List (Row K R)) (key : K) (at : ℕ) → IsNew (λ (row : Row K R). row.key) cmp rows key → StandsAt cmp rows key at → ⊥
@@ -82,7 +82,7 @@ module _ {K R : Type 0} {cmp : K → K → Ordering} (o : IsTotalOrder cmp) wher
       let P : List (Entry K R) → Type 0 = λ xs. IsNew (λ (each : Entry K R). each.key) cmp xs key in
       subst P (sym (drop-map (entry_of spans) front rows))
       (each_shown (entry_of spans) (λ (one : Entry K R). is_eq (cmp one.key key) ≡ false) (drop front rows)
-      (new_behind (λ (row : Row K R). row.key) o (take front rows) (drop front rows) at key h.within h.same (staged_rows spans rows front staged).apart))
+      (new_after (λ (row : Row K R). row.key) o (take front rows) (drop front rows) at key h.within h.same (staged_rows spans rows front staged).apart))
 
   -- a key is new to the rows of the front, and to their entries
   pub new_rows : (rows : List (Row K R)) (front at : ℕ) (key : K) → IsGapAt cmp (take front rows) key at → IsNew (λ (row : Row K R). row.key) cmp (take front rows) key

@@ -65,8 +65,8 @@ impl<K: Ord, R> Batch<K, R> {
     pub fn find(&self, key: &K) -> Option<&R>
         ensures value { option_map (λ it. it.now) result ≡ value_at K.cmp self.now key.now }
     {
-        let (before, behind) = self.rows.split_at(self.front);
-        match value_in(behind, key) {
+        let (before, after) = self.rows.split_at(self.front);
+        match value_in(after, key) {
             Some(value) => Some(value),
             None => value_in(before, key),
         }

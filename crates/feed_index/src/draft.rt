@@ -72,7 +72,7 @@ impl<'a, K: Ord, R> Draft<'a, K, R> {
     {
         match self.batch.find(key) {
             Some(value) => Some(value),
-            None => self.index.find_behind(self.gone, key),
+            None => self.index.find_after(self.gone, key),
         }
     }
 
@@ -96,7 +96,7 @@ impl<'a, K: Ord + Drop, R: Drop> Draft<'a, K, R> {
         let Some(more) = self.len.checked_add(1) else {
             return Err(AllocError);
         };
-        let stays = self.index.find_behind(self.gone, &key).is_some();
+        let stays = self.index.find_after(self.gone, &key).is_some();
         let before = self.batch.len();
         self.batch.put(key, value, bytes.as_slice())?;
         self.len = counted(self.len, more, stays, before < self.batch.len());

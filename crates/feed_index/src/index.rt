@@ -129,7 +129,7 @@ impl<K: Ord, R> FeedIndex<K, R> {
     }
 
     /// The value of a key, if it has an entry after the first so many.
-    pub(crate) fn find_behind(&self, n: usize, key: &K) -> Option<&R>
+    pub(crate) fn find_after(&self, n: usize, key: &K) -> Option<&R>
         requires within { n ≤ length self.now.entries }
         ensures value { option_map (λ it. it.now) result ≡ value_at K.cmp (drop n self.now.entries) key.now }
     {

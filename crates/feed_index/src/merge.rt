@@ -15,7 +15,7 @@ use span_pool::SpanPool;
 const MOST_BEHIND: usize = 256;
 
 /// Takes an item among those after the front, where no row before has its key.
-fn take_behind<K: Ord + Drop, R: Drop>(
+fn take_after<K: Ord + Drop, R: Drop>(
     rows: &mut Vec<Row<K, R>>,
     pool: &mut SpanPool,
     front: usize,
@@ -65,7 +65,7 @@ fn take_early<K: Ord + Drop, R: Drop>(
         Ok(at) => {
             let _old = exchange(rows, pool, at, key, value, bytes);
         }
-        Err(_) => take_behind(rows, pool, front, key, value, bytes),
+        Err(_) => take_after(rows, pool, front, key, value, bytes),
     }
 }
 

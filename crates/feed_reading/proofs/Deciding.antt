@@ -306,12 +306,12 @@ long_further a b field spelled later =
           long_later a b field l.0 spelled l.1,
           λ other m. elim (long_on a b field other spelled m) [
             | inl here ↦ absurd (nowhere here)
-            | inr behind ↦ omega (arith, behind.1, l.2 behind.0 behind.2)
+            | inr after ↦ omega (arith, after.1, l.2 after.0 after.2)
           ],
         )
         | inr none ↦ inr
             (λ at m. elim (long_on a b field at spelled m)
-            [ inl here ↦ nowhere here | inr behind ↦ none behind.0 behind.2 ])
+            [ inl here ↦ nowhere here | inr after ↦ none after.0 after.2 ])
       ]
     ]
 

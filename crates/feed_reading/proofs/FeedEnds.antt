@@ -126,9 +126,9 @@ place_by [] part run tail begun room opens h joined l =
     part_long part begun (subst (λ (b : List ℕ). tops.IsPart part b) same h) l
 place_by (number ∷ groups) part run tail begun room opens h joined l =
     let b = group_begins number groups room run opens in
-    let behind = other_tag begun l (b.0 * 8 + 3) (b.1 ++ tail)
+    let after = other_tag begun l (b.0 * 8 + 3) (b.1 ++ tail)
     (b.2.0, sym joined ∙ ap (λ (r : List ℕ). r ++ tail) b.2.1 ∙ append_assoc b.2.0 b.1 tail, b.2.2) in
-    absurd (omega (arith, behind.0))
+    absurd (omega (arith, after.0))
 
 no_long_body : (body : Body) (top : Top) (begun held : List ℕ) (len left : ℕ) → HoldsBody body top begun held
     → tops.place_of top ≡ InField 2 len left → entity_limit < len → ⊥

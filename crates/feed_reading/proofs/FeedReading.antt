@@ -228,8 +228,8 @@ ended_badly s number at body now given fault h stays place = record {
     read = h.read;
     entities = h.entities;
     before = place.0;
-    longest = λ more other behind others e k le.
-        fields_before h.fields others h.front other h.begun more behind
+    longest = λ more other later others e k le.
+        fields_before h.fields others h.front other h.begun more later
         (record { number = number; payload = Bytes body }) h.read k h.spelled
         (sym (further h.front h.begun more now h.joined) ∙ e) (omega (arith, place.1, le));
     nothing_held = refl;
@@ -584,7 +584,7 @@ too_long old bytes taken given used number at len top h r count here b two long 
         read = r.read;
         entities = r.entities;
         before = omega (arith, place);
-        longest = λ more other behind others f k le. omega (arith, place, le);
+        longest = λ more other later others f k le. omega (arith, place, le);
         nothing_held = refl;
       });
     }
@@ -768,7 +768,7 @@ broken_steps old bytes taken given used top fault h none count b =
         read = r.read;
         entities = r.entities;
         before = omega (arith, place);
-        longest = λ more other behind others f k le. omega (arith, place, le);
+        longest = λ more other later others f k le. omega (arith, place, le);
         nothing_held = refl;
       });
     }
@@ -790,8 +790,8 @@ passed_by old bytes taken given count some (inr s) = record {
   read = s.read;
   entities = s.entities;
   before = s.before;
-  longest = λ more other behind others e k le.
-      s.longest (taken ++ more) other behind others (sym (append_assoc bytes taken more) ∙ e) k le;
+  longest = λ more other later others e k le.
+      s.longest (taken ++ more) other later others (sym (append_assoc bytes taken more) ∙ e) k le;
   nothing_held = s.nothing_held;
 }
 

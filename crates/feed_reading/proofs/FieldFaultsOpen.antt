@@ -80,11 +80,11 @@ tag_of_long : (bytes : List ℕ) → (h : IsLongHere bytes) → BeginsNumber byt
 tag_of_long bytes h = (h.tag, h.joined, h.tagged)
 
 -- an entity that is too long in more bytes has the tag that stands there, and after it its length
-long_tag : (rest more behind : List ℕ) (value : ℕ) → BeginsNumber rest value behind → (h : IsLongHere (rest ++ more))
-    → (value ≡ 18) × BeginsNumber (behind ++ more) h.len h.rest
-long_tag rest more behind value b h =
-    let same = number_once (rest ++ more) value 18 (behind ++ more) (h.size ++ h.rest)
-    (begins_more rest behind more value b) (tag_of_long (rest ++ more) h) in
+long_tag : (rest more later : List ℕ) (value : ℕ) → BeginsNumber rest value later → (h : IsLongHere (rest ++ more))
+    → (value ≡ 18) × BeginsNumber (later ++ more) h.len h.rest
+long_tag rest more later value b h =
+    let same = number_once (rest ++ more) value 18 (later ++ more) (h.size ++ h.rest)
+    (begins_more rest later more value b) (tag_of_long (rest ++ more) h) in
     (same.0, (h.size, same.1, h.sized))
 
 sound_tag : IsSoundTag 18
@@ -95,11 +95,11 @@ by_fault : (rest more : List ℕ) (kind : WireKind) → kind ≢ Truncated → F
 by_fault rest more kind ne (inl (is, inl long)) h =
     long_or_number (rest ++ more) (h.size ++ h.rest) 18 (long_more rest more long) (tag_of_long (rest ++ more) h)
 by_fault rest more kind ne (inl (is, inr x)) h =
-    let behind = long_tag rest more x.1 x.2 (x.0, x.3, x.4) h in
-    long_or_number (x.1 ++ more) h.rest h.len (long_more x.1 more x.7) behind.1
+    let later = long_tag rest more x.1 x.2 (x.0, x.3, x.4) h in
+    long_or_number (x.1 ++ more) h.rest h.len (long_more x.1 more x.7) later.1
 by_fault rest more kind ne (inr (inl (is, x))) h =
-    let behind = long_tag rest more x.1 x.2 (x.0, x.3, x.4) h in
-    x.5 (subst (λ (n : ℕ). IsSoundTag n) (sym behind.0) sound_tag)
+    let later = long_tag rest more x.1 x.2 (x.0, x.3, x.4) h in
+    x.5 (subst (λ (n : ℕ). IsSoundTag n) (sym later.0) sound_tag)
 by_fault rest more kind ne (inr (inr is)) h = ne is
 
 no_group : (field : WireField) → field.number * 8 + type_of field.payload ≡ 18 → field.payload ≢ Group

@@ -37,10 +37,10 @@ stands_split tag start (field ∷ fields) front rest number inner read h =
       | inr later ↦ elim (stands_split tag (start + length read.0) fields read.1 rest number inner read.4 later) [
         | inl there ↦ inl (subst (λ (b : List ℕ). Stands (from tag start b) number inner) (sym read.2)
             (stands_later tag start read.0 read.1 field number inner read.3 there))
-        | inr behind ↦
+        | inr after ↦
             let place : start + length read.0 + length read.1 ≡ start + length front =
             omega (arith, ap length read.2, length-append read.0 read.1) in
-            inr (subst (λ (n : ℕ). Stands (from tag n rest) number inner) place behind)
+            inr (subst (λ (n : ℕ). Stands (from tag n rest) number inner) place after)
       ]
     ]
 
@@ -121,16 +121,16 @@ record IsLongPayload (number : ℕ) (payload : Payload) (paid : List ℕ) : Type
   sized : IsVarint size (length body)
   parts : paid ≡ size ++ body
 
-by_payload : (number : ℕ) (payload : Payload) (paid behind size rest : List ℕ) (len : ℕ)
-    → number * 8 + type_of payload ≡ 18 → IsPayload payload paid → paid ++ behind ≡ size ++ rest → IsVarint size len
+by_payload : (number : ℕ) (payload : Payload) (paid after size rest : List ℕ) (len : ℕ)
+    → number * 8 + type_of payload ≡ 18 → IsPayload payload paid → paid ++ after ≡ size ++ rest → IsVarint size len
     → entity_limit < len → IsLongPayload number payload paid
-by_payload number (Varint value) paid behind size rest len tag h e sized long = absurd (omega arith)
-by_payload number (Fixed64 value) paid behind size rest len tag h e sized long = absurd (omega arith)
-by_payload number (Bytes body) paid behind size rest len tag h e sized long =
-    let first : BeginsNumber (size ++ rest) (length body) (body ++ behind) =
-    (h.0, sym e ∙ ap (λ (l : List ℕ). l ++ behind) h.2 ∙ append_assoc h.0 body behind, h.1) in
+by_payload number (Varint value) paid after size rest len tag h e sized long = absurd (omega arith)
+by_payload number (Fixed64 value) paid after size rest len tag h e sized long = absurd (omega arith)
+by_payload number (Bytes body) paid after size rest len tag h e sized long =
+    let first : BeginsNumber (size ++ rest) (length body) (body ++ after) =
+    (h.0, sym e ∙ ap (λ (l : List ℕ). l ++ after) h.2 ∙ append_assoc h.0 body after, h.1) in
     let second : BeginsNumber (size ++ rest) len rest = (size, refl, sized) in
-    let same = (number_once (size ++ rest) (length body) len (body ++ behind) rest first second).0 in
+    let same = (number_once (size ++ rest) (length body) len (body ++ after) rest first second).0 in
     let two : number ≡ 2 = omega arith in
     record {
       body = body;
@@ -140,8 +140,8 @@ by_payload number (Bytes body) paid behind size rest len tag h e sized long =
       sized = h.1;
       parts = h.2;
     }
-by_payload number Group paid behind size rest len tag h e sized long = absurd (omega arith)
-by_payload number (Fixed32 value) paid behind size rest len tag h e sized long = absurd (omega arith)
+by_payload number Group paid after size rest len tag h e sized long = absurd (omega arith)
+by_payload number (Fixed32 value) paid after size rest len tag h e sized long = absurd (omega arith)
 
 paid_apart : (bytes tag paid others size body : List ℕ) → bytes ≡ tag ++ (paid ++ others) → paid ≡ size ++ body
     → bytes ≡ tag ++ (size ++ (body ++ others))
@@ -296,47 +296,47 @@ long_split (field ∷ fields) front rest at read h =
         | inl there ↦ inl (subst (λ (n : ℕ). IsLongAt front n) (sym later.1)
             (subst (λ (b : List ℕ). IsLongAt b (length read.0 + later.0)) (sym read.2)
             (long_later read.0 read.1 field later.0 read.3 there)))
-        | inr behind ↦ inr (
-          behind.0,
-          omega (arith, later.1, behind.1, ap length read.2, length-append read.0 read.1),
-          behind.2,
+        | inr after ↦ inr (
+          after.0,
+          omega (arith, later.1, after.1, ap length read.2, length-append read.0 read.1),
+          after.2,
         )
       ]
     ]
 
 -- ---- lists of fields with which the same bytes begin
 
-same_lengths : (a b rest behind : List ℕ) → a ++ rest ≡ b ++ behind → rest ≡ behind → length a ≡ length b
-same_lengths a b rest behind e same =
-    omega (arith, ap length e, ap length same, length-append a rest, length-append b behind)
+same_lengths : (a b rest after : List ℕ) → a ++ rest ≡ b ++ after → rest ≡ after → length a ≡ length b
+same_lengths a b rest after e same =
+    omega (arith, ap length e, ap length same, length-append a rest, length-append b after)
 
 -- a list that ends before the end of the field that follows another list, ends no later than that list
-pub fields_before : (fields others : List WireField) (front other spelling more behind : List ℕ) (field : WireField)
+pub fields_before : (fields others : List WireField) (front other spelling more after : List ℕ) (field : WireField)
     → AreFields front fields → AreFields other others → IsSpelling 64 field spelling
-    → front ++ (spelling ++ more) ≡ other ++ behind → length other < length front + length spelling
+    → front ++ (spelling ++ more) ≡ other ++ after → length other < length front + length spelling
     → length other ≤ length front
-fields_before fields [] front other spelling more behind field read k spelled e lt =
+fields_before fields [] front other spelling more after field read k spelled e lt =
     let none : length other ≡ 0 = ap length k in omega arith
-fields_before [] (y ∷ others) front other spelling more behind field read k spelled e lt =
+fields_before [] (y ∷ others) front other spelling more after field read k spelled e lt =
     let none : length front ≡ 0 = ap length read in
-    let parts : spelling ++ more ≡ k.0 ++ (k.1 ++ behind) =
-    sym (ap (λ (l : List ℕ). l ++ (spelling ++ more)) read) ∙ e ∙ first_apart k.0 k.1 other behind k.2 in
-    let same : more ≡ k.1 ++ behind =
-    ((fields_apart 64).same field y spelling k.0 more (k.1 ++ behind) spelled k.3 parts).1 in
+    let parts : spelling ++ more ≡ k.0 ++ (k.1 ++ after) =
+    sym (ap (λ (l : List ℕ). l ++ (spelling ++ more)) read) ∙ e ∙ first_apart k.0 k.1 other after k.2 in
+    let same : more ≡ k.1 ++ after =
+    ((fields_apart 64).same field y spelling k.0 more (k.1 ++ after) spelled k.3 parts).1 in
     absurd (omega (
       arith,
-      same_lengths spelling k.0 more (k.1 ++ behind) parts same,
+      same_lengths spelling k.0 more (k.1 ++ after) parts same,
       ap length k.2,
       length-append k.0 k.1,
     ))
-fields_before (x ∷ fields) (y ∷ others) front other spelling more behind field read k spelled e lt =
-    let parts : read.0 ++ (read.1 ++ (spelling ++ more)) ≡ k.0 ++ (k.1 ++ behind) =
-    sym (first_apart read.0 read.1 front (spelling ++ more) read.2) ∙ e ∙ first_apart k.0 k.1 other behind k.2 in
-    let same : read.1 ++ (spelling ++ more) ≡ k.1 ++ behind =
-    ((fields_apart 64).same x y read.0 k.0 (read.1 ++ (spelling ++ more)) (k.1 ++ behind) read.3 k.3 parts).1 in
-    let lengths = same_lengths read.0 k.0 (read.1 ++ (spelling ++ more)) (k.1 ++ behind) parts same in
+fields_before (x ∷ fields) (y ∷ others) front other spelling more after field read k spelled e lt =
+    let parts : read.0 ++ (read.1 ++ (spelling ++ more)) ≡ k.0 ++ (k.1 ++ after) =
+    sym (first_apart read.0 read.1 front (spelling ++ more) read.2) ∙ e ∙ first_apart k.0 k.1 other after k.2 in
+    let same : read.1 ++ (spelling ++ more) ≡ k.1 ++ after =
+    ((fields_apart 64).same x y read.0 k.0 (read.1 ++ (spelling ++ more)) (k.1 ++ after) read.3 k.3 parts).1 in
+    let lengths = same_lengths read.0 k.0 (read.1 ++ (spelling ++ more)) (k.1 ++ after) parts same in
     let own = ap length read.2 ∙ length-append read.0 read.1 in
     let its = ap length k.2 ∙ length-append k.0 k.1 in
     let shorter : length k.1 < length read.1 + length spelling = omega arith in
-    let le = fields_before fields others read.1 k.1 spelling more behind field read.4 k.4 spelled same shorter in
+    let le = fields_before fields others read.1 k.1 spelling more after field read.4 k.4 spelled same shorter in
     omega arith

@@ -16,12 +16,12 @@ use Rattle.feed_reading.specs.Pieces.{IsFollowed}
 use Rattle.feed_reading.proofs.Walking.{long_here, long_later, long_on, long_only_here}
 
 -- bytes begin with one number at most
-pub number_once : (bytes : List ℕ) (value other : ℕ) (rest behind : List ℕ) → BeginsNumber bytes value rest
-    → BeginsNumber bytes other behind → (value ≡ other) × (rest ≡ behind)
-number_once bytes value other rest behind h k =
+pub number_once : (bytes : List ℕ) (value other : ℕ) (rest left : List ℕ) → BeginsNumber bytes value rest
+    → BeginsNumber bytes other left → (value ≡ other) × (rest ≡ left)
+number_once bytes value other rest left h k =
     let first = ap varint_at h.1 ∙ varint_again h.0 rest value h.2 in
-    let second = ap varint_at k.1 ∙ varint_again k.0 behind other k.2 in
-    let pair = ok_is (value, rest) (other, behind) (sym first ∙ second) in
+    let second = ap varint_at k.1 ∙ varint_again k.0 left other k.2 in
+    let pair = ok_is (value, rest) (other, left) (sym first ∙ second) in
     (ap (λ (p : ℕ × List ℕ). p.0) pair, ap (λ (p : ℕ × List ℕ). p.1) pair)
 
 tag_of : (bytes : List ℕ) → (h : IsLongHere bytes) → BeginsNumber bytes 18 (h.size ++ h.rest)
@@ -39,20 +39,20 @@ size_of : (bytes rest : List ℕ) (tag : ℕ) → BeginsNumber bytes tag rest �
 size_of bytes rest tag b h = (h.size, (number_once bytes tag 18 rest (h.size ++ h.rest) b (tag_of bytes h)).1, h.sized)
 
 pub no_size : (bytes rest : List ℕ) (tag : ℕ) → BeginsNumber bytes tag rest
-    → ((value : ℕ) (behind : List ℕ) → ¬ BeginsNumber rest value behind) → ¬ IsLongHere bytes
+    → ((value : ℕ) (left : List ℕ) → ¬ BeginsNumber rest value left) → ¬ IsLongHere bytes
 no_size bytes rest tag b none h = none h.len h.rest (size_of bytes rest tag b h)
 
-pub short_size : (bytes rest behind : List ℕ) (tag len : ℕ) → BeginsNumber bytes tag rest
-    → BeginsNumber rest len behind → len ≤ entity_limit → ¬ IsLongHere bytes
-short_size bytes rest behind tag len b k le h = let same =
-    (number_once rest len h.len behind h.rest k (size_of bytes rest tag b h)).0 in let long = h.long in omega arith
+pub short_size : (bytes rest left : List ℕ) (tag len : ℕ) → BeginsNumber bytes tag rest
+    → BeginsNumber rest len left → len ≤ entity_limit → ¬ IsLongHere bytes
+short_size bytes rest left tag len b k le h = let same =
+    (number_once rest len h.len left h.rest k (size_of bytes rest tag b h)).0 in let long = h.long in omega arith
 
-pub long_size : (bytes rest behind : List ℕ) (tag len : ℕ) → BeginsNumber bytes tag rest
-    → BeginsNumber rest len behind → tag ≡ 18 → entity_limit < len → IsLongHere bytes
-long_size bytes rest behind tag len b k is long = record {
+pub long_size : (bytes rest left : List ℕ) (tag len : ℕ) → BeginsNumber bytes tag rest
+    → BeginsNumber rest len left → tag ≡ 18 → entity_limit < len → IsLongHere bytes
+long_size bytes rest left tag len b k is long = record {
   tag = b.0;
   size = k.0;
-  rest = behind;
+  rest = left;
   joined = b.1 ∙ ap (λ (l : List ℕ). b.0 ++ l) k.1;
   tagged = subst (λ (n : ℕ). IsVarint b.0 n) is b.2;
   len = len;

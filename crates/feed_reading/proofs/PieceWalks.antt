@@ -71,9 +71,9 @@ stands_first rest after field number q s h =
       })
     ]
 
-stands_behind : (rest after : Piece) (field : WireField) (number : ℕ) (q : faults.Piece) → IsFollowed rest field after
+stands_after : (rest after : Piece) (field : WireField) (number : ℕ) (q : faults.Piece) → IsFollowed rest field after
     → Stands (piece_of after) number q → Stands (piece_of rest) number q
-stands_behind rest after field number q s h =
+stands_after rest after field number q s h =
     subst (λ (b : List ℕ). Stands (from rest.tag rest.start b) number q) (sym s.joined)
     (stands_later rest.tag rest.start s.spelling after.bytes.now field number q s.spelled (record {
       front = h.front;
@@ -104,7 +104,7 @@ goes_on_none number list rest after field s none = record {
     | inr st ↦ elim (stands_first rest after field number q s st)
         [ inl here ↦ absurd (none q here) | inr later ↦ inr later ]
   ];
-  back = λ q h. elim h [ inl l ↦ inl l | inr st ↦ inr (stands_behind rest after field number q s st) ];
+  back = λ q h. elim h [ inl l ↦ inl l | inr st ↦ inr (stands_after rest after field number q s st) ];
 }
 
 listed_more : (list : List Piece) (inner : Piece) (q : faults.Piece) → Listed (list ++ inner ∷ []) q
@@ -142,7 +142,7 @@ goes_on_some number list rest after inner field s here = record {
       | inr e ↦ inr (stands_front rest after field number q s
           (subst (λ (p : faults.Piece). IsHere field rest.start after.start number p) (sym e) here.0))
     ]
-    | inr st ↦ inr (stands_behind rest after field number q s st)
+    | inr st ↦ inr (stands_after rest after field number q s st)
   ];
 }
 

@@ -23,21 +23,21 @@ two_is number body fields is short =
     short in moved.0
 
 -- after the tag of an entity stands its length
-by_payload : (number : ℕ) (payload : Payload) (fields : List WireField) (paid behind size rest : List ℕ) (len : ℕ)
-    → number * 8 + type_of payload ≡ 18 → IsPayload payload paid → paid ++ behind ≡ size ++ rest → IsVarint size len
+by_payload : (number : ℕ) (payload : Payload) (fields : List WireField) (paid after size rest : List ℕ) (len : ℕ)
+    → number * 8 + type_of payload ≡ 18 → IsPayload payload paid → paid ++ after ≡ size ++ rest → IsVarint size len
     → entity_limit < len
     → AreShort (bodies 2 (record { number = number; payload = payload } ∷ fields)) → ⊥
-by_payload number (Varint value) fields paid behind size rest len tag h e sized long short = absurd (omega arith)
-by_payload number (Fixed64 value) fields paid behind size rest len tag h e sized long short = absurd (omega arith)
-by_payload number (Bytes body) fields paid behind size rest len tag h e sized long short =
-    let first : BeginsNumber (size ++ rest) (length body) (body ++ behind) =
-    (h.0, sym e ∙ ap (λ (l : List ℕ). l ++ behind) h.2 ∙ append_assoc h.0 body behind, h.1) in
+by_payload number (Varint value) fields paid after size rest len tag h e sized long short = absurd (omega arith)
+by_payload number (Fixed64 value) fields paid after size rest len tag h e sized long short = absurd (omega arith)
+by_payload number (Bytes body) fields paid after size rest len tag h e sized long short =
+    let first : BeginsNumber (size ++ rest) (length body) (body ++ after) =
+    (h.0, sym e ∙ ap (λ (l : List ℕ). l ++ after) h.2 ∙ append_assoc h.0 body after, h.1) in
     let second : BeginsNumber (size ++ rest) len rest = (size, refl, sized) in
-    let same = (number_once (size ++ rest) (length body) len (body ++ behind) rest first second).0 in
+    let same = (number_once (size ++ rest) (length body) len (body ++ after) rest first second).0 in
     let small = two_is number body fields (omega arith) short in
     absurd (omega arith)
-by_payload number Group fields paid behind size rest len tag h e sized long short = absurd (omega arith)
-by_payload number (Fixed32 value) fields paid behind size rest len tag h e sized long short = absurd (omega arith)
+by_payload number Group fields paid after size rest len tag h e sized long short = absurd (omega arith)
+by_payload number (Fixed32 value) fields paid after size rest len tag h e sized long short = absurd (omega arith)
 
 not_here : (a b : List ℕ) (field : WireField) (fields : List WireField) → IsSpelling 64 field a
     → AreShort (bodies 2 (field ∷ fields)) → IsLongHere (a ++ b) → ⊥

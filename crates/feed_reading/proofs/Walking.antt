@@ -14,9 +14,9 @@ use Rattle.feed_reading.specs.Pieces.{IsHere}
 abbrev pub from : ℕ → ℕ → List ℕ → Piece
 from tag start bytes = record { tag = tag; start = start; bytes = bytes }
 
-behind_first : (first others rest a b : List ℕ) (x y : WireField) → IsSpelling 64 x first → IsSpelling 64 y a
+after_first : (first others rest a b : List ℕ) (x y : WireField) → IsSpelling 64 x first → IsSpelling 64 y a
     → a ++ b ≡ (first ++ others) ++ rest → (b ≡ others ++ rest) × (length first ≡ length a)
-behind_first first others rest a b x y h k e =
+after_first first others rest a b x y h k e =
     let s = (fields_apart 64).same y x a first b (others ++ rest) k h (e ∙ append_assoc first others rest) in (
       s.1,
       omega (
@@ -45,16 +45,16 @@ stands_by tag start a b field number inner [] spelled h read =
 stands_by tag start a b field number inner (x ∷ fields) spelled h read =
     let e : a ++ b ≡ (read.0 ++ read.1) ++ (h.spelling ++ h.rest) =
     h.joined ∙ ap (λ (l : List ℕ). l ++ (h.spelling ++ h.rest)) read.2 in
-    let behind = behind_first read.0 read.1 (h.spelling ++ h.rest) a b x field read.3 spelled e in
+    let after = after_first read.0 read.1 (h.spelling ++ h.rest) a b x field read.3 spelled e in
     inr (record {
       front = read.1;
       spelling = h.spelling;
       rest = h.rest;
-      joined = behind.0;
+      joined = after.0;
       fields = fields;
       read = read.4;
       spelled = h.spelled;
-      tag = omega (arith, h.tag, behind.1, ap length read.2, length-append read.0 read.1);
+      tag = omega (arith, h.tag, after.1, ap length read.2, length-append read.0 read.1);
       start = h.start;
     })
 
@@ -121,13 +121,13 @@ broken_by a b field at kind [] spelled h read =
     absurd (h.breaks.none field a b (sym (h.joined ∙ ap (λ (l : List ℕ). l ++ h.rest) read)) spelled)
 broken_by a b field at kind (x ∷ fields) spelled h read =
     let e : a ++ b ≡ (read.0 ++ read.1) ++ h.rest = h.joined ∙ ap (λ (l : List ℕ). l ++ h.rest) read.2 in
-    let behind = behind_first read.0 read.1 h.rest a b x field read.3 spelled e in (
+    let after = after_first read.0 read.1 h.rest a b x field read.3 spelled e in (
       length read.1,
-      omega (arith, h.place, behind.1, ap length read.2, length-append read.0 read.1),
+      omega (arith, h.place, after.1, ap length read.2, length-append read.0 read.1),
       record {
         front = read.1;
         rest = h.rest;
-        joined = behind.0;
+        joined = after.0;
         place = refl;
         fields = fields;
         read = read.4;
@@ -206,16 +206,16 @@ long_by a b field at [] spelled h read = inl (here_from (a ++ b) at h read)
 long_by a b field at (x ∷ fields) spelled h read =
     let e : a ++ b ≡ (read.0 ++ read.1) ++ (h.tag ++ (h.size ++ h.rest)) =
     h.joined ∙ ap (λ (l : List ℕ). l ++ (h.tag ++ (h.size ++ h.rest))) read.2 in
-    let behind = behind_first read.0 read.1 (h.tag ++ (h.size ++ h.rest)) a b x field read.3 spelled e in
+    let after = after_first read.0 read.1 (h.tag ++ (h.size ++ h.rest)) a b x field read.3 spelled e in
     inr (
       length read.1,
-      omega (arith, h.place, behind.1, ap length read.2, length-append read.0 read.1),
+      omega (arith, h.place, after.1, ap length read.2, length-append read.0 read.1),
       record {
         front = read.1;
         tag = h.tag;
         size = h.size;
         rest = h.rest;
-        joined = behind.0;
+        joined = after.0;
         fields = fields;
         read = read.4;
         tagged = h.tagged;

@@ -80,7 +80,7 @@ pub record StopsAtFault (reader : Seen) (bytes : List ℕ) (given : List Entity)
   pub read : AreFields front fields
   pub entities : AreMessages OfFeedEntity 2 fields given
   pub before : length front ≤ place_of fault
-  pub longest : (more other behind : List ℕ) (others : List WireField) → bytes ++ more ≡ other ++ behind
+  pub longest : (more other after : List ℕ) (others : List WireField) → bytes ++ more ≡ other ++ after
       → AreFields other others → length other ≤ place_of fault → length other ≤ length front
   pub nothing_held : reader.held ≡ []
 

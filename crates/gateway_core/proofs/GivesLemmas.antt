@@ -146,14 +146,14 @@ all_read schedule trip day (one ∷ others) servable in_order = by (is_of trip d
         ≡ or_nothing (option_map (λ one. one.reading) (find (is_of trip day) others)) (nothing_known schedule trip)
         → or_nothing (last_reading trip day (dated schedule one ++ flat_map (dated schedule) others)) (nothing_known schedule trip)
         ≡ or_nothing (option_map (λ one. one.reading) (find (is_of trip day) (one ∷ others))) (nothing_known schedule trip)
-    by true e behind = rw (last_append trip day (dated schedule one) (flat_map (dated schedule) others), no_other schedule trip day one others parts.0 e, e)
+    by true e after = rw (last_append trip day (dated schedule one) (flat_map (dated schedule) others), no_other schedule trip day one others parts.0 e, e)
         (own_reading schedule trip day one servable.0 e)
-    by false e behind = rw (
+    by false e after = rw (
       last_append trip day (dated schedule one) (flat_map (dated schedule) others),
       none_of trip day one (messages schedule one) e,
       or_none (last_reading trip day (flat_map (dated schedule) others)),
       e,
-    ) behind
+    ) after
 
 -- alerts give nothing
 none_given : (schedule : Schedule) (feed : Feed) (situations : List Situation)
@@ -166,13 +166,13 @@ none_given schedule feed (one ∷ others) = by one.served (none_given schedule f
     by true rest = rest
     by false rest = rest
 
-given_behind : (schedule : Schedule) (feed : Feed) (records : List Recorded) (situations : List Situation) → AllByRecursion (SaysItself schedule) records
+given_after : (schedule : Schedule) (feed : Feed) (records : List Recorded) (situations : List Situation) → AllByRecursion (SaysItself schedule) records
     → filter_map given (map (entity_said schedule feed) (entities_of schedule records situations)) ≡ flat_map (dated schedule) records
-given_behind schedule feed records situations says =
+given_after schedule feed records situations says =
     let journeys = flat_map (messages schedule) records in
-    let behind = flat_map (alerts schedule.table) situations in
-    ap (filter_map given) (map_append (entity_said schedule feed) journeys behind)
-    ∙ filter_map-append given (map (entity_said schedule feed) journeys) (map (entity_said schedule feed) behind)
+    let after = flat_map (alerts schedule.table) situations in
+    ap (filter_map given) (map_append (entity_said schedule feed) journeys after)
+    ∙ filter_map-append given (map (entity_said schedule feed) journeys) (map (entity_said schedule feed) after)
     ∙ ap (λ end. filter_map given (map (entity_said schedule feed) journeys) ++ end) (none_given schedule feed situations)
     ∙ append-nil (filter_map given (map (entity_said schedule feed) journeys))
     ∙ given_is schedule feed records says
@@ -188,7 +188,7 @@ gives_each at schedule records situations bytes is says servable = record {
       let entities = entities_of schedule is.ordered is.numbered in
       let same : find (is_of trip day) is.ordered ≡ found =
       same_counts (is_of trip day) was_later records (find (is_of trip day) is.ordered) found (is.latest trip day) latest in
-      ap (λ all. or_nothing (last_reading trip day all) (nothing_known schedule trip)) (given_behind schedule (full_dataset at entities) is.ordered is.numbered says)
+      ap (λ all. or_nothing (last_reading trip day all) (nothing_known schedule trip)) (given_after schedule (full_dataset at entities) is.ordered is.numbered says)
       ∙ all_read schedule trip day is.ordered servable is.in_order
       ∙ ap (λ one. or_nothing (option_map (λ (one : Recorded). one.reading) one) (nothing_known schedule trip)) same;
 }

@@ -25,15 +25,15 @@ one_none : {X : Type 0} (p : X → Bool) (x : X) → p x ≡ false → list_any 
 one_none p x h = rw h refl
 
 -- one of the elements passes a test
-pub passes_among : {X : Type 0} (test : X → Bool) (before behind : List X) (one : X) → test one ≡ true → list_any test (before ++ one ∷ behind) ≡ true
-passes_among test [] behind one e = or_left (test one) (list_any test behind) e
-passes_among test (first ∷ before) behind one e = or_right (test first) (list_any test (before ++ one ∷ behind)) (passes_among test before behind one e)
+pub passes_among : {X : Type 0} (test : X → Bool) (before after : List X) (one : X) → test one ≡ true → list_any test (before ++ one ∷ after) ≡ true
+passes_among test [] after one e = or_left (test one) (list_any test after) e
+passes_among test (first ∷ before) after one e = or_right (test first) (list_any test (before ++ one ∷ after)) (passes_among test before after one e)
 
 -- ---- what holds of all
 
-pub all_among : {A : Type 0} (P : A → Type 0) (before : List A) (one : A) (behind : List A) → AllByRecursion P (before ++ one ∷ behind) → P one
-all_among P [] one behind h = h.0
-all_among P (first ∷ before) one behind h = all_among P before one behind h.1
+pub all_among : {A : Type 0} (P : A → Type 0) (before : List A) (one : A) (after : List A) → AllByRecursion P (before ++ one ∷ after) → P one
+all_among P [] one after h = h.0
+all_among P (first ∷ before) one after h = all_among P before one after h.1
 
 all_at : {X : Type 0} (P : X → Type 0) (xs : List X) → ((i : ℕ) (x : X) → slice_get xs i ≡ Some x → P x) → AllByRecursion P xs
 all_at P [] f = tt
@@ -81,29 +81,29 @@ module _ {A : Type 0} (is_its : A → Bool) (is_later : A → A → Bool) where
   latest_other all one None lost h = none_joined is_its all (one ∷ []) h (one_none is_its one lost)
   latest_other all one (Some old) lost h = record {
     before = h.before;
-    behind = h.behind ++ one ∷ [];
-    among = ap (λ (front : List A). front ++ one ∷ []) h.among ∙ append_assoc h.before (old ∷ h.behind) (one ∷ []);
+    after = h.after ++ one ∷ [];
+    among = ap (λ (front : List A). front ++ one ∷ []) h.among ∙ append_assoc h.before (old ∷ h.after) (one ∷ []);
     its = h.its;
     none_later = h.none_later;
-    all_earlier = all_joined (IsEarlier old) h.behind (one ∷ []) h.all_earlier (never_its one lost, tt);
+    all_earlier = all_joined (IsEarlier old) h.after (one ∷ []) h.all_earlier (never_its one lost, tt);
   }
 
   -- one that isn't as late
   latest_kept : (all : List A) (one old : A) → is_later old one ≡ true → IsLatestOf is_its is_later all old → IsLatestOf is_its is_later (all ++ one ∷ []) old
   latest_kept all one old late h = record {
     before = h.before;
-    behind = h.behind ++ one ∷ [];
-    among = ap (λ (front : List A). front ++ one ∷ []) h.among ∙ append_assoc h.before (old ∷ h.behind) (one ∷ []);
+    after = h.after ++ one ∷ [];
+    among = ap (λ (front : List A). front ++ one ∷ []) h.among ∙ append_assoc h.before (old ∷ h.after) (one ∷ []);
     its = h.its;
     none_later = h.none_later;
-    all_earlier = all_joined (IsEarlier old) h.behind (one ∷ []) h.all_earlier (λ its. late, tt);
+    all_earlier = all_joined (IsEarlier old) h.after (one ∷ []) h.all_earlier (λ its. late, tt);
   }
 
   -- the first of its key
   latest_first : (all : List A) (one : A) → is_its one ≡ true → list_any is_its all ≡ false → IsLatestOf is_its is_later (all ++ one ∷ []) one
   latest_first all one its none = record {
     before = all;
-    behind = [];
+    after = [];
     among = refl;
     its = its;
     none_later = none_its one all none;
@@ -111,20 +111,20 @@ module _ {A : Type 0} (is_its : A → Bool) (is_later : A → A → Bool) where
   }
 
   module _ (gap : (a b c : A) → is_later a b ≡ false → is_later b c ≡ false → is_later a c ≡ false)
-      (later_behind : (a b c : A) → is_later a b ≡ true → is_later a c ≡ false → is_later b c ≡ false) where
+      (later_after : (a b c : A) → is_later a b ≡ true → is_later a c ≡ false → is_later b c ≡ false) where
     -- one that is as late
     latest_new : (all : List A) (one old : A) → is_its one ≡ true → is_later old one ≡ false → IsLatestOf is_its is_later all old → IsLatestOf is_its is_later (all ++ one ∷ []) one
     latest_new all one old its late h = record {
       before = all;
-      behind = [];
+      after = [];
       among = refl;
       its = its;
       none_later =
           let front : AllByRecursion (IsNoLater one) h.before =
           all_weaker (IsNoLater old) (IsNoLater one) (λ other late_not its. gap other old one (late_not its) late) h.before h.none_later in
-          let back : AllByRecursion (IsNoLater one) h.behind =
-          all_weaker (IsEarlier old) (IsNoLater one) (λ other earlier its. later_behind old other one (earlier its) late) h.behind h.all_earlier in
-          subst (AllByRecursion (IsNoLater one)) (sym h.among) (all_joined (IsNoLater one) h.before (old ∷ h.behind) front (λ its. late, back));
+          let back : AllByRecursion (IsNoLater one) h.after =
+          all_weaker (IsEarlier old) (IsNoLater one) (λ other earlier its. later_after old other one (earlier its) late) h.after h.all_earlier in
+          subst (AllByRecursion (IsNoLater one)) (sym h.among) (all_joined (IsNoLater one) h.before (old ∷ h.after) front (λ its. late, back));
       all_earlier = tt;
     }
 

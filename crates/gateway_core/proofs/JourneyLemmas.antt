@@ -222,11 +222,11 @@ module _ (schedule : Schedule) (before : List Recorded) where
 
 -- the next one
 module _ {A : Type 0} (one : A) (rest : List A) where
-  behind : (all : List A) (n : ℕ) → drop n all ≡ one ∷ rest → rest ≡ drop (suc n) all
-  behind [] zero e = absurd cc
-  behind [] (suc n) e = absurd cc
-  behind (x ∷ all) zero e = cc
-  behind (x ∷ all) (suc n) e = behind all n e
+  beyond : (all : List A) (n : ℕ) → drop n all ≡ one ∷ rest → rest ≡ drop (suc n) all
+  beyond [] zero e = absurd cc
+  beyond [] (suc n) e = absurd cc
+  beyond (x ∷ all) zero e = cc
+  beyond (x ∷ all) (suc n) e = beyond all n e
 
   front : (all : List A) (n : ℕ) → drop n all ≡ one ∷ rest → take (suc n) all ≡ take n all ++ one ∷ []
   front [] zero e = absurd cc
@@ -251,7 +251,7 @@ pub next_left : {A : Type 0} (all left rest : List A) (n : ℕ) (one : A) → re
 next_left all left rest n one left_are popped = sym left_are ∙ ap reverse popped ∙ reverse-append rest (one ∷ [])
 
 pub rest_left : {A : Type 0} (all rest : List A) (n : ℕ) (one : A) → drop n all ≡ one ∷ rest → rest ≡ drop (n + 1) all
-rest_left all rest n one e = rw add-one (behind one rest all n e)
+rest_left all rest n one e = rw add-one (beyond one rest all n e)
 
 pub front_left : {A : Type 0} (all rest : List A) (n : ℕ) (one : A) → drop n all ≡ one ∷ rest → take (n + 1) all ≡ take n all ++ one ∷ []
 front_left all rest n one e = rw add-one (front one rest all n e)

@@ -20,7 +20,7 @@ use Rattle.gateway_core.specs.Keeping.{AreLatest, Keeps, above, at_key, below, w
 use Rattle.gateway_core.specs.Taking.{with_room}
 use Rattle.gateway_core.specs.Winners.{IsKeyed, counts_by}
 use Rattle.gateway_core.proofs.HeldLemmas.{all_among, all_filtered, all_joined}
-use Rattle.gateway_core.proofs.LatestLemmas.{key_is, latest_filter, latest_put, latest_same, none_behind, own, room_is}
+use Rattle.gateway_core.proofs.LatestLemmas.{key_is, latest_put, latest_same, none_after, own, room_is}
 use Rattle.gateway_core.proofs.OrderedLemmas.{map-put, some_found}
 use Rattle.gateway_core.proofs.RollLemmas.{all_with_room, filter_all}
 
@@ -156,23 +156,13 @@ module _ {A Q E : Type 0} (cmp : Q → Q → Ordering) (key_of : A → Q) (is_it
       by None = refl
       by (Some old) = refl
 
-  -- of those that pass a test on their keys
-  pub keeps_filter : (p : A → Bool) (passes : Q → Bool) (all : List A) (entries : List E) (h : IsKept all entries) → ((a : A) → p a ≡ passes (key_of a))
-      → IsKept (filter p all) (map entry (filter p h.ordered))
-  keeps_filter p passes all entries h same = record {
-    ordered = filter p h.ordered;
-    are_latest = latest_filter cmp key_of is_its is_later keyed comes_before by_key p passes same all h.ordered h.are_latest;
-    entries_are = refl;
-    all_good = all_filtered good p h.ordered h.all_good;
-  }
-
   -- what holds of all holds of what is kept
   pub all_latest : (P : A → Type 0) (all xs : List A) → AreLatest is_its is_later comes_before all xs → AllByRecursion P all → AllByRecursion P xs
   all_latest P all xs h holds = each_found xs h.in_order (λ q x e. of (find (is_its q) xs) q (h.latest q) x e)
     where
       of : (found : Option A) (q : Q) → HasLatestOf (is_its q) is_later all found → (x : A) → found ≡ Some x → P x
       of None q none x e = absurd (none-some x e)
-      of (Some one) q l x e = subst P (same_Some one x e) (all_among P l.before one l.behind (subst (AllByRecursion P) l.among holds))
+      of (Some one) q l x e = subst P (same_Some one x e) (all_among P l.before one l.after (subst (AllByRecursion P) l.among holds))
 
       each_found : (xs : List A) → are_ordered_by comes_before xs ≡ true → ((q : Q) (x : A) → find (is_its q) xs ≡ Some x → P x) → AllByRecursion P xs
       each_found [] order f = tt
@@ -186,7 +176,7 @@ module _ {A Q E : Type 0} (cmp : Q → Q → Ordering) (key_of : A → Q) (is_it
           by q y false its before e = e
           by q y true its before e =
               let none : list_any (is_its q) xs ≡ false =
-              ap (λ (key : Q). list_any (is_its key) xs) (key_is cmp key_of is_its is_later keyed comes_before by_key q x its) ∙ none_behind cmp key_of is_its is_later keyed comes_before by_key x xs before in
+              ap (λ (key : Q). list_any (is_its key) xs) (key_is cmp key_of is_its is_later keyed comes_before by_key q x its) ∙ none_after cmp key_of is_its is_later keyed comes_before by_key x xs before in
               absurd (both_ways (list_any (is_its q) xs) none (some_found (is_its q) xs y e))
 
   -- ---- a delivery's verdicts, one by one

@@ -46,7 +46,7 @@ module _ {A Q : Type 0} (cmp : Q → Q → Ordering) (key_of : A → Q) (is_its 
     where
       by : (q : Q) (b : Bool) → is_its q one ≡ b → HasLatestOf (is_its q) is_later (all ++ one ∷ []) (cond b (Some one) (find (is_its q) xs))
       by q true its =
-          latest_at (is_its q) is_later keyed.gap keyed.behind all one (find (is_its q) xs) its (h.latest q)
+          latest_at (is_its q) is_later keyed.gap keyed.after all one (find (is_its q) xs) its (h.latest q)
           (ap (λ (key : Q). counts_by is_later (find (is_its key) xs) one) (key_is q one its) ∙ won)
       by q false its = latest_other (is_its q) is_later all one (find (is_its q) xs) its (h.latest q)
 
@@ -76,13 +76,13 @@ module _ {A Q : Type 0} (cmp : Q → Q → Ordering) (key_of : A → Q) (is_its 
         left q e None none = any-filter_same (is_its q) p true (λ a its. at_key q a its ∙ e) all ∙ none
         left q e (Some one) l = record {
           before = filter p l.before;
-          behind = filter p l.behind;
+          after = filter p l.after;
           among =
-              ap (filter p) l.among ∙ filter-append p l.before (one ∷ l.behind)
-              ∙ ap (λ (b : Bool). filter p l.before ++ cond b (one ∷ filter p l.behind) (filter p l.behind)) (at_key q one l.its ∙ e);
+              ap (filter p) l.among ∙ filter-append p l.before (one ∷ l.after)
+              ∙ ap (λ (b : Bool). filter p l.before ++ cond b (one ∷ filter p l.after) (filter p l.after)) (at_key q one l.its ∙ e);
           its = l.its;
           none_later = all_filtered (IsNoLater (is_its q) is_later one) p l.before l.none_later;
-          all_earlier = all_filtered (IsEarlier (is_its q) is_later one) p l.behind l.all_earlier;
+          all_earlier = all_filtered (IsEarlier (is_its q) is_later one) p l.after l.all_earlier;
         }
 
         by : (q : Q) (b : Bool) → passes q ≡ b → HasLatestOf (is_its q) is_later (filter p all) (cond b (find (is_its q) xs) None)
@@ -95,12 +95,12 @@ module _ {A Q : Type 0} (cmp : Q → Q → Ordering) (key_of : A → Q) (is_its 
   AreDistinct [] = Unit {0}
   AreDistinct (x ∷ xs) = (list_any (is_its (key_of x)) xs ≡ false) × AreDistinct xs
 
-  pub none_behind : (a : A) (xs : List A) → list_all (comes_before a) xs ≡ true → list_any (is_its (key_of a)) xs ≡ false
-  none_behind a [] h = refl
-  none_behind a (x ∷ xs) h =
+  pub none_after : (a : A) (xs : List A) → list_all (comes_before a) xs ≡ true → list_any (is_its (key_of a)) xs ≡ false
+  none_after a [] h = refl
+  none_after a (x ∷ xs) h =
       let both = and_parts (comes_before a x) (list_all (comes_before a) xs) h in
       let other : is_its (key_of a) x ≡ false = keyed.its (key_of a) x ∙ unequal (cmp (key_of a) (key_of x)) (sym (by_key a x) ∙ both.0) in
-      rw (other, none_behind a xs both.1) refl
+      rw (other, none_after a xs both.1) refl
     where
       unequal : (o : Ordering) → is_lt o ≡ true → is_eq o ≡ false
       unequal Less e = refl
@@ -111,7 +111,7 @@ module _ {A Q : Type 0} (cmp : Q → Q → Ordering) (key_of : A → Q) (is_its 
   distinct_ordered [] h = tt
   distinct_ordered (x ∷ xs) h =
       let both = and_parts (list_all (comes_before x) xs) (are_ordered_by comes_before xs) h in
-      (none_behind x xs both.0, distinct_ordered xs both.1)
+      (none_after x xs both.0, distinct_ordered xs both.1)
 
   pub fewer : (t p : A → Bool) (xs : List A) → list_any t xs ≡ false → list_any t (filter p xs) ≡ false
   fewer t p [] h = refl
@@ -193,7 +193,7 @@ module _ {A Q : Type 0} (cmp : Q → Q → Ordering) (key_of : A → Q) (is_its 
   -- what is found is there
   any_found : (q : Q) (all : List A) (found : Option A) → HasLatestOf (is_its q) is_later all found → list_any (is_its q) all ≡ is_some found
   any_found q all None h = h
-  any_found q all (Some one) h = ap (list_any (is_its q)) h.among ∙ passes_among (is_its q) h.before h.behind one h.its
+  any_found q all (Some one) h = ap (list_any (is_its q)) h.among ∙ passes_among (is_its q) h.before h.after one h.its
 
   any_is : (q : Q) (xs : List A) → list_any (is_its q) xs ≡ is_some (find (is_its q) xs)
   any_is q xs = by (find (is_its q) xs) refl

@@ -23,37 +23,37 @@ use Rattle.gateway_core.proofs.WinnerLemmas.{journeys, numbers}
 -- ---- only one counts
 
 module _ {A : Type 0} (is_its : A → Bool) (is_later : A → A → Bool) where
-  same_place : (a b : A) (before_a behind_a before_b behind_b : List A) → before_a ++ a ∷ behind_a ≡ before_b ++ b ∷ behind_b
+  same_place : (a b : A) (before_a rest_a before_b rest_b : List A) → before_a ++ a ∷ rest_a ≡ before_b ++ b ∷ rest_b
       → is_its a ≡ true → is_its b ≡ true
-      → AllByRecursion (IsNoLater is_its is_later a) before_a → AllByRecursion (IsEarlier is_its is_later a) behind_a
-      → AllByRecursion (IsNoLater is_its is_later b) before_b → AllByRecursion (IsEarlier is_its is_later b) behind_b → a ≡ b
-  same_place a b [] behind_a [] behind_b e its_a its_b before_a_no after_a before_b_no after_b = cc
-  same_place a b [] behind_a (y ∷ before_b) behind_b e its_a its_b no_a earlier_a no_b earlier_b =
+      → AllByRecursion (IsNoLater is_its is_later a) before_a → AllByRecursion (IsEarlier is_its is_later a) rest_a
+      → AllByRecursion (IsNoLater is_its is_later b) before_b → AllByRecursion (IsEarlier is_its is_later b) rest_b → a ≡ b
+  same_place a b [] rest_a [] rest_b e its_a its_b before_a_no after_a before_b_no after_b = cc
+  same_place a b [] rest_a (y ∷ before_b) rest_b e its_a its_b no_a earlier_a no_b earlier_b =
       let head : y ≡ a = cc in
-      let tail : behind_a ≡ before_b ++ b ∷ behind_b = cc in
-      let late : is_later a b ≡ true = all_among (IsEarlier is_its is_later a) before_b b behind_b (subst (AllByRecursion (IsEarlier is_its is_later a)) tail earlier_a) its_b in
+      let tail : rest_a ≡ before_b ++ b ∷ rest_b = cc in
+      let late : is_later a b ≡ true = all_among (IsEarlier is_its is_later a) before_b b rest_b (subst (AllByRecursion (IsEarlier is_its is_later a)) tail earlier_a) its_b in
       let not_late : is_later a b ≡ false = subst (IsNoLater is_its is_later b) head no_b.0 its_a in
       absurd (both_ways (is_later a b) not_late late)
-  same_place a b (x ∷ before_a) behind_a [] behind_b e its_a its_b no_a earlier_a no_b earlier_b =
+  same_place a b (x ∷ before_a) rest_a [] rest_b e its_a its_b no_a earlier_a no_b earlier_b =
       let head : x ≡ b = cc in
-      let tail : behind_b ≡ before_a ++ a ∷ behind_a = cc in
-      let late : is_later b a ≡ true = all_among (IsEarlier is_its is_later b) before_a a behind_a (subst (AllByRecursion (IsEarlier is_its is_later b)) tail earlier_b) its_a in
+      let tail : rest_b ≡ before_a ++ a ∷ rest_a = cc in
+      let late : is_later b a ≡ true = all_among (IsEarlier is_its is_later b) before_a a rest_a (subst (AllByRecursion (IsEarlier is_its is_later b)) tail earlier_b) its_a in
       let not_late : is_later b a ≡ false = subst (IsNoLater is_its is_later a) head no_a.0 its_b in
       absurd (both_ways (is_later b a) not_late late)
-  same_place a b (x ∷ before_a) behind_a (y ∷ before_b) behind_b e its_a its_b no_a earlier_a no_b earlier_b =
-      let tail : before_a ++ a ∷ behind_a ≡ before_b ++ b ∷ behind_b = cc in
-      same_place a b before_a behind_a before_b behind_b tail its_a its_b no_a.1 earlier_a no_b.1 earlier_b
+  same_place a b (x ∷ before_a) rest_a (y ∷ before_b) rest_b e its_a its_b no_a earlier_a no_b earlier_b =
+      let tail : before_a ++ a ∷ rest_a ≡ before_b ++ b ∷ rest_b = cc in
+      same_place a b before_a rest_a before_b rest_b tail its_a its_b no_a.1 earlier_a no_b.1 earlier_b
 
   not_none : (all : List A) (one : A) → list_any is_its all ≡ false → IsLatestOf is_its is_later all one → ⊥
   not_none all one none latest =
-      both_ways (list_any is_its all) none (ap (list_any is_its) latest.among ∙ passes_among is_its latest.before latest.behind one latest.its)
+      both_ways (list_any is_its all) none (ap (list_any is_its) latest.among ∙ passes_among is_its latest.before latest.after one latest.its)
 
   pub same_counts : (all : List A) (a b : Option A) → HasLatestOf is_its is_later all a → HasLatestOf is_its is_later all b → a ≡ b
   same_counts all None None of_a of_b = refl
   same_counts all None (Some b) of_a of_b = absurd (not_none all b of_a of_b)
   same_counts all (Some a) None of_a of_b = absurd (not_none all a of_b of_a)
   same_counts all (Some a) (Some b) of_a of_b =
-      ap (λ one. Some one) (same_place a b of_a.before of_a.behind of_b.before of_b.behind (sym of_a.among ∙ of_b.among) of_a.its of_b.its
+      ap (λ one. Some one) (same_place a b of_a.before of_a.after of_b.before of_b.after (sym of_a.among ∙ of_b.among) of_a.its of_b.its
       of_a.none_later of_a.all_earlier of_b.none_later of_b.all_earlier)
 
 -- ---- a list in order is known by what is found in it
@@ -63,21 +63,21 @@ module _ {A Q : Type 0} (is_its : Q → A → Bool) (key_of : A → Q) (comes_be
     (other : (q : Q) (a b : A) → comes_before a b ≡ true → is_its q a ≡ true → is_its q b ≡ false)
     (turned : (a b : A) → comes_before a b ≡ true → comes_before b a ≡ true → ⊥) where
   -- what is found after one comes after it, and is of another key
-  found_behind : (test : A → Bool) (a x : A) (ys : List A) → list_all (comes_before a) ys ≡ true → find test ys ≡ Some x → comes_before a x ≡ true
-  found_behind test a x [] h e = absurd (none-some x e)
-  found_behind test a x (y ∷ ys) h e =
+  found_after : (test : A → Bool) (a x : A) (ys : List A) → list_all (comes_before a) ys ≡ true → find test ys ≡ Some x → comes_before a x ≡ true
+  found_after test a x [] h e = absurd (none-some x e)
+  found_after test a x (y ∷ ys) h e =
       let parts = and_parts (comes_before a y) (list_all (comes_before a) ys) h in
-      by parts.0 (test y) (found_behind test a x ys parts.1) e
+      by parts.0 (test y) (found_after test a x ys parts.1) e
     where
       by : comes_before a y ≡ true → (b : Bool) → (find test ys ≡ Some x → comes_before a x ≡ true) → cond b (Some y) (find test ys) ≡ Some x → comes_before a x ≡ true
       by before true rest e = subst (λ (z : A). comes_before a z ≡ true) (same_Some y x e) before
       by before false rest e = rest e
 
-  none_behind : (q : Q) (a : A) (ys : List A) → list_all (comes_before a) ys ≡ true → is_its q a ≡ true → find (is_its q) ys ≡ None
-  none_behind q a [] h its = refl
-  none_behind q a (y ∷ ys) h its =
+  none_after : (q : Q) (a : A) (ys : List A) → list_all (comes_before a) ys ≡ true → is_its q a ≡ true → find (is_its q) ys ≡ None
+  none_after q a [] h its = refl
+  none_after q a (y ∷ ys) h its =
       let parts = and_parts (comes_before a y) (list_all (comes_before a) ys) h in
-      rw (other q a y parts.0 its) (none_behind q a ys parts.1 its)
+      rw (other q a y parts.0 its) (none_after q a ys parts.1 its)
 
   first_found : (q : Q) (x : A) (xs : List A) → is_its q x ≡ true → find (is_its q) (x ∷ xs) ≡ Some x
   first_found q x xs its = rw its refl
@@ -90,7 +90,7 @@ module _ {A Q : Type 0} (is_its : Q → A → Bool) (key_of : A → Q) (comes_be
       by : (b c : Bool) → cond b (Some y) (find (is_its (key_of x)) ys) ≡ Some x → cond c (Some x) (find (is_its (key_of y)) xs) ≡ Some y → x ≡ y
       by true c e f = sym (same_Some y x e)
       by false true e f = same_Some x y f
-      by false false e f = absurd (turned y x (found_behind (is_its (key_of x)) y x ys before_ys e) (found_behind (is_its (key_of y)) x y xs before_xs f))
+      by false false e f = absurd (turned y x (found_after (is_its (key_of x)) y x ys before_ys e) (found_after (is_its (key_of y)) x y xs before_xs f))
 
   pub one_order : (xs ys : List A) → are_ordered_by comes_before xs ≡ true → are_ordered_by comes_before ys ≡ true
       → ((q : Q) → find (is_its q) xs ≡ find (is_its q) ys) → xs ≡ ys
@@ -112,7 +112,7 @@ module _ {A Q : Type 0} (is_its : Q → A → Bool) (key_of : A → Q) (comes_be
       by : (q : Q) (b : Bool) → is_its q x ≡ b → find (is_its q) xs ≡ find (is_its q) ys
       by q true its =
           let its_y : is_its q y ≡ true = ap (is_its q) (sym head) ∙ its in
-          none_behind q x xs of_xs.0 its ∙ sym (none_behind q y ys of_ys.0 its_y)
+          none_after q x xs of_xs.0 its ∙ sym (none_after q y ys of_ys.0 its_y)
       by q false not_its =
           let not_y : is_its q y ≡ false = ap (is_its q) (sym head) ∙ not_its in
           rw (not_its, not_y) at (same q)
@@ -135,8 +135,8 @@ module _ {A Q : Type 0} (cmp : Q → Q → Ordering) (key_of : A → Q) (is_its 
       keyed.its q b ∙ ap (λ (key : Q). is_eq (cmp key (key_of b))) same ∙ ap is_eq (less a b before)
 
   turned : (a b : A) → comes_before a b ≡ true → comes_before b a ≡ true → ⊥
-  turned a b before behind =
-      let e : Less ≡ Greater = sym (less a b before) ∙ keyed.total.antisymm (key_of a) (key_of b) ∙ ap ordering_reverse (less b a behind) in
+  turned a b before after =
+      let e : Less ≡ Greater = sym (less a b before) ∙ keyed.total.antisymm (key_of a) (key_of b) ∙ ap ordering_reverse (less b a after) in
       absurd cc
 
   pub one_keyed : (xs ys : List A) → are_ordered_by comes_before xs ≡ true → are_ordered_by comes_before ys ≡ true

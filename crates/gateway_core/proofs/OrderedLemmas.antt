@@ -43,14 +43,6 @@ some_found {X} test (y ∷ xs) x e = by (test y) (some_found test xs x) e
     by true rest e = refl
     by false rest e = rest e
 
-pub found_passes : {X : Type 0} (test : X → Bool) (xs : List X) (x : X) → find test xs ≡ Some x → test x ≡ true
-found_passes test [] x e = absurd cc
-found_passes {X} test (y ∷ xs) x e = by (test y) refl (found_passes test xs x) e
-  where
-    by : (b : Bool) → test y ≡ b → (find test xs ≡ Some x → test x ≡ true) → cond b (Some y) (find test xs) ≡ Some x → test x ≡ true
-    by true f rest e = let same : y ≡ x = cc in ap test (sym same) ∙ f
-    by false f rest e = rest e
-
 all_filter : {X : Type 0} (p q : X → Bool) (xs : List X) → list_all q xs ≡ true → list_all q (filter p xs) ≡ true
 all_filter p q [] h = refl
 all_filter {X} p q (x ∷ xs) h =
@@ -109,10 +101,10 @@ module _ {A Q : Type 0} (cmp : Q → Q → Ordering) (key_of : A → Q) (is_its 
   is_equal Equal e = refl
   is_equal Greater e = absurd cc
 
-  behind_all : (a one : A) (xs : List A) → is_lt (cmp (key_of a) (key_of one)) ≡ true
+  after_all : (a one : A) (xs : List A) → is_lt (cmp (key_of a) (key_of one)) ≡ true
       → list_all (comes_before a) (above key_of cmp (key_of one) xs) ≡ true
-  behind_all a one [] less = refl
-  behind_all a one (x ∷ xs) less = by (is_gt (cmp (key_of x) (key_of one))) refl (behind_all a one xs less)
+  after_all a one [] less = refl
+  after_all a one (x ∷ xs) less = by (is_gt (cmp (key_of x) (key_of one))) refl (after_all a one xs less)
     where
       by : (b : Bool) → is_gt (cmp (key_of x) (key_of one)) ≡ b → list_all (comes_before a) (above key_of cmp (key_of one) xs) ≡ true
           → list_all (comes_before a) (cond b (x ∷ above key_of cmp (key_of one) xs) (above key_of cmp (key_of one) xs)) ≡ true
@@ -134,7 +126,7 @@ module _ {A Q : Type 0} (cmp : Q → Q → Ordering) (key_of : A → Q) (is_its 
           → list_all (λ x. list_all (comes_before x) (one ∷ above key_of cmp (key_of one) ys)) (cond b (x ∷ below key_of cmp (key_of one) xs) (below key_of cmp (key_of one) xs)) ≡ true
       by true e rest =
           let first : comes_before x one ≡ true = by_key x one ∙ e in
-          rw (first, behind_all x one ys e, rest) refl
+          rw (first, after_all x one ys e, rest) refl
       by false e rest = rest
 
   all_above : (one : A) (xs : List A) → list_all (comes_before one) (above key_of cmp (key_of one) xs) ≡ true

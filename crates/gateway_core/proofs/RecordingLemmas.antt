@@ -36,22 +36,22 @@ holds_at P (x ∷ xs) h (suc k) d lt = holds_at P xs h.1 k d (omega arith)
 pub holds_of : {X : Type 0} (P : X → Type 0) (xs : List X) → AllByRecursion P xs → (x : X) → Contains xs x → P x
 holds_of P xs h x c = subst P c.2 (holds_at P xs h c.0 x c.1)
 
-among_all : {X : Type 0} (before : List X) (x : X) (behind : List X) → Contains (before ++ x ∷ behind) x
-among_all [] x behind = here x behind
-among_all (y ∷ before) x behind = there y x (before ++ x ∷ behind) (among_all before x behind)
+among_all : {X : Type 0} (before : List X) (x : X) (after : List X) → Contains (before ++ x ∷ after) x
+among_all [] x after = here x after
+among_all (y ∷ before) x after = there y x (before ++ x ∷ after) (among_all before x after)
 
-front_holds : {X : Type 0} (P : X → Type 0) (before behind : List X) → AllByRecursion P (before ++ behind) → AllByRecursion P before
-front_holds P [] behind h = tt
-front_holds P (x ∷ before) behind h = (h.0, front_holds P before behind h.1)
+front_holds : {X : Type 0} (P : X → Type 0) (before after : List X) → AllByRecursion P (before ++ after) → AllByRecursion P before
+front_holds P [] after h = tt
+front_holds P (x ∷ before) after h = (h.0, front_holds P before after h.1)
 
 -- the last that passes a test
 record IsLast {X : Type 0} (t : X → Bool) (xs : List X) : Type 0 where
   before : List X
   one : X
-  behind : List X
-  is : xs ≡ before ++ one ∷ behind
+  after : List X
+  is : xs ≡ before ++ one ∷ after
   passes : t one ≡ true
-  no_more : list_any t behind ≡ false
+  no_more : list_any t after ≡ false
 
 last_of : {X : Type 0} (t : X → Bool) (xs : List X) → list_any t xs ≡ true → IsLast t xs
 last_of t [] h = absurd (true≢false (sym h))
@@ -60,9 +60,9 @@ last_of {X} t (x ∷ xs) h = by (list_any t xs) refl (last_of t xs)
     by : (b : Bool) → list_any t xs ≡ b → (list_any t xs ≡ true → IsLast t xs) → IsLast t (x ∷ xs)
     by true e rest =
         let l : IsLast t xs = rest e in
-        record { before = x ∷ l.before; one = l.one; behind = l.behind; is = ap (λ (ys : List X). x ∷ ys) l.is; passes = l.passes; no_more = l.no_more }
+        record { before = x ∷ l.before; one = l.one; after = l.after; is = ap (λ (ys : List X). x ∷ ys) l.is; passes = l.passes; no_more = l.no_more }
     by false e rest =
-        record { before = []; one = x; behind = xs; is = refl; passes = first (t x) (ap (λ (b : Bool). t x || b) (sym e) ∙ h); no_more = e }
+        record { before = []; one = x; after = xs; is = refl; passes = first (t x) (ap (λ (b : Bool). t x || b) (sym e) ∙ h); no_more = e }
       where
         first : (b : Bool) → (b || false) ≡ true → b ≡ true
         first true f = refl
@@ -76,9 +76,9 @@ none_pass {X} t (x ∷ xs) h = by (t x) refl (none_pass t xs) h
     by true e rest f = absurd (true≢false f)
     by false e rest f = (e, rest f)
 
-any_passes : {X : Type 0} (t : X → Bool) (before behind : List X) (one : X) → t one ≡ true → list_any t (before ++ one ∷ behind) ≡ true
-any_passes t [] behind one e = or_left (t one) (list_any t behind) e
-any_passes t (first ∷ before) behind one e = or_right (t first) (list_any t (before ++ one ∷ behind)) (any_passes t before behind one e)
+any_passes : {X : Type 0} (t : X → Bool) (before after : List X) (one : X) → t one ≡ true → list_any t (before ++ one ∷ after) ≡ true
+any_passes t [] after one e = or_left (t one) (list_any t after) e
+any_passes t (first ∷ before) after one e = or_right (t first) (list_any t (before ++ one ∷ after)) (any_passes t before after one e)
 
 -- what passes a test, in any order
 
@@ -141,8 +141,8 @@ module _ {A : Type 0} (is_its : A → Bool) (is_later : A → A → Bool) (never
       no_later : AllByRecursion (IsNoLater is_its is_later one) xs
       no_later =
           subst (AllByRecursion (IsNoLater is_its is_later one)) (sym h.among)
-          (all_joined (IsNoLater is_its is_later one) h.before (one ∷ h.behind) h.none_later
-          ((λ its. no_self one), all_weaker (IsEarlier is_its is_later one) (IsNoLater is_its is_later one) (λ other earlier its. never_both one other (earlier its)) h.behind h.all_earlier))
+          (all_joined (IsNoLater is_its is_later one) h.before (one ∷ h.after) h.none_later
+          ((λ its. no_self one), all_weaker (IsEarlier is_its is_later one) (IsNoLater is_its is_later one) (λ other earlier its. never_both one other (earlier its)) h.after h.all_earlier))
 
       tested : (other : A) → (is_its other && not (is_later one other)) ≡ true → (is_its other ≡ true) × (is_later one other ≡ false)
       tested other e =
@@ -157,13 +157,13 @@ module _ {A : Type 0} (is_its : A → Bool) (is_later : A → A → Bool) (never
       last =
           last_of (λ other. is_its other && not (is_later one other)) ys
           (sym (any (λ other. is_its other && not (is_later one other))) ∙ ap (list_any (λ other. is_its other && not (is_later one other))) h.among
-          ∙ any_passes (λ other. is_its other && not (is_later one other)) h.before h.behind one (rw (h.its, no_self one) refl))
+          ∙ any_passes (λ other. is_its other && not (is_later one other)) h.before h.after one (rw (h.its, no_self one) refl))
 
       same : last.one ≡ one
       same =
-          let there_is : Contains ys last.one = subst (λ (zs : List A). Contains zs last.one) (sym last.is) (among_all last.before last.one last.behind) in
+          let there_is : Contains ys last.one = subst (λ (zs : List A). Contains zs last.one) (sym last.is) (among_all last.before last.one last.after) in
           let both : (is_its last.one ≡ true) × (is_later one last.one ≡ false) = tested last.one last.passes in
-          ties last.one one (back last.one there_is) (subst (λ (zs : List A). Contains zs one) (sym h.among) (among_all h.before one h.behind)) both.0 h.its
+          ties last.one one (back last.one there_is) (subst (λ (zs : List A). Contains zs one) (sym h.among) (among_all h.before one h.after)) both.0 h.its
           (holds_of (IsNoLater is_its is_later one) xs no_later last.one (back last.one there_is) both.0) both.1
 
       all_earlier : (other : A) → (is_its other && not (is_later one other)) ≡ false → is_its other ≡ true → is_later one other ≡ true
@@ -176,18 +176,18 @@ module _ {A : Type 0} (is_its : A → Bool) (is_later : A → A → Bool) (never
       at_last : IsLatestOf is_its is_later ys last.one
       at_last = record {
         before = last.before;
-        behind = last.behind;
+        after = last.after;
         among = last.is;
         its = (tested last.one last.passes).0;
         none_later =
             subst (λ (z : A). AllByRecursion (IsNoLater is_its is_later z) last.before) (sym same)
-            (front_holds (IsNoLater is_its is_later one) last.before (last.one ∷ last.behind)
+            (front_holds (IsNoLater is_its is_later one) last.before (last.one ∷ last.after)
             (subst (AllByRecursion (IsNoLater is_its is_later one)) last.is
             (all_from (IsNoLater is_its is_later one) ys (λ x c. holds_of (IsNoLater is_its is_later one) xs no_later x (back x c)))));
         all_earlier =
-            subst (λ (z : A). AllByRecursion (IsEarlier is_its is_later z) last.behind) (sym same)
-            (all_weaker (λ x. (is_its x && not (is_later one x)) ≡ false) (IsEarlier is_its is_later one) all_earlier last.behind
-            (none_pass (λ other. is_its other && not (is_later one other)) last.behind last.no_more));
+            subst (λ (z : A). AllByRecursion (IsEarlier is_its is_later z) last.after) (sym same)
+            (all_weaker (λ x. (is_its x && not (is_later one x)) ≡ false) (IsEarlier is_its is_later one) all_earlier last.after
+            (none_pass (λ other. is_its other && not (is_later one other)) last.after last.no_more));
       }
 
 -- ---- all are admitted where no more keys arrive than the limit

@@ -198,16 +198,16 @@ module _ {E : Type 0} (entry : Recorded → E) (gone : E → Bool) (first : ℤ)
   pub left_are : (xs : List Recorded) (n : ℕ) → are_ordered_by comes_before xs ≡ true
       → AllByRecursion (λ e. gone e ≡ true) (take n (map entry xs)) → ((d : E) → n < length (map entry xs) → gone (slice_index_or (map entry xs) n d) ≡ false)
       → map entry (filter (λ x. not (has_gone first x)) xs) ≡ drop n (map entry xs)
-  left_are [] zero h before behind = refl
-  left_are [] (suc n) h before behind = refl
-  left_are (x ∷ xs) zero h before behind =
-      let stays : has_gone first x ≡ false = sym (same x) ∙ behind (entry x) (omega arith) in
+  left_are [] zero h before after = refl
+  left_are [] (suc n) h before after = refl
+  left_are (x ∷ xs) zero h before after =
+      let stays : has_gone first x ≡ false = sym (same x) ∙ after (entry x) (omega arith) in
       let both = and_parts (list_all (comes_before x) xs) (are_ordered_by comes_before xs) h in
       ap (map entry) (filter_all (λ x. not (has_gone first x)) (x ∷ xs) (ap not stays, no_later first x xs stays both.0))
-  left_are (x ∷ xs) (suc n) h before behind =
+  left_are (x ∷ xs) (suc n) h before after =
       let leaves : has_gone first x ≡ true = sym (same x) ∙ before.0 in
       let both = and_parts (list_all (comes_before x) xs) (are_ordered_by comes_before xs) h in
-      rw leaves (left_are xs n both.1 before.1 (λ d lt. behind d (omega arith)))
+      rw leaves (left_are xs n both.1 before.1 (λ d lt. after d (omega arith)))
 
 -- ---- the entity of a record is the same over both windows
 

@@ -36,12 +36,12 @@ before_seen first [] (suc n) h = tt
 before_seen first (one ∷ entries) zero h = tt
 before_seen first (one ∷ entries) (suc n) h = (h.0, before_seen first entries n h.1)
 
-behind_seen : (first : ℤ) (entries : List (Entry JourneyKey Instant)) (n : ℕ)
+after_seen : (first : ℤ) (entries : List (Entry JourneyKey Instant)) (n : ℕ)
     → ((other : Entry JourneyKey Instant) → n < length entries → int_lt (slice_index_or entries n other).key.day first ≡ false)
     → (d : JourneyEntry) → n < length (map journey_seen entries) → int_lt (slice_index_or (map journey_seen entries) n d).key.0 first ≡ false
-behind_seen first [] n h d lt = absurd (omega arith)
-behind_seen first (one ∷ entries) zero h d lt = h one (omega arith)
-behind_seen first (one ∷ entries) (suc n) h d lt = behind_seen first entries n (λ other less. h other (omega arith)) d (omega arith)
+after_seen first [] n h d lt = absurd (omega arith)
+after_seen first (one ∷ entries) zero h d lt = h one (omega arith)
+after_seen first (one ∷ entries) (suc n) h d lt = after_seen first entries n (λ other less. h other (omega arith)) d (omega arith)
 
 -- what is left of what is kept
 pub keeps_left : (kept : Kept) (moment : ℤ) (arrivals : List Arrival) (entries : List (Entry JourneyKey Instant)) (first : ℤ) (n : ℕ)
@@ -49,12 +49,12 @@ pub keeps_left : (kept : Kept) (moment : ℤ) (arrivals : List Arrival) (entries
     → AllByRecursion (λ one. int_lt one.key.day first ≡ true) (take n entries)
     → ((other : Entry JourneyKey Instant) → n < length entries → int_lt (slice_index_or entries n other).key.day first ≡ false)
     → KeepsJourneys (schedule_at kept.setting (moment ∷ moments_of arrivals)) (filter (is_within (window_at kept.setting (moment ∷ moments_of arrivals))) (admitted kept.setting arrivals)) (drop n kept.journeys)
-keeps_left kept moment arrivals entries first n seen first_is h before behind =
+keeps_left kept moment arrivals entries first n seen first_is h before after =
     keeps_rolled kept.setting moment arrivals kept.journeys n h.journeys_are h.judged
     (subst (λ (es : List JourneyEntry). AllByRecursion (λ (e : JourneyEntry). int_lt e.key.0 (first_day kept.setting (moment ∷ moments_of arrivals)) ≡ true) (take n es)) (sym seen)
     (subst (λ (day : ℤ). AllByRecursion (λ (e : JourneyEntry). int_lt e.key.0 day ≡ true) (take n (map journey_seen entries))) first_is (before_seen first entries n before)))
     (subst (λ (es : List JourneyEntry). (d : JourneyEntry) → n < length es → int_lt (slice_index_or es n d).key.0 (first_day kept.setting (moment ∷ moments_of arrivals)) ≡ false) (sym seen)
-    (subst (λ (day : ℤ). (d : JourneyEntry) → n < length (map journey_seen entries) → int_lt (slice_index_or (map journey_seen entries) n d).key.0 day ≡ false) first_is (behind_seen first entries n behind)))
+    (subst (λ (day : ℤ). (d : JourneyEntry) → n < length (map journey_seen entries) → int_lt (slice_index_or (map journey_seen entries) n d).key.0 day ≡ false) first_is (after_seen first entries n after)))
 
 -- the first window is that of no moments
 pub starts_as : (setting : Setting) (window : DayStarts) (first : ℤ) (days : ℕ) → first ≡ setting.window.first → days ≡ length setting.window.starts

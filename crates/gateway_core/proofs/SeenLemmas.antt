@@ -123,9 +123,6 @@ module _ (entries : List (Entry (List ℕ) Edition)) where
   pub situations_long : length (map situation_seen entries) ≡ length entries
   situations_long = length-map entries situation_seen
 
-  pub situations_drop : (n : ℕ) → drop n (map situation_seen entries) ≡ map situation_seen (drop n entries)
-  situations_drop n = drop-map situation_seen n entries
-
   -- a situation whose number has a value
   module _ (one : Situation) (old : Edition) (found : Some old ≡ value_at (slice_cmp nat_cmp) entries one.number) where
     known : option_map (λ (e : SituationEntry). e.value) (situation_kept (map situation_seen entries) one) ≡ Some (old.version, old.served)

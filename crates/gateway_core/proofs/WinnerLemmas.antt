@@ -51,14 +51,14 @@ journeys = record {
   same = same_key;
   its = λ key one. has_own_key key one ∙ (eq_by_cmp_equiv key_total).symm (key_of one) key;
   gap = λ a b c. later_gap a.at b.at c.at;
-  behind = λ a b c. later_behind a.at b.at c.at;
+  after = λ a b c. later_after a.at b.at c.at;
 }
   where
     later_gap : (a b c : ℤ × ℕ) → is_later a b ≡ false → is_later b c ≡ false → is_later a c ≡ false
     later_gap a b c h k = grind (arith, ints)
 
-    later_behind : (a b c : ℤ × ℕ) → is_later a b ≡ true → is_later a c ≡ false → is_later b c ≡ false
-    later_behind a b c h k = grind (arith, ints)
+    later_after : (a b c : ℤ × ℕ) → is_later a b ≡ true → is_later a c ≡ false → is_later b c ≡ false
+    later_after a b c h k = grind (arith, ints)
 
 -- ---- situations by number
 
@@ -68,11 +68,11 @@ numbers = record {
   same = slice_cmp-IsAntisymmetric nat_cmp-IsAntisymmetric;
   its = λ number one. texts_ties one.number number ∙ (eq_by_cmp_equiv nat_list_cmp_total).symm one.number number;
   gap = λ a b c. version_gap a.version b.version c.version;
-  behind = λ a b c. version_behind a.version b.version c.version;
+  after = λ a b c. version_after a.version b.version c.version;
 }
   where
     version_gap : (a b c : ℕ) → nat_lt b a ≡ false → nat_lt c b ≡ false → nat_lt c a ≡ false
     version_gap a b c h k = grind arith
 
-    version_behind : (a b c : ℕ) → nat_lt b a ≡ true → nat_lt c a ≡ false → nat_lt c b ≡ false
-    version_behind a b c h k = grind arith
+    version_after : (a b c : ℕ) → nat_lt b a ≡ true → nat_lt c a ≡ false → nat_lt c b ≡ false
+    version_after a b c h k = grind arith

@@ -27,7 +27,7 @@ pub record IsKeyed {A Q : Type 0} (cmp : Q → Q → Ordering) (key_of : A → Q
   pub same : (p q : Q) → cmp p q ≡ Equal → p ≡ q
   pub its : (q : Q) (a : A) → is_its q a ≡ is_eq (cmp q (key_of a))
   pub gap : (a b c : A) → is_later a b ≡ false → is_later b c ≡ false → is_later a c ≡ false
-  pub behind : (a b c : A) → is_later a b ≡ true → is_later a c ≡ false → is_later b c ≡ false
+  pub after : (a b c : A) → is_later a b ≡ true → is_later a c ≡ false → is_later b c ≡ false
 
 -- ---- journeys
 

@@ -84,7 +84,7 @@ fn gone_before(journeys: &FeedIndex<JourneyKey, Instant>, first: Day) -> u64
     ensures within { result ≤ length journeys.now.entries }
     ensures before { AllByRecursion (λ one. int_lt one.key.day first ≡ true)
         (take result journeys.now.entries) }
-    ensures behind { (other : Entry keys.JourneyKey moments.Instant)
+    ensures after { (other : Entry keys.JourneyKey moments.Instant)
         → result < length journeys.now.entries
         → int_lt (slice_index_or journeys.now.entries result other).key.day first ≡ false }
 {

@@ -34,24 +34,24 @@ pub record HasArrived (setting : Setting) (at : ℤ) (files : Directory) (words 
   pub back : (answer : Result Arrived Exit) → Arrives setting at files rest (record { arrivals = arrivals; reports = reports }) answer → Arrives setting at files words nothing answer
 
 -- an end of the next file is the end of all
-pub ends_with : (told : Option Directory) (setting own : Setting) (at : ℤ) (words rest behind : List (List ℕ)) (flag name : List ℕ) (before now : Kept) (reports : List ℕ) (end : Exit)
-    → own ≡ setting → rest ≡ flag ∷ name ∷ behind
+pub ends_with : (told : Option Directory) (setting own : Setting) (at : ℤ) (words rest later : List (List ℕ)) (flag name : List ℕ) (before now : Kept) (reports : List ℕ) (end : Exit)
+    → own ≡ setting → rest ≡ flag ∷ name ∷ later
     → IfSome told (λ files. HasArrived setting at files words rest before reports)
     → IfSome told (λ files. (arrivals : List Arrival) → Stands before arrivals → UnlessFree {T = Report} is_free (Err end) (Takes (GivesFile own at flag name files arrivals) at arrivals now))
     → IfSome told (λ files. UnlessFree {T = List ℕ} is_free (Err end) (TakesAll (Arrives setting at files words nothing) now))
-ends_with None setting own at words rest behind flag name before now reports end stays same held took = tt
-ends_with (Some files) setting own at words rest behind flag name before now reports end stays same held took =
+ends_with None setting own at words rest later flag name before now reports end stays same held took = tt
+ends_with (Some files) setting own at words rest later flag name before now reports end stays same held took =
     unless_free is_free end (Takes (GivesFile own at flag name files held.arrivals) at held.arrivals now) (TakesAll (Arrives setting at files words nothing) now)
     (λ h. held.back (Err end) (rw same (inl (subst (λ (s : Setting). GivesFile s at flag name files held.arrivals (Err end)) stays h)))) (took held.arrivals held.stands)
 
 -- the next file was taken
-pub goes_on : (told : Option Directory) (setting own : Setting) (at : ℤ) (words rest behind : List (List ℕ)) (flag name : List ℕ) (before now : Kept) (reports more : List ℕ) (report : Report)
-    → own ≡ setting → rest ≡ flag ∷ name ∷ behind → more ≡ reports ++ feed_report name report
+pub goes_on : (told : Option Directory) (setting own : Setting) (at : ℤ) (words rest later : List (List ℕ)) (flag name : List ℕ) (before now : Kept) (reports more : List ℕ) (report : Report)
+    → own ≡ setting → rest ≡ flag ∷ name ∷ later → more ≡ reports ++ feed_report name report
     → IfSome told (λ files. HasArrived setting at files words rest before reports)
     → IfSome told (λ files. (arrivals : List Arrival) → Stands before arrivals → Takes (GivesFile own at flag name files arrivals) at arrivals now (Ok report))
-    → IfSome told (λ files. HasArrived setting at files words behind now more)
-goes_on None setting own at words rest behind flag name before now reports more report stays same longer held took = tt
-goes_on (Some files) setting own at words rest behind flag name before now reports more report stays same longer held took =
+    → IfSome told (λ files. HasArrived setting at files words later now more)
+goes_on None setting own at words rest later flag name before now reports more report stays same longer held took = tt
+goes_on (Some files) setting own at words rest later flag name before now reports more report stays same longer held took =
     record {
       arrivals = record { moment = at; gives = got.0 } ∷ held.arrivals;
       stands = got.2;
@@ -67,11 +67,11 @@ goes_on (Some files) setting own at words rest behind flag name before now repor
     after : List ℕ → Arrived
     after lines = record { arrivals = record { moment = at; gives = got.0 } ∷ held.arrivals; reports = lines }
 
-    by : (answer : Result Arrived Exit) → Arrives setting at files behind (after more) answer → Arrives setting at files words nothing answer
+    by : (answer : Result Arrived Exit) → Arrives setting at files later (after more) answer → Arrives setting at files words nothing answer
     by (Ok found) h =
-        held.back (Ok found) (rw same ((got.0, report), gives, subst (λ (lines : List ℕ). Arrives setting at files behind (after lines) (Ok found)) longer h))
+        held.back (Ok found) (rw same ((got.0, report), gives, subst (λ (lines : List ℕ). Arrives setting at files later (after lines) (Ok found)) longer h))
     by (Err end) h =
-        held.back (Err end) (rw same (inr ((got.0, report), gives, subst (λ (lines : List ℕ). Arrives setting at files behind (after lines) (Err end)) longer h)))
+        held.back (Err end) (rw same (inr ((got.0, report), gives, subst (λ (lines : List ℕ). Arrives setting at files later (after lines) (Err end)) longer h)))
 
 -- no file is left
 pub none_left : (told : Option Directory) (setting : Setting) (at : ℤ) (words rest : List (List ℕ)) (now : Kept) (reports : List ℕ) → length rest < 2

@@ -4,8 +4,7 @@ use Rattle.std.specs.Prelude.{IsTrue, IfSome, MatchBool, nat_eq, find}
 use Rattle.std.specs.Cmp.Lexicographic.{pointwise}
 use Rattle.std.specs.List.{AllByRecursion, list_any}
 use Rattle.std.specs.Option.{option_map}
-use Rattle.std.proofs.Math.ListN.{get_or-eq_default}
-use Rattle.std.proofs.lemmas.Bool.{cases_lt, false≢true}
+use Rattle.std.proofs.lemmas.Bool.{cases_lt}
 use Rattle.std.proofs.lemmas.Cmp.{nat_list_eq_equiv}
 use Rattle.std.proofs.lemmas.Option.{none-some, same_Some}
 use Rattle.gateway_top.specs.Pairs.{HasNoValue, IsWrongAt}
@@ -85,9 +84,9 @@ stops_here Accepted (word ∷ words) start wrong =
     longest zero within begins = omega arith
     longest (suc k) within begins = absurd (wrong _ begins.1 refl)
 
-stops_behind : (Accepted Left : Words → Type 0) (word : List ℕ) (words : Words) (n : ℕ) → ((ws : Words) → Left ws → Accepted (word ∷ ws))
+stops_after : (Accepted Left : Words → Type 0) (word : List ℕ) (words : Words) (n : ℕ) → ((ws : Words) → Left ws → Accepted (word ∷ ws))
     → ((ws : Words) → Accepted (word ∷ ws) → Left ws) → StopsAt Left words n → StopsAt Accepted (word ∷ words) (suc n)
-stops_behind Accepted Left word words n to from stops = record {
+stops_after Accepted Left word words n to from stops = record {
   none = λ h. stops.none (from words h);
   within = omega (arith, stops.within);
   start = (stops.start.0, to _ stops.start.1);
@@ -119,9 +118,9 @@ leads_on command name words number before (flag ∷ left) value rest leads known
       accepts = λ pairs. leads.accepts (rw e (known, met, pairs));
       refuses = λ n stops.
           let Flagged : Words → Type 0 = λ ws. ArePairs command number before (flag ∷ ws) in
-          let behind : StopsAt Flagged (value ∷ rest) (suc n) = stops_behind Flagged _ value rest n (λ ws pairs. (known, met, pairs)) (λ ws pairs. pairs.2) stops in
+          let after : StopsAt Flagged (value ∷ rest) (suc n) = stops_after Flagged _ value rest n (λ ws pairs. (known, met, pairs)) (λ ws pairs. pairs.2) stops in
           let all : StopsAt (ArePairs command number before) (flag ∷ left) (suc (suc n)) =
-          rw e (stops_behind (ArePairs command number before) Flagged flag (value ∷ rest) (suc n) (λ ws h. h) (λ ws h. h) behind) in
+          rw e (stops_after (ArePairs command number before) Flagged flag (value ∷ rest) (suc n) (λ ws h. h) (λ ws h. h) after) in
           subst (λ k. StopsAt (ArePairs command 0 name) words k) (omega arith) (leads.refuses (suc (suc n)) all);
     }
 
@@ -160,7 +159,7 @@ wrong_at command number before (flag ∷ left) bad met more h = by (is_flag (pai
         let Flagged : Words → Type 0 = λ ws. ArePairs command number before (flag ∷ ws) in
         let value = value_at command met number before in
         let rest = can_end command met (number + 1) value.0 in
-        rw h.1 (stops_behind (ArePairs command number before) Flagged flag left 0 (λ ws h. h) (λ ws h. h)
+        rw h.1 (stops_after (ArePairs command number before) Flagged flag left 0 (λ ws h. h) (λ ws h. h)
         (stops_here Flagged left (value.0 ∷ rest.0, (e, value.1, rest.1)) (no_value command number before flag left h.0)))
 
 -- a list of words is refused at its name, or after it
@@ -176,10 +175,10 @@ no_name (command ∷ commands) words met unknown =
     other [] is e = is
     other (name ∷ rest) is e = rw (unknown name (sym e)) at is
 
-pub behind_name : (commands : List Command) (command : Command) (name : List ℕ) (words : Words) (n : ℕ) → with_name commands name ≡ Some command
+pub after_name : (commands : List Command) (command : Command) (name : List ℕ) (words : Words) (n : ℕ) → with_name commands name ≡ Some command
     → StopsAt (ArePairs command 0 name) words n → StopsAt (IsAccepted commands) (name ∷ words) (n + 1)
-behind_name commands command name words n known stops =
-    rw (add-one) (stops_behind (IsAccepted commands) (ArePairs command 0 name) name words n (λ ws h. rw known h) (λ ws h. rw known at h) stops)
+after_name commands command name words n known stops =
+    rw (add-one) (stops_after (IsAccepted commands) (ArePairs command 0 name) name words n (λ ws h. rw known h) (λ ws h. rw known at h) stops)
 
 -- the pair of a number in an accepted list: the value before it, its flag and its value
 
@@ -200,15 +199,3 @@ pair_of command k m number before (flag ∷ []) e below h = absurd h
 pair_of command zero m number before (flag ∷ value ∷ words) e below h =
     let same : m ≡ number = omega arith in (before, flag, value, refl, refl, refl, rw same h.0, rw same h.1)
 pair_of command (suc k) m number before (flag ∷ value ∷ words) e below h = pair_of command k m (number + 1) value words (omega arith) below h.2
-
--- a command without repeated pairs has exactly its words
-pub all_pairs : (command : Command) → command.repeated.flags ≡ [] → (k number : ℕ) (before : List ℕ) (words : Words) → length command.pairs ≡ number + k
-    → ArePairs command number before words → length words ≡ double k
-all_pairs command none k number before (flag ∷ []) e h = absurd h
-all_pairs command none zero number before [] e h = refl
-all_pairs command none zero number before (flag ∷ value ∷ words) e h =
-    let last : pair_at command number ≡ command.repeated = get_or-eq_default command.pairs command.repeated (omega arith) in
-    absurd (false≢true (rw (last, none) at h.0))
-all_pairs command none (suc k) number before [] e h = absurd (omega arith)
-all_pairs command none (suc k) number before (flag ∷ value ∷ words) e h =
-    ap (λ n. suc (suc n)) (all_pairs command none k (number + 1) value words (omega arith) h.2)

@@ -121,7 +121,7 @@ fn next_file(words: &[Text]) -> Option<(&Text, &Text, &[Text])>
     ensures { IsNext words.now (option_map (λ next. (next.0.now, next.1.now, next.2.now)) result) }
 {
     match words {
-        [flag, name, behind @ ..] => Some((flag, name, behind)),
+        [flag, name, after @ ..] => Some((flag, name, after)),
         _ => None,
     }
 }
@@ -157,13 +157,13 @@ pub fn deliveries<F: Files>(
 {
     let mut so_far = Bytes::new(alloc);
     let mut rest = words;
-    while let Some((flag, name, behind)) = next_file(rest) {
+    while let Some((flag, name, after)) = next_file(rest) {
         let report = match file_taken(alloc, files, gate, at, flag.as_str(), name.as_str()) {
             Ok(report) => report,
             Err(end) => return Err(end),
         };
         add_report(alloc, &mut so_far, name.as_str(), &report)?;
-        rest = behind;
+        rest = after;
     }
     Ok(so_far)
 }

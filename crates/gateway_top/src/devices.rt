@@ -11,7 +11,7 @@ use std::marker::Model;
 
 // Reads what a reader has left, or its first `limit` bytes and one more, straight after what is there.
 fn read_front<B: Read + Drop>(reader: B, limit: u64, into: &mut Bytes) -> io::Result<usize>
-    ensures behind { (bytes : List ℕ) × (into.new ≡ into.old ++ bytes) }
+    ensures after { (bytes : List ℕ) × (into.new ≡ into.old ++ bytes) }
     ensures count { IfOk result (λ n. length into.new ≡ length into.old + n) }
     ensures front { OnOk result (IfSome (B.remaining reader) (λ bytes.
         into.new ≡ into.old ++ take (min (limit + 1) last_count) bytes)) }
@@ -43,8 +43,8 @@ impl<'a, R: std::rt::Files> DirFiles<'a, R> {
     }
 
     // Reads the file's bytes, or its first `limit` bytes and one more, straight after what is there.
-    fn read_behind(&self, name: &str, limit: u64, into: &mut Bytes) -> io::Result<usize>
-        ensures behind { (bytes : List ℕ) × (into.new ≡ into.old ++ bytes) }
+    fn read_after(&self, name: &str, limit: u64, into: &mut Bytes) -> io::Result<usize>
+        ensures after { (bytes : List ℕ) × (into.new ≡ into.old ++ bytes) }
         ensures count { IfOk result (λ n. length into.new ≡ length into.old + n) }
     {
         read_front(File::open(self.rt, name)?, limit, into)
@@ -73,7 +73,7 @@ impl<'a, R: std::rt::Files> Files for DirFiles<'a, R> {
 
     fn read_file(&mut self, name: &str, limit: u64, into: &mut Bytes) -> Result<Got, FileFault> {
         let before = into.len();
-        let read = self.read_behind(name, limit, into);
+        let read = self.read_after(name, limit, into);
         let count = (into.len() - before) as u64;
         if read.is_ok() && count <= limit {
             return Ok(Got::Whole);

@@ -5,7 +5,7 @@ use Rattle.std.proofs.Math.Seq.{take-nil}
 use Rattle.gw_base.specs.Connections.{Takes}
 use Rattle.gw_base.specs.DoorInMemory.{DoorInMemory, shown_beside}
 
--- a front of some of the bytes that are left is empty only where none are left
+-- a prefix of some of the bytes that are left is empty only where none are left
 pub empty-front : (unread : List ℕ) (limit n : ℕ) → 0 < limit → n ≡ min limit (length unread) →
     take n unread ≡ [] → unread ≡ []
 empty-front unread limit n pos is none =
@@ -13,7 +13,7 @@ empty-front unread limit n pos is none =
     let zero_long : length (take n unread) ≡ 0 = ap (λ (front : List ℕ). length front) none in
     nil_from_length unread (omega arith)
 
--- a read of some bytes takes a front of what is left, which is empty exactly at the end
+-- a read of some bytes takes a prefix of what is left, which is empty exactly at the end
 pub takes-front : (old new : DoorInMemory) (limit n : ℕ) (piece : List ℕ)
     → new.present ≡ old.present
     → new.connections ≡ record old.connections { unread = drop n old.connections.unread }

@@ -15,7 +15,7 @@ pub with_bytes-take : (told : Option (List ℕ)) (bytes : List ℕ) (i n : ℕ) 
 with_bytes-take told bytes i n =
     with_bytes-with_bytes told (take i bytes) (take n (drop i bytes)) ∙ ap (with_bytes told) (sym (take-add i n bytes))
 
--- a text behind one that was written whole
+-- a text after one that was written whole
 pub puts_more : (P : Type 0) (before mid now : Option (List ℕ)) (first second : List ℕ) →
     mid ≡ with_bytes before first → PutsUnless P mid now second → PutsUnless P before now (first ++ second)
 puts_more P before mid now first second whole puts =

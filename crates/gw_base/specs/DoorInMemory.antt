@@ -95,7 +95,7 @@ fits_open door piece = door.present && nat_le (length door.written + write_count
 abbrev pub writes_next : DoorInMemory → List ℕ → Bool
 writes_next door piece = not (fails_next door.uses) && fits_open door piece
 
--- the door after a front of the piece was written
+-- the door after a prefix of the piece was written
 abbrev pub after_write : DoorInMemory → List ℕ → DoorInMemory
 after_write door piece = record door {
   written = door.written ++ take (write_count door piece) piece;

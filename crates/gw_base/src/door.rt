@@ -35,7 +35,7 @@ pub struct Entry {
     pub mark: Mark,
     /// The moment at which it was answered, if the clock gave one.
     pub moment: Option<Moment>,
-    /// The output, which is a front of the answer.
+    /// The output, which is a prefix of the answer.
     pub output: Bytes,
 }
 

@@ -117,7 +117,7 @@ impl List<u8> {
     /// Reads to the end of what the reader gives, after the bytes that are there: after a fault too they
     /// are still there. Answers how many bytes came. What has come is what the reader no longer has.
     pub fn read_to_end<R: Read>(&mut self, reader: &mut R) -> io::Result<usize>
-        ensures behind { (bytes : Values ℕ) × (self.new ≡ self.old ++ bytes) }
+        ensures after { (bytes : Values ℕ) × (self.new ≡ self.old ++ bytes) }
         ensures count { IfOk result (λ n. length self.new ≡ length self.old + n) }
         ensures whole { OnOk result (IfSome (R.remaining reader.old) (λ bytes. self.new ≡ self.old ++ bytes)) }
         ensures end { OnOk result (IsAtEnd (R.remaining reader.new)) }

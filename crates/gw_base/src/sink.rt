@@ -19,7 +19,7 @@ pub trait Sink {
     /// What it shows beside what is written, and no write changes: of a door, its connections.
     ghost beside: { Self → Beside } = { λ _. nothing_beside };
 
-    /// Appends a front of the piece, of at least one byte, and answers how many bytes; or fails and appends nothing.
+    /// Appends a prefix of the piece, of at least one byte, and answers how many bytes; or fails and appends nothing.
     fn write(&mut self, piece: &[u8]) -> Result<usize, Failed>
         requires { 0 < length piece.now }
         ensures some { IfOk result (λ n. (0 < n) × (n ≤ length piece.now)) }
@@ -29,7 +29,7 @@ pub trait Sink {
         ensures others { beside self.new ≡ beside self.old };
 }
 
-/// Writes all the bytes, in as many pieces as the sink takes. After a failure a front of them is written.
+/// Writes all the bytes, in as many pieces as the sink takes. After a failure a prefix of them is written.
 /// Takes no memory.
 pub fn put_all<S: Sink>(sink: &mut S, bytes: &[u8]) -> Result<(), Failed>
     ensures all { OnOk result (S.told sink.new ≡ with_bytes (S.told sink.old) bytes.now) }

@@ -1,17 +1,17 @@
--- The fronts of an input that comes in pieces: bytes held, bytes seen after them, and what follows.
+-- The prefixes of an input that comes in pieces: bytes held, bytes seen after them, and what follows.
 use Rattle.std.proofs.Common.{◌≡◌, ℕ, ◌+◌, ◌-◌, ◌<◌, ◌≤◌, true, false, List, ◌++◌, length, take, drop, ap, sym, ◌∙◌, subst, arith, inl, inr, length-append}
 use Rattle.std.proofs.Math.Seq.{take-append-add, take-length}
 use Rattle.std.proofs.lemmas.List.{take-append-le, take-append-drop, length-take-le}
 use Rattle.std.proofs.lemmas.Bool.{cases_lt}
 use Rattle.http_talk.specs.Ends.{ends_head, IsHeadLength, HasNoEnd, IsOpen, IsTooLong}
 
--- a longer front of two lists is the first and a front of the second
+-- a longer prefix of two lists is the first and a prefix of the second
 past : (held tail : List ℕ) (count : ℕ) → length held ≤ count → take count (held ++ tail) ≡ held ++ take (count - length held) tail
 past held tail count over =
     ap (λ n. take n (held ++ tail)) (let e : count ≡ length held + (count - length held) = omega arith in e)
     ∙ take-append-add held tail (count - length held)
 
--- no front that ends among the held bytes or among those seen ends a head
+-- no prefix that ends among the held bytes or among those seen ends a head
 pub none_among : (held seen rest : List ℕ) → HasNoEnd held → (limit : ℕ)
     → ((front : ℕ) → front < limit → ends_head (held ++ take front seen) ≡ false)
     → (count : ℕ) → count ≤ 16384 → count < length held + limit → count ≤ length held + length seen
@@ -25,7 +25,7 @@ none_among held seen rest none limit along count most below within =
           (along (count - length held) (omega arith))
     ]
 
--- the front of the input that is the held bytes and so many of those seen
+-- the prefix of the input that is the held bytes and so many of those seen
 pub front_is : (held seen rest : List ℕ) (more : ℕ) → more ≤ length seen
     → take (length held + more) (held ++ (seen ++ rest)) ≡ held ++ take more seen
 front_is held seen rest more within =
@@ -41,12 +41,12 @@ is_head_length held seen rest more none within most ends along = record {
   shortest = λ fewer below. none_among held seen rest none more along fewer (omega arith) below (omega arith);
 }
 
--- a front of a front
+-- a prefix of a prefix
 front_of_front : (input : List ℕ) (count fewer : ℕ) → fewer ≤ length (take count input) → take fewer input ≡ take fewer (take count input)
 front_of_front input count fewer within =
     ap (take fewer) (sym (take-append-drop count input)) ∙ take-append-le fewer (take count input) (drop count input) within
 
--- a head is its own shortest front
+-- a head is its own shortest prefix
 pub head_alone : (input : List ℕ) (count : ℕ) → IsHeadLength input count → IsHeadLength (take count input) (length (take count input))
 head_alone input count head = record {
   within = omega arith;

@@ -43,17 +43,17 @@ feeds_end : (end : LineEnd) → feeds (print_end end) ≡ 1
 feeds_end crlf = refl
 feeds_end lf = refl
 
-feeds_behind : (a b : List ℕ) → feeds b ≤ feeds (a ++ b)
-feeds_behind a b = omega (arith, feeds_append a b)
+feeds_after : (a b : List ℕ) → feeds b ≤ feeds (a ++ b)
+feeds_after a b = omega (arith, feeds_append a b)
 
 feeds_before : (a b : List ℕ) → feeds a ≤ feeds (a ++ b)
 feeds_before a b = omega (arith, feeds_append a b)
 
 feeds_cons : (a : ℕ) (b : List ℕ) → feeds b ≤ feeds (a ∷ b)
-feeds_cons a b = feeds_behind (a ∷ []) b
+feeds_cons a b = feeds_after (a ∷ []) b
 
 feeds_field : (f : Field) → 1 ≤ feeds (print_field f)
-feeds_field f = omega (arith, feeds_end f.end, feeds_behind (f.name ++ 58 ∷ f.raw) (print_end f.end))
+feeds_field f = omega (arith, feeds_end f.end, feeds_after (f.name ++ 58 ∷ f.raw) (print_end f.end))
 
 feeds_fields : (fields : List Field) → length fields ≤ feeds (flat_map print_field fields)
 feeds_fields [] = omega arith
@@ -76,11 +76,11 @@ feeds_head h rest =
       feeds_before (print_section h.fields h.last) rest,
       feeds_append (print_end h.line_end) s,
       feeds_end h.line_end,
-      feeds_behind (print_version h.minor) l,
+      feeds_after (print_version h.minor) l,
       feeds_cons 32 v,
-      feeds_behind h.target (32 ∷ v),
+      feeds_after h.target (32 ∷ v),
       feeds_cons 32 t,
-      feeds_behind h.method (32 ∷ t),
+      feeds_after h.method (32 ∷ t),
     )
 
 -- a head has a line for each field, the request line and the empty line
@@ -99,17 +99,17 @@ end_feed : (end : LineEnd) → HasFeed (print_end end)
 end_feed crlf = (13 ∷ [], refl)
 end_feed lf = ([], refl)
 
-feed_behind : (a b : List ℕ) → HasFeed b → HasFeed (a ++ b)
-feed_behind a b has = (a ++ has.0, ap (λ v. a ++ v) has.1 ∙ sym (append_assoc a has.0 (10 ∷ [])))
+feed_after : (a b : List ℕ) → HasFeed b → HasFeed (a ++ b)
+feed_after a b has = (a ++ has.0, ap (λ v. a ++ v) has.1 ∙ sym (append_assoc a has.0 (10 ∷ [])))
 
 field_feed : (f : Field) → HasFeed (print_field f)
-field_feed f = feed_behind (f.name ++ 58 ∷ f.raw) (print_end f.end) (end_feed f.end)
+field_feed f = feed_after (f.name ++ 58 ∷ f.raw) (print_end f.end) (end_feed f.end)
 
 fields_feed : (a : List ℕ) (fields : List Field) → HasFeed a → HasFeed (a ++ flat_map print_field fields)
 fields_feed a [] has = subst HasFeed (sym (append-nil a)) has
 fields_feed a (f ∷ fields) has =
     subst HasFeed (append_assoc a (print_field f) (flat_map print_field fields))
-    (fields_feed (a ++ print_field f) fields (feed_behind a (print_field f) (field_feed f)))
+    (fields_feed (a ++ print_field f) fields (feed_after a (print_field f) (field_feed f)))
 
 end_is : (front : List ℕ) (last : LineEnd) → is_end (reverse ((front ++ 10 ∷ []) ++ print_end last)) ≡ true
 end_is front crlf =
@@ -135,9 +135,9 @@ head_ends h is =
     subst (λ v. is_end (reverse v) ≡ true) (grouped h ∙ sym (ap skip_empty (sym (append-nil (print_request h))) ∙ head_skipped h [] is))
     (feed_ends ((h.method ++ 32 ∷ (h.target ++ 32 ∷ print_version h.minor)) ++ print_end h.line_end ++ flat_map print_field h.fields) h.last
     (fields_feed ((h.method ++ 32 ∷ (h.target ++ 32 ∷ print_version h.minor)) ++ print_end h.line_end) h.fields
-    (feed_behind (h.method ++ 32 ∷ (h.target ++ 32 ∷ print_version h.minor)) (print_end h.line_end) (end_feed h.line_end))))
+    (feed_after (h.method ++ 32 ∷ (h.target ++ 32 ∷ print_version h.minor)) (print_end h.line_end) (end_feed h.line_end))))
 
--- nothing follows the head of the grammar that a shortest front begins with
+-- nothing follows the head of the grammar that a shortest prefix begins with
 pub nothing_follows : (bytes : List ℕ) (h : RequestHead) (rest : List ℕ) → IsHeadLength bytes (length bytes) → ReadsRequest bytes h rest
     → rest ≡ []
 nothing_follows bytes h [] shortest reads = refl

@@ -3,7 +3,7 @@ use Rattle.std.proofs.Common.{◌≡◌, ℕ, Bool, true, false, ◌&&◌, ◌==
 use Rattle.std.proofs.lemmas.List.{reverse-append}
 use Rattle.http_talk.specs.declared.place.Place.{Place}
 use Rattle.http_talk.specs.Ends.{skip_empty, is_end}
-use Rattle.http_talk.specs.Places.{place_behind, place_of, after}
+use Rattle.http_talk.specs.Places.{place_after, place_of, after}
 
 -- the bytes are none, or a CR alone
 abbrev pub is_blank : List ℕ → Bool
@@ -49,9 +49,9 @@ reverse_more bytes byte =
 -- with a byte more the head ends, or goes on at a place
 abbrev pub GoesOn : List ℕ → Option Place → Type 0
 GoesOn bytes None = is_end bytes ≡ true
-GoesOn bytes (Some place) = (is_end bytes ≡ false) × (place_behind bytes ≡ place)
+GoesOn bytes (Some place) = (is_end bytes ≡ false) × (place_after bytes ≡ place)
 
-goes_on : (bytes : List ℕ) (byte : ℕ) → GoesOn (with_last bytes byte) (after (place_behind bytes) byte)
+goes_on : (bytes : List ℕ) (byte : ℕ) → GoesOn (with_last bytes byte) (after (place_after bytes) byte)
 goes_on [] byte = grind arith
 goes_on (a ∷ []) byte = grind arith
 goes_on (a ∷ b ∷ bytes) byte = grind arith

@@ -25,7 +25,7 @@ is_end (byte ∷ bytes) = byte == 10 && begins_empty bytes
 abbrev pub ends_head : List ℕ → Bool
 ends_head bytes = is_end (reverse (skip_empty bytes))
 
--- the head is the first so many bytes of the input: the shortest front of it that ends a head
+-- the head is the first so many bytes of the input: the shortest prefix of it that ends a head
 pub record IsHeadLength (input : List ℕ) (count : ℕ) : Type 0 where
   pub within : count ≤ length input
   pub ends : ends_head (take count input) ≡ true

@@ -12,13 +12,13 @@ return_place [] = BlankReturn
 return_place (byte ∷ bytes) = if byte == 10 then StartReturn else Inside
 
 -- the place after these bytes, read from the last one back
-abbrev pub place_behind : List ℕ → Place
-place_behind [] = Blank
-place_behind (byte ∷ bytes) = if byte == 10 then Start else (if byte == 13 then return_place bytes else Inside)
+abbrev pub place_after : List ℕ → Place
+place_after [] = Blank
+place_after (byte ∷ bytes) = if byte == 10 then Start else (if byte == 13 then return_place bytes else Inside)
 
 -- the place after all bytes so far: empty lines at the front say nothing
 abbrev pub place_of : List ℕ → Place
-place_of bytes = place_behind (reverse (skip_empty bytes))
+place_of bytes = place_after (reverse (skip_empty bytes))
 
 -- the place after LF, where the head goes on
 abbrev pub after_feed : Place → Option Place
@@ -47,7 +47,7 @@ scanned place count [] = Open place
 scanned place count (byte ∷ bytes) =
     elim (after place byte) as (λ _. Scan) [ None ↦ Ended (count + 1) | Some next ↦ scanned next (count + 1) bytes ]
 
--- what that means: no front of the bytes, after those before, ends a head but the one that is told
+-- what that means: no prefix of the bytes, after those before, ends a head but the one that is told
 abbrev pub ScanMeans : List ℕ → ℕ → List ℕ → Scan → Type 0
 ScanMeans before count bytes (Open place) =
     ((front : ℕ) → ends_head (before ++ take front bytes) ≡ false) × (place_of (before ++ bytes) ≡ place)

@@ -1,4 +1,4 @@
--- What a connection's whole input asks for (RFC 9112). It looks at the fronts of the input, and knows nothing of the
+-- What a connection's whole input asks for (RFC 9112). It looks at the prefixes of the input, and knows nothing of the
 -- pieces in which it comes.
 use Rattle.std.specs.Prelude.{◌≡◌, ℕ, ◌≤◌, nat_le, if◌then◌else◌, List, length, take, drop, Result, Ok, Err, ◌⊎◌}
 use Rattle.http_talk.specs.declared.target.Target.{Target}

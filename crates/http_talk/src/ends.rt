@@ -31,8 +31,8 @@ pub(crate) fn skip_empty(bytes: &[u8]) -> &[u8]
 {
     let mut rest = bytes;
     while begins_empty(rest) {
-        let (_, behind) = rest.split_at(1);
-        rest = behind;
+        let (_, after) = rest.split_at(1);
+        rest = after;
     }
     rest
 }

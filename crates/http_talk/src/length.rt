@@ -85,12 +85,12 @@ fn limited(digits: &[u8]) -> Result<u64, Refusal>
 {
     let mut size: u64 = 0;
     let mut rest = digits;
-    while let Some((digit, behind)) = rest.split_first() {
+    while let Some((digit, after)) = rest.split_first() {
         size = with_digit(size, *digit);
         if size > BODY_LIMIT {
             return Err(Refusal::TooLarge);
         }
-        rest = behind;
+        rest = after;
     }
     Ok(size)
 }

@@ -68,13 +68,13 @@ fn moved(place: Place, bytes: &[u8]) -> Scan
     let mut at = place;
     let mut count = 0;
     let mut rest = bytes;
-    while let Some((byte, behind)) = rest.split_first() {
+    while let Some((byte, later)) = rest.split_first() {
         count += 1;
         match after(at, *byte) {
             Some(next) => at = next,
             None => return Scan::Ended(count),
         }
-        rest = behind;
+        rest = later;
     }
     Scan::Open(at)
 }

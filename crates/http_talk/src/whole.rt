@@ -1,4 +1,4 @@
-//! The request of a whole input, read as its definition says it, front by front. It is slow on many empty lines, and
+//! The request of a whole input, read as its definition says it, prefix by prefix. It is slow on many empty lines, and
 //! serves to compare: a connection is read by `HeadReader`.
 ghost use Rattle.std.specs.Prelude.{◌≡◌, ◌≤◌, Ok, MatchOption};
 ghost use Rattle.http_talk.specs.Ends.{IsHeadLength, HasNoEnd, head_limit};

@@ -9,9 +9,9 @@ use Rattle.journey_model.specs.declared.matching.MatchFault.{MatchFault}
 use Rattle.journey_model.specs.declared.matching.MatchFault.TheVariants.{UnknownStop, StopMismatch, OutOfOrder}
 
 -- the place from which on a stop lies after the one before, if there was one
-abbrev pub place_behind : Option ℕ → ℕ
-place_behind None = 0
-place_behind (Some place) = place + 1
+abbrev pub place_after : Option ℕ → ℕ
+place_after None = 0
+place_after (Some place) = place + 1
 
 -- a row is of the stop of that number, or has that sequence
 abbrev pub is_of_stop : ℕ → StopRow → Bool
@@ -36,10 +36,10 @@ fits_order stop from order stops =
 -- the place of a call after the one before (SIRI 2.0, EstimatedCall: StopPointRef, Order): by its order where the
 -- stop of that order is its stop and lies after, else the first place of its stop after
 abbrev pub call_place : List StopRow → Option ℕ → ℕ → Option ℕ → Option ℕ
-call_place stops after stop None = first_place stop (place_behind after) stops
+call_place stops after stop None = first_place stop (place_after after) stops
 call_place stops after stop (Some order) =
-    if fits_order stop (place_behind after) order stops then Some (order - 1)
-    else first_place stop (place_behind after) stops
+    if fits_order stop (place_after after) order stops then Some (order - 1)
+    else first_place stop (place_after after) stops
 
 -- a place, where it lies from a place on
 abbrev pub in_order : ℕ → ℕ → Result ℕ MatchFault
@@ -67,6 +67,6 @@ place_by_stop stops from (Known stop) =
 -- the place of an update after the one before (GTFS Realtime reference, StopTimeUpdate: stop_sequence, stop_id), or
 -- why it has none
 abbrev pub update_place : List StopRow → Option ℕ → Option ℕ → NamedStop → Result ℕ MatchFault
-update_place stops after None named = place_by_stop stops (place_behind after) named
+update_place stops after None named = place_by_stop stops (place_after after) named
 update_place stops after (Some sequence) named =
-    place_by_sequence stops (place_behind after) named (position (has_sequence sequence) stops)
+    place_by_sequence stops (place_after after) named (position (has_sequence sequence) stops)

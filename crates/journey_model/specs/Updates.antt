@@ -66,14 +66,19 @@ match_fault number match.UnknownStop = UnknownStop number
 match_fault number match.StopMismatch = StopMismatch number
 match_fault number match.OutOfOrder = OutOfOrder number
 
+-- the fault of both times of the update of that number: there are none, or else that of their delays
+abbrev pub events_fault : ℕ → Option Fault → Option (ℤ × ℤ) → Option Fault
+events_fault number late None = Some (NoTime number)
+events_fault number late (Some both) = late
+
 -- the fault of the times of a SCHEDULED update: it has none, or a delay is over a week
 abbrev pub times_fault : ℕ → ℤ × ℤ → StopUpdate → Option Fault
 times_fault number planned update =
-    if is_scheduled update then untimed (times planned update) else None
-  where
-    untimed : Option (ℤ × ℤ) → Option Fault
-    untimed None = Some (NoTime number)
-    untimed (Some both) = delay_fault number planned (arrival_time planned update) (departure_time planned update)
+    if is_scheduled update
+    then events_fault number
+    (delay_fault number planned (arrival_time planned update) (departure_time planned update))
+    (times planned update)
+    else None
 
 -- the place, unless there is a fault
 abbrev pub place_unless : Option Fault → ℕ → Result ℕ Fault

@@ -29,8 +29,8 @@ pub enum MatchFault {
 }
 
 // The place from which on a stop lies after the one before.
-fn place_behind(after: Option<u32>) -> usize
-    ensures { result ≡ spec.place_behind after }
+fn place_after(after: Option<u32>) -> usize
+    ensures { result ≡ spec.place_after after }
 {
     match after {
         Some(place) => place as usize + 1,
@@ -92,7 +92,7 @@ pub fn match_call(
     ensures within { IfSome result (λ place. place < length dated.now.stops.now) }
 {
     let stops = dated.stops;
-    let from = place_behind(after);
+    let from = place_after(after);
     if let Some(order) = order {
         if fits_order(stops, from, order, stop) {
             return Some((order - 1) as u32);
@@ -184,7 +184,7 @@ pub fn match_update(
     ensures value { result ≡ spec.update_place dated.now.stops.now after sequence stop }
     ensures within { IfOk result (λ place. place < length dated.now.stops.now) }
 {
-    let from = place_behind(after);
+    let from = place_after(after);
     let place = match sequence {
         Some(sequence) => place_by_sequence(dated.stops, from, sequence, stop)?,
         None => place_by_stop(dated.stops, from, stop)?,

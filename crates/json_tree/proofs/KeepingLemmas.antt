@@ -3,7 +3,7 @@ use Rattle.std.proofs.Common.{◌≡◌, ◌∙◌, ℕ, zero, suc, ◌-◌, ◌
 use Rattle.std.specs.Prelude.{⊤}
 use Rattle.json.specs.Token.{Token}
 use Rattle.json.specs.Json as json
-use Rattle.json.specs.Json.{Parse, parse_map, after_end_array, read_key, if_last, value}
+use Rattle.json.specs.Json.{Parse, parse_map, after_end_array, read_key, if_last}
 use Rattle.json.proofs.Grammar.{items_fail, items_more, members_fail, members_more, left_some}
 use Rattle.json.proofs.Trees.{none_before}
 use Rattle.serde_json.specs.Data.{Data, number, array, object, no_members, put}

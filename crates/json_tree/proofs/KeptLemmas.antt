@@ -1,5 +1,5 @@
 -- Two trees that differ in members alone whose names nobody asks for, and what is made of them in the same way.
-use Rattle.std.proofs.Common.{◌≡◌, ◌∙◌, ℕ, List, [], ◌∷◌, ◌++◌, ◌&&◌, map, Bool, true, false, cond, if◌then◌else◌, Option, Some, None, option_map, unwrap_or, Result, Ok, Err, refl, sym, ap, bytes_eq, true≢false}
+use Rattle.std.proofs.Common.{◌≡◌, ◌∙◌, ℕ, List, [], ◌∷◌, ◌++◌, ◌&&◌, map, Bool, true, false, cond, Option, Some, None, option_map, unwrap_or, Result, Ok, Err, refl, sym, ap, bytes_eq, true≢false}
 use Rattle.std.specs.List.{list_all, flat_map}
 use Rattle.std.proofs.lemmas.Slice.Eq.{bytes_eq-Decides}
 use Rattle.json.specs.Json as json

@@ -21,9 +21,6 @@ pub one_item : (first : Option Data) (others : Option Items) → is_some (option
 one_item None others = refl
 one_item (Some one) others = is_some-map (item one) others
 
-pub items_fit-more : (first : Tree) (others : List Tree) → items_fit (first ∷ others) ≡ is_some (of_json (value_view first)) && items_fit others
-items_fit-more first others = one_item (of_json (value_view first)) (of_items (items_of (map value_view others)))
-
 -- members before don't count
 either : (first : Option Data) (a b : Data → Option Members) → ((d : Data) → is_some (a d) ≡ is_some (b d)) → is_some (option_and_then a first) ≡ is_some (option_and_then b first)
 either None a b same = refl

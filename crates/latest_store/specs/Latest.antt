@@ -10,11 +10,11 @@ use Rattle.journey_model.specs.declared.situation.Situation.{Situation}
 -- of those that pass a test one counts: none that stands before it is later, and each that stands after it is earlier
 pub record IsLatestOf {A : Type 0} (is_its : A → Bool) (is_later : A → A → Bool) (all : List A) (one : A) : Type 0 where
   pub before : List A
-  pub behind : List A
-  pub among : all ≡ before ++ one ∷ behind
+  pub after : List A
+  pub among : all ≡ before ++ one ∷ after
   pub its : is_its one ≡ true
   pub none_later : AllByRecursion (λ other. is_its other ≡ true → is_later other one ≡ false) before
-  pub all_earlier : AllByRecursion (λ other. is_its other ≡ true → is_later one other ≡ true) behind
+  pub all_earlier : AllByRecursion (λ other. is_its other ≡ true → is_later one other ≡ true) after
 
 -- the one that counts, or that none passes the test
 abbrev pub HasLatestOf : {A : Type 0} → (A → Bool) → (A → A → Bool) → List A → Option A → Type 0
@@ -33,9 +33,6 @@ abbrev pub was_later : Recorded → Recorded → Bool
 was_later a b = is_later a.at b.at
 
 -- the record that counts for a trip on a day, or that there is none of that journey
-abbrev pub IsLatest : List Recorded → ℕ → ℤ → Recorded → Type 0
-IsLatest records trip day one = IsLatestOf (is_of trip day) was_later records one
-
 abbrev pub HasLatest : List Recorded → ℕ → ℤ → Option Recorded → Type 0
 HasLatest records trip day found = HasLatestOf (is_of trip day) was_later records found
 

@@ -112,16 +112,16 @@ key_of one = (one.day, one.trip.0)
 
 -- of the readings from the end on, those that were seen, and the last of each journey
 pub record LastTo (given left : List DatedReading) (keys : List (ℤ × ℕ)) (last : List DatedReading) : Type 0 where
-  pub behind : List DatedReading
-  pub split : given ≡ left ++ behind
+  pub after : List DatedReading
+  pub split : given ≡ left ++ after
   pub saw : (one : DatedReading)
-      → list_any (same_key (key_of one)) keys ≡ is_some (last_reading one.trip.0 one.day behind)
-  pub last_is : last ≡ reverse (last_of_each behind)
+      → list_any (same_key (key_of one)) keys ≡ is_some (last_reading one.trip.0 one.day after)
+  pub last_is : last ≡ reverse (last_of_each after)
 
 pub last_none : (given left : List DatedReading) (keys : List (ℤ × ℕ)) (last : List DatedReading) → left ≡ given
     → keys ≡ [] → last ≡ [] → LastTo given left keys last
 last_none given left keys last same no_keys none = record {
-  behind = [];
+  after = [];
   split = sym (append-nil left ∙ same);
   saw = λ one. rw no_keys refl;
   last_is = none;
@@ -143,9 +143,9 @@ of-day : (trip : ℕ) (day : ℤ) (one : DatedReading) → is_of trip day one �
 of-day trip day one e = (signed_Decides one.day day).0 (and-right (one.trip.0 == trip) (int_eq one.day day) e)
 
 -- so readings of one journey have the same after them
-pub same-behind : (trip : ℕ) (day : ℤ) (one : DatedReading) (others : List DatedReading) → is_of trip day one ≡ true
+pub same-after : (trip : ℕ) (day : ℤ) (one : DatedReading) (others : List DatedReading) → is_of trip day one ≡ true
     → last_reading trip day others ≡ last_reading one.trip.0 one.day others
-same-behind trip day one others e = rw (of-trip trip day one e, of-day trip day one e) refl
+same-after trip day one others e = rw (of-trip trip day one e, of-day trip day one e) refl
 
 and-turned : (a b : Bool) → (a && b) ≡ (b && a)
 and-turned true true = refl
@@ -185,16 +185,16 @@ pub last_new : (given left left' : List DatedReading) (keys keys' : List (ℤ ×
     → true ≡ not (list_any (same_key key) keys)
     → IsPermutation (key ∷ keys) keys' → last' ≡ last ++ one ∷ [] → LastTo given left' keys' last'
 last_new given left left' keys keys' last last' one key h popped same new puts pushed =
-    let none : is_some (last_reading one.trip.0 one.day h.behind) ≡ false =
+    let none : is_some (last_reading one.trip.0 one.day h.after) ≡ false =
     sym (h.saw one) ∙ (rw (← same) (not_true _ new)) in
     record {
-      behind = one ∷ h.behind;
-      split = h.split ∙ (rw popped (append_assoc left' (one ∷ []) h.behind));
+      after = one ∷ h.after;
+      split = h.split ∙ (rw popped (append_assoc left' (one ∷ []) h.after));
       saw = λ other. sym (list_any-IsPermutation (same_key (key_of other)) (key ∷ keys) keys' puts)
           ∙ (rw same (ap (λ rest. same_key (key_of other) (key_of one) || rest) (h.saw other)))
-          ∙ ap (λ own. own || is_some (last_reading other.trip.0 other.day h.behind)) (key_is other one)
-          ∙ or-some (is_of other.trip.0 other.day one) (last_reading other.trip.0 other.day h.behind) one.reading;
-      last_is = pushed ∙ (rw (h.last_is, none) (sym (reverse-append (one ∷ []) (last_of_each h.behind))));
+          ∙ ap (λ own. own || is_some (last_reading other.trip.0 other.day h.after)) (key_is other one)
+          ∙ or-some (is_of other.trip.0 other.day one) (last_reading other.trip.0 other.day h.after) one.reading;
+      last_is = pushed ∙ (rw (h.last_is, none) (sym (reverse-append (one ∷ []) (last_of_each h.after))));
     }
 
 pub last_seen : (given left left' : List DatedReading) (keys keys' : List (ℤ × ℕ)) (last : List DatedReading)
@@ -202,25 +202,25 @@ pub last_seen : (given left left' : List DatedReading) (keys keys' : List (ℤ �
     → LastTo given left keys last → left ≡ left' ++ one ∷ [] → key ≡ key_of one
     → false ≡ not (list_any (same_key key) keys) → keys' ≡ keys → LastTo given left' keys' last
 last_seen given left left' keys keys' last one key h popped same old kept =
-    let seen : is_some (last_reading one.trip.0 one.day h.behind) ≡ true =
+    let seen : is_some (last_reading one.trip.0 one.day h.after) ≡ true =
     sym (h.saw one) ∙ (rw (← same) (not_false _ old)) in
     record {
-      behind = one ∷ h.behind;
-      split = h.split ∙ (rw popped (append_assoc left' (one ∷ []) h.behind));
+      after = one ∷ h.after;
+      split = h.split ∙ (rw popped (append_assoc left' (one ∷ []) h.after));
       saw = λ other. rw kept (h.saw other ∙ repeated other (is_of other.trip.0 other.day one) refl seen);
       last_is = h.last_is ∙ (rw seen refl);
     }
   where
     repeated : (other : DatedReading) (own : Bool) → is_of other.trip.0 other.day one ≡ own
-        → is_some (last_reading one.trip.0 one.day h.behind) ≡ true
-        → is_some (last_reading other.trip.0 other.day h.behind)
-        ≡ is_some (option_or (last_reading other.trip.0 other.day h.behind)
+        → is_some (last_reading one.trip.0 one.day h.after) ≡ true
+        → is_some (last_reading other.trip.0 other.day h.after)
+        ≡ is_some (option_or (last_reading other.trip.0 other.day h.after)
         (if is_of other.trip.0 other.day one then Some one.reading else None))
     repeated other true e seen =
-        or-kept (last_reading other.trip.0 other.day h.behind) _
-        (ap (λ (found : Option JourneyReading). is_some found) (same-behind other.trip.0 other.day one h.behind e)
+        or-kept (last_reading other.trip.0 other.day h.after) _
+        (ap (λ (found : Option JourneyReading). is_some found) (same-after other.trip.0 other.day one h.after e)
         ∙ seen)
-    repeated other false e seen = rw e (or-some false (last_reading other.trip.0 other.day h.behind) one.reading)
+    repeated other false e seen = rw e (or-some false (last_reading other.trip.0 other.day h.after) one.reading)
 
 pub last_done : (given left : List DatedReading) (keys : List (ℤ × ℕ)) (last : List DatedReading)
     → LastTo given left keys last → length left ≡ 0

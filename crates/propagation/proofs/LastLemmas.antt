@@ -11,7 +11,7 @@ use Rattle.std.specs.Option.{option_or, option_to_list}
 use Rattle.journey_model.specs.FeedReadings.{is_last, is_of, last_of_each, last_reading}
 use Rattle.journey_model.specs.declared.readings.DatedReading.{DatedReading}
 use Rattle.journey_model.specs.declared.readings.JourneyReading.{JourneyReading}
-use Rattle.propagation.proofs.FeedLemmas.{same-behind}
+use Rattle.propagation.proofs.FeedLemmas.{same-after}
 
 -- ---- one item that passes a test, in any order
 
@@ -108,10 +108,10 @@ last_kept trip day (one ∷ others) =
         (option_or (last_reading trip day others) (if is_of trip day one then Some one.reading else None))
     by true e true seen h =
         rw (e, seen) (passed (last_reading trip day others)
-        (ap (λ (found : Option JourneyReading). is_some found) (same-behind trip day one others e) ∙ seen) h)
+        (ap (λ (found : Option JourneyReading). is_some found) (same-after trip day one others e) ∙ seen) h)
     by true e false new h =
         rw (e, new, e) (alone (last_reading trip day others)
-        (ap (λ (found : Option JourneyReading). is_some found) (same-behind trip day one others e) ∙ new) h)
+        (ap (λ (found : Option JourneyReading). is_some found) (same-after trip day one others e) ∙ new) h)
     by false e true seen h = rw (e, seen, or-none (last_reading trip day others)) h
     by false e false new h = rw (e, new, e, or-none (last_reading trip day others)) h
 

@@ -8,10 +8,10 @@ use Rattle.std.specs.Option.{ok_or}
 use Rattle.std.specs.Ordering.{int_eq}
 use Rattle.gw_base.specs.declared.messages.StopUpdate.{StopUpdate}
 use Rattle.gw_base.specs.Chains.{◌>>=◌}
-use Rattle.journey_model.specs.Matching.{first_place, has_sequence, in_order, is_of_stop, place_behind, place_by_sequence, place_by_stop, stands_at, agrees, update_place}
+use Rattle.journey_model.specs.Matching.{first_place, has_sequence, in_order, is_of_stop, place_after, place_by_sequence, place_by_stop, stands_at, agrees, update_place}
 use Rattle.journey_model.specs.Runs.{Run, planned_at}
 use Rattle.journey_model.specs.Times.{delay_fault}
-use Rattle.journey_model.specs.Updates.{arrival_time, departure_time, is_no_data, is_scheduled, is_skipped, named_stop, place_of, place_timed, place_unless, places, places_from, times, times_fault}
+use Rattle.journey_model.specs.Updates.{arrival_time, departure_time, events_fault, is_no_data, is_scheduled, is_skipped, named_stop, place_of, place_timed, place_unless, places, places_from, times, times_fault}
 use Rattle.journey_model.specs.declared.fault.Fault.{Fault}
 use Rattle.journey_model.specs.declared.fault.Fault.TheVariants.{OtherRelation}
 use Rattle.journey_model.specs.declared.matching.MatchFault.{MatchFault}
@@ -19,59 +19,61 @@ use Rattle.journey_model.specs.declared.matching.MatchFault.TheVariants as match
 use Rattle.journey_model.specs.declared.matching.NamedStop.{NamedStop}
 use Rattle.journey_model.specs.declared.matching.NamedStop.TheVariants.{Missing, Unknown, Known}
 use Rattle.stop_schedule.specs.declared.stop_times.StopRow.{StopRow}
-use Rattle.propagation.specs.Saying.{is_read, placed_all, placed_at, placed_by, said_at, said_times}
+use Rattle.propagation.specs.Saying.{is_read, placed_all, placed_at, placed_by, said_unless, says_at, says_times}
 use Rattle.propagation.specs.Spreading.{are_rising_from}
 use Rattle.propagation.specs.declared.placing.Placed.{Placed}
 use Rattle.propagation.specs.declared.placing.Says.{Says}
+use Rattle.propagation.specs.declared.placing.Says.TheVariants.{NoData, Skipped}
 
 -- what is said at a place
 abbrev pub with_place : ℕ → Result Says Fault → Result Placed Fault
 with_place place (Ok says) = Ok (record { place = place; says = says })
 with_place place (Err fault) = Err fault
 
+-- an update of one relation isn't of the two others
 skipped-other : (relation : ℤ) → int_eq relation (pos 1) ≡ true → int_eq relation (pos 0) ≡ false
 skipped-other relation e = rw ((signed_Decides relation (pos 1)).0 e) refl
 
 no_data-other : (relation : ℤ) → int_eq relation (pos 2) ≡ true → int_eq relation (pos 0) ≡ false
 no_data-other relation e = rw ((signed_Decides relation (pos 2)).0 e) refl
 
+scheduled-other : (relation : ℤ) → int_eq relation (pos 0) ≡ true
+    → (int_eq relation (pos 1) ≡ false) × (int_eq relation (pos 2) ≡ false)
+scheduled-other relation e = rw ((signed_Decides relation (pos 0)).0 e) (refl, refl)
+
+module _ (number : ℕ) (planned : ℤ × ℤ) (update : StopUpdate) where
+  pub skipped-says : is_skipped update ≡ true
+      → Ok Skipped ≡ said_unless (times_fault number planned update) (says_at planned update)
+  skipped-says e = rw (e, skipped-other update.relation e) refl
+
+  pub no_data-says : is_skipped update ≡ false → is_no_data update ≡ true
+      → Ok NoData ≡ said_unless (times_fault number planned update) (says_at planned update)
+  no_data-says kept e = rw (kept, e, no_data-other update.relation e) refl
+
+  pub events-say : is_scheduled update ≡ true
+      → said_unless
+      (events_fault number
+      (delay_fault number planned (arrival_time planned update) (departure_time planned update))
+      (times planned update))
+      (says_times planned (times planned update))
+      ≡ said_unless (times_fault number planned update) (says_at planned update)
+  events-say e =
+      let others = scheduled-other update.relation e in
+      rw (e, others.0, others.1) refl
+
 -- an update that is read stands at its place, or has a fault there
-pub placed_there : (run : Run) (number place : ℕ) (update : StopUpdate) → is_read update ≡ true
-    → with_place place (said_at number (planned_at run place) update)
-    ≡ placed_by run update (place_timed run number update (Ok place))
-placed_there run number place update read = skips (is_skipped update) refl
-  where
-    timed : (late : Option Fault) (both : Option (ℤ × ℤ))
-        → delay_fault number (planned_at run place) (arrival_time (planned_at run place) update)
-        (departure_time (planned_at run place) update) ≡ late
-        → times (planned_at run place) update ≡ both → is_skipped update ≡ false → is_no_data update ≡ false
-        → is_scheduled update ≡ true
-        → with_place place (said_times number (planned_at run place) late both)
-        ≡ placed_by run update (place_unless (times_fault number (planned_at run place) update) place)
-    timed late None is_late is_both kept known counts = rw (counts, is_both) refl
-    timed None (Some both) is_late is_both kept known counts = rw (counts, is_both, is_late, kept, known, is_both) refl
-    timed (Some fault) (Some both) is_late is_both kept known counts = rw (counts, is_both, is_late) refl
-
-    no_data : (b : Bool) → is_no_data update ≡ b → is_skipped update ≡ false
-        → with_place place (said_at number (planned_at run place) update)
-        ≡ placed_by run update (place_timed run number update (Ok place))
-    no_data true e kept = rw (kept, e, no_data-other update.relation e) (rw (kept, e) refl)
-    no_data false e kept =
-        let counts : is_scheduled update ≡ true = grind (arith, read, e, kept) in
-        rw (kept, e) (timed _ _ refl refl kept e counts)
-
-    skips : (b : Bool) → is_skipped update ≡ b
-        → with_place place (said_at number (planned_at run place) update)
-        ≡ placed_by run update (place_timed run number update (Ok place))
-    skips true e = rw (e, skipped-other update.relation e) (rw e refl)
-    skips false e = no_data (is_no_data update) refl e
-
 pub placed_said : (run : Run) (number place : ℕ) (update : StopUpdate) (planned : ℤ × ℤ) (said : Result Says Fault)
-    → is_read update ≡ true
-    → planned ≡ planned_at run place → said ≡ said_at number planned update
+    → planned ≡ planned_at run place
+    → said ≡ said_unless (times_fault number planned update) (says_at planned update)
     → with_place place said ≡ placed_by run update (place_timed run number update (Ok place))
-placed_said run number place update planned said read same is =
-    rw (is, same) (placed_there run number place update read)
+placed_said run number place update planned said same is =
+    rw (is, same) (by (times_fault number (planned_at run place) update))
+  where
+    by : (fault : Option Fault)
+        → with_place place (said_unless fault (says_at (planned_at run place) update))
+        ≡ placed_by run update (place_unless fault place)
+    by None = refl
+    by (Some fault) = refl
 
 -- the places of placed updates
 abbrev pub places_of : List Placed → List ℕ
@@ -200,58 +202,58 @@ ordered from place found e = by (nat_le from place) refl e
     by true le same = let is : place ≡ found = cc in rw (← is) le
     by false le same = cc
 
-sequence-behind : (stops : List StopRow) (from : ℕ) (named : NamedStop) (at : Option ℕ) (found : ℕ)
+sequence-after : (stops : List StopRow) (from : ℕ) (named : NamedStop) (at : Option ℕ) (found : ℕ)
     → place_by_sequence stops from named at ≡ Ok found → nat_le from found ≡ true
-sequence-behind stops from named None found e = cc
-sequence-behind stops from named (Some place) found e = by (stands_at (agrees named) place stops) e
+sequence-after stops from named None found e = cc
+sequence-after stops from named (Some place) found e = by (stands_at (agrees named) place stops) e
   where
     by : (b : Bool) → (if b then in_order from place else Err match.StopMismatch) ≡ Ok found → nat_le from found ≡ true
     by true same = ordered from place found same
     by false same = cc
 
-first-behind : (from found : ℕ) (at : Option ℕ)
+first-after : (from found : ℕ) (at : Option ℕ)
     → ok_or (option_map (λ place. place + from) at) match.OutOfOrder ≡ Ok found → nat_le from found ≡ true
-first-behind from found None e = cc
-first-behind from found (Some place) e =
+first-after from found None e = cc
+first-after from found (Some place) e =
     let is : place + from ≡ found = cc in
     grind (arith, nat_tests)
 
-stop-behind : (stops : List StopRow) (from : ℕ) (named : NamedStop) (found : ℕ)
+stop-after : (stops : List StopRow) (from : ℕ) (named : NamedStop) (found : ℕ)
     → place_by_stop stops from named ≡ Ok found → nat_le from found ≡ true
-stop-behind stops from Missing found e = cc
-stop-behind stops from Unknown found e = cc
-stop-behind stops from (Known stop) found e = by (list_any (is_of_stop stop.0) stops) e
+stop-after stops from Missing found e = cc
+stop-after stops from Unknown found e = cc
+stop-after stops from (Known stop) found e = by (list_any (is_of_stop stop.0) stops) e
   where
     by : (b : Bool) → (if b then ok_or (first_place stop.0 from stops) match.OutOfOrder else Err match.UnknownStop)
         ≡ Ok found → nat_le from found ≡ true
-    by true same = first-behind from found (position (is_of_stop stop.0) (drop from stops)) same
+    by true same = first-after from found (position (is_of_stop stop.0) (drop from stops)) same
     by false same = cc
 
-place-behind : (stops : List StopRow) (after sequence : Option ℕ) (named : NamedStop) (found : ℕ)
+place-after : (stops : List StopRow) (after sequence : Option ℕ) (named : NamedStop) (found : ℕ)
     → update_place stops after sequence named ≡ Ok found
-    → nat_le (place_behind after) found ≡ true
-place-behind stops after None named found e = stop-behind stops (place_behind after) named found e
-place-behind stops after (Some sequence) named found e =
-    sequence-behind stops (place_behind after) named (position (has_sequence sequence) stops) found e
+    → nat_le (place_after after) found ≡ true
+place-after stops after None named found e = stop-after stops (place_after after) named found e
+place-after stops after (Some sequence) named found e =
+    sequence-after stops (place_after after) named (position (has_sequence sequence) stops) found e
 
 -- an update at its place has no fault there, and lies after the one before
 pub record Fits (run : Run) (number : ℕ) (after : Option ℕ) (update : StopUpdate) (place : ℕ) : Type 0 where
   pub read : is_read update ≡ true
-  pub behind : nat_le (place_behind after) place ≡ true
+  pub later : nat_le (place_after after) place ≡ true
   pub whole : times_fault number (planned_at run place) update ≡ None
 
 timed-fits : (run : Run) (number : ℕ) (after : Option ℕ) (update : StopUpdate) (at : Result ℕ MatchFault) (place : ℕ)
-    → is_read update ≡ true → ((found : ℕ) → at ≡ Ok found → nat_le (place_behind after) found ≡ true)
+    → is_read update ≡ true → ((found : ℕ) → at ≡ Ok found → nat_le (place_after after) found ≡ true)
     → place_timed run number update at ≡ Ok place
     → Fits run number after update place
-timed-fits run number after update (Err fault) place read behind e = cc
-timed-fits run number after update (Ok found) place read behind e =
+timed-fits run number after update (Err fault) place read later e = cc
+timed-fits run number after update (Ok found) place read later e =
     by (times_fault number (planned_at run found) update) refl e
   where
     by : (fault : Option Fault) → times_fault number (planned_at run found) update ≡ fault
         → place_unless fault found ≡ Ok place → Fits run number after update place
     by None whole same = let is : found ≡ place =
-        cc in rw (← is) (record { read = read; behind = behind found refl; whole = whole })
+        cc in rw (← is) (record { read = read; later = later found refl; whole = whole })
     by (Some fault) whole same = cc
 
 pub place-fits : (run : Run) (number : ℕ) (after : Option ℕ) (update : StopUpdate) (place : ℕ)
@@ -266,13 +268,13 @@ place-fits run number after update place e = by (is_read update) refl e
     by true read same =
         timed-fits run number after update (update_place run.stops after update.sequence (named_stop run.ids update))
         place read
-        (λ found is. place-behind run.stops after update.sequence (named_stop run.ids update) found is) same
+        (λ found is. place-after run.stops after update.sequence (named_stop run.ids update) found is) same
     by false read same = cc
 
 -- the places of updates rise
 pub places-rise : (run : Run) (number : ℕ) (after : Option ℕ) (updates : List StopUpdate) (at : List ℕ)
     → places_from run number after updates ≡ Ok at
-    → are_rising_from (place_behind after) (zip at updates) ≡ true
+    → are_rising_from (place_after after) (zip at updates) ≡ true
 places-rise run number after [] at e = let none : [] ≡ at = cc in rw (← none) refl
 places-rise run number after (update ∷ updates) at e =
     first (λ place others is. places-rise run (number + 1) (Some place) updates others is)
@@ -281,10 +283,10 @@ places-rise run number after (update ∷ updates) at e =
     rest : (place : ℕ)
         → ((others : List ℕ) → places_from run (number + 1) (Some place) updates ≡ Ok others
         → are_rising_from (place + 1) (zip others updates) ≡ true)
-        → nat_le (place_behind after) place ≡ true → (said : Result (List ℕ) Fault)
+        → nat_le (place_after after) place ≡ true → (said : Result (List ℕ) Fault)
         → places_from run (number + 1) (Some place) updates ≡ said
         → (said >>= λ others. Ok (place ∷ others)) ≡ Ok at
-        → are_rising_from (place_behind after) (zip at (update ∷ updates)) ≡ true
+        → are_rising_from (place_after after) (zip at (update ∷ updates)) ≡ true
     rest place rise low (Ok others) is same =
         let all : place ∷ others ≡ at = cc in
         rw (← all, low) (rise others is)
@@ -295,8 +297,8 @@ places-rise run number after (update ∷ updates) at e =
         → (said : Result ℕ Fault) → place_of run number after update ≡ said
         → (said >>= λ place. places_from run (number + 1) (Some place) updates >>= λ others. Ok (place ∷ others))
         ≡ Ok at
-        → are_rising_from (place_behind after) (zip at (update ∷ updates)) ≡ true
+        → are_rising_from (place_after after) (zip at (update ∷ updates)) ≡ true
     first rise (Ok place) is same =
-        rest place (rise place) (place-fits run number after update place is).behind
+        rest place (rise place) (place-fits run number after update place is).later
         (places_from run (number + 1) (Some place) updates) refl same
     first rise (Err fault) is same = cc

@@ -18,7 +18,7 @@ use Rattle.journey_model.specs.Updates.{is_no_data, is_skipped, times}
 use Rattle.journey_model.specs.declared.readings.StopReading.{StopReading}
 use Rattle.journey_model.specs.declared.readings.StopReading.TheVariants as reading
 use Rattle.propagation.specs.Saying.{placed_at, says_at, says_times}
-use Rattle.propagation.specs.Spreading.{are_rising_from, delay_behind, first_at, later, reading_at}
+use Rattle.propagation.specs.Spreading.{are_rising_from, delay_after, first_at, later, reading_at}
 use Rattle.propagation.specs.declared.placing.Placed.{Placed}
 use Rattle.propagation.specs.declared.placing.Says.{Says}
 use Rattle.propagation.specs.declared.placing.Says.TheVariants.{NoData}
@@ -105,23 +105,23 @@ rest-rising : (place at : ℕ) (others : List (ℕ × StopUpdate)) → nat_le (p
     → are_rising_from (at + 1) others ≡ true → are_rising_from (place + 1) others ≡ true
 rest-rising place at others le e = rising-lower (at + 1) (place + 1) others (grind (arith, nat_tests)) e
 
-skips-behind : (place : ℕ) (behind : List (ℕ × StopUpdate)) → are_rising_from (place + 1) behind ≡ true
-    → skips_at place behind ≡ false
-skips-behind place [] e = refl
-skips-behind place (one ∷ others) e =
+skips-after : (place : ℕ) (after : List (ℕ × StopUpdate)) → are_rising_from (place + 1) after ≡ true
+    → skips_at place after ≡ false
+skips-after place [] e = refl
+skips-after place (one ∷ others) e =
     let at = and-left (nat_le (place + 1) one.0) (are_rising_from (one.0 + 1) others) e in
     let more = and-right (nat_le (place + 1) one.0) (are_rising_from (one.0 + 1) others) e in
     or_both _ _ (other_place one.0 place (is_skipped one.1) at)
-    (skips-behind place others (rest-rising place one.0 others at more))
+    (skips-after place others (rest-rising place one.0 others at more))
 
-supplier-behind : (place : ℕ) (behind : List (ℕ × StopUpdate)) → are_rising_from (place + 1) behind ≡ true
-    → last_supplier place behind ≡ None
-supplier-behind place [] e = refl
-supplier-behind place (one ∷ others) e =
+supplier-after : (place : ℕ) (after : List (ℕ × StopUpdate)) → are_rising_from (place + 1) after ≡ true
+    → last_supplier place after ≡ None
+supplier-after place [] e = refl
+supplier-after place (one ∷ others) e =
     let at = and-left (nat_le (place + 1) one.0) (are_rising_from (one.0 + 1) others) e in
     let more = and-right (nat_le (place + 1) one.0) (are_rising_from (one.0 + 1) others) e in
     let not_here : nat_le one.0 place ≡ false = grind (arith, nat_tests) in
-    rw (supplier-behind place others (rest-rising place one.0 others at more), not_here) refl
+    rw (supplier-after place others (rest-rising place one.0 others at more), not_here) refl
 
 option_or-assoc : {A : Type 0} (a b c : Option A) → option_or (option_or a b) c ≡ option_or a (option_or b c)
 option_or-assoc None b c = refl
@@ -182,12 +182,12 @@ supplied-later run place (one ∷ others) e =
 pub record Reached (run : Run) (updates : List (ℕ × StopUpdate)) (place : ℕ) (delay : Option ℤ)
     (rest : List Placed) : Type 0 where
   pub before : List (ℕ × StopUpdate)
-  pub behind : List (ℕ × StopUpdate)
-  pub split : updates ≡ before ++ behind
+  pub after : List (ℕ × StopUpdate)
+  pub split : updates ≡ before ++ after
   pub rise : Rise 0 updates
   pub earlier : all_before place before ≡ true
-  pub rising : are_rising_from place behind ≡ true
-  pub left : rest ≡ map (placed_at run) behind
+  pub rising : are_rising_from place after ≡ true
+  pub left : rest ≡ map (placed_at run) after
   pub carries : delay ≡ delay_of run (last_supply before)
 
 pub reached_none : (run : Run) (updates : List (ℕ × StopUpdate)) (rest : List Placed)
@@ -196,7 +196,7 @@ pub reached_none : (run : Run) (updates : List (ℕ × StopUpdate)) (rest : List
 reached_none run updates rest rising same =
     record {
       before = [];
-      behind = updates;
+      after = updates;
       split = refl;
       rise = rises 0 updates rising;
       earlier = refl;
@@ -221,17 +221,17 @@ before-push place (first ∷ before) one e h =
     (before-push place before one e (and-right (nat_lt first.0 (place + 1)) (all_before (place + 1) before) h))
 
 -- a stop that no update is of
-prop-behind : (run : Run) (place : ℕ) (before behind : List (ℕ × StopUpdate)) → Rise 0 (before ++ behind)
+prop-after : (run : Run) (place : ℕ) (before after : List (ℕ × StopUpdate)) → Rise 0 (before ++ after)
     → all_before place before ≡ true
-    → are_rising_from (place + 1) behind ≡ true
-    → prop run (before ++ behind) place ≡ later (planned_at run place) (delay_of run (last_supply before))
-prop-behind run place before behind rise earlier rising =
-    let none : skips_at place (before ++ behind) ≡ false =
-    list_any-append (λ one. (one.0 == place) && is_skipped one.1) before behind
-    ∙ or_both _ _ (skips-before place before earlier) (skips-behind place behind rising) in
-    let same : supplier place (before ++ behind) ≡ last_supply before =
-    supplier-last place 0 (before ++ behind) rise ∙ supplier-append place before behind
-    ∙ (rw (supplier-behind place behind rising) (supplier-before place before earlier)) in
+    → are_rising_from (place + 1) after ≡ true
+    → prop run (before ++ after) place ≡ later (planned_at run place) (delay_of run (last_supply before))
+prop-after run place before after rise earlier rising =
+    let none : skips_at place (before ++ after) ≡ false =
+    list_any-append (λ one. (one.0 == place) && is_skipped one.1) before after
+    ∙ or_both _ _ (skips-before place before earlier) (skips-after place after rising) in
+    let same : supplier place (before ++ after) ≡ last_supply before =
+    supplier-last place 0 (before ++ after) rise ∙ supplier-append place before after
+    ∙ (rw (supplier-after place after rising) (supplier-before place before earlier)) in
     rw (none, same) (supplied-later run place before earlier)
 
 -- a stop that an update is of
@@ -255,13 +255,13 @@ says-reading run place update delay false e last =
     no_data false None = rw here refl
     no_data false (Some both) = rw here refl
 
-carried-behind : (run : Run) (place : ℕ) (update : StopUpdate) (before : List (ℕ × StopUpdate))
-    → delay_behind (delay_of run (last_supply before)) (Some (says_at (planned_at run place) update))
+carried-after : (run : Run) (place : ℕ) (update : StopUpdate) (before : List (ℕ × StopUpdate))
+    → delay_after (delay_of run (last_supply before)) (Some (says_at (planned_at run place) update))
     ≡ delay_of run (last_supply (before ++ (place, update) ∷ []))
-carried-behind run place update before = rw (last_supply-push before (place, update)) (skips (is_skipped update) refl)
+carried-after run place update before = rw (last_supply-push before (place, update)) (skips (is_skipped update) refl)
   where
     no_data : (b : Bool) → is_no_data update ≡ b → (both : Option (ℤ × ℤ)) → times (planned_at run place) update ≡ both
-        → delay_behind (delay_of run (last_supply before))
+        → delay_after (delay_of run (last_supply before))
         (Some (if b then NoData else says_times (planned_at run place) both))
         ≡ delay_of run (Some (place, update))
     no_data true e both is = rw e refl
@@ -269,7 +269,7 @@ carried-behind run place update before = rw (last_supply-push before (place, upd
     no_data false e (Some both) is = rw (e, is) refl
 
     skips : (b : Bool) → is_skipped update ≡ b
-        → delay_behind (delay_of run (last_supply before)) (Some (says_at (planned_at run place) update))
+        → delay_after (delay_of run (last_supply before)) (Some (says_at (planned_at run place) update))
         ≡ delay_of run (option_or (unless_skipped (place, update)) (last_supply before))
     skips true e = rw e refl
     skips false e = rw e (no_data (is_no_data update) refl (times (planned_at run place) update) refl)
@@ -278,7 +278,7 @@ carried-behind run place update before = rw (last_supply-push before (place, upd
 pub record Step (run : Run) (updates : List (ℕ × StopUpdate)) (place : ℕ) (delay : Option ℤ)
     (rest : List Placed) : Type 0 where
   pub reads : prop run updates place ≡ reading_at (planned_at run place) delay (first_at rest place)
-  pub reached : Reached run updates (place + 1) (delay_behind delay (first_at rest place))
+  pub reached : Reached run updates (place + 1) (delay_after delay (first_at rest place))
       (if is_some (first_at rest place) then drop 1 rest else rest)
 
 step-here : (run : Run) (place : ℕ) (update : StopUpdate) (before others : List (ℕ × StopUpdate))
@@ -291,12 +291,12 @@ step-here run place update before others rise earlier rising =
     let at : nat_le place place ≡ true = grind (arith, nat_tests) in
     let skips : skips_at place (before ++ (place, update) ∷ others) ≡ is_skipped update =
     list_any-append (λ one. (one.0 == place) && is_skipped one.1) before ((place, update) ∷ others)
-    ∙ (rw (skips-before place before earlier, here, skips-behind place others rising) (or_false (is_skipped update))) in
+    ∙ (rw (skips-before place before earlier, here, skips-after place others rising) (or_false (is_skipped update))) in
     let supply : supplier place (before ++ (place, update) ∷ others)
     ≡ option_or (unless_skipped (place, update)) (last_supply before) =
     supplier-last place 0 (before ++ (place, update) ∷ others) rise
     ∙ supplier-append place before ((place, update) ∷ others)
-    ∙ (rw (supplier-behind place others rising, at, supplier-before place before earlier)
+    ∙ (rw (supplier-after place others rising, at, supplier-before place before earlier)
     (ap (λ (last : Option (ℕ × StopUpdate)). option_or last (last_supply before))
     (unless-not (place, update) (is_skipped update)))) in
     record {
@@ -305,13 +305,13 @@ step-here run place update before others rise earlier rising =
           (last_supply before));
       reached = rw here (record {
         before = before ++ (place, update) ∷ [];
-        behind = others;
+        after = others;
         split = sym (append_assoc before ((place, update) ∷ []) others);
         rise = rise;
         earlier = before-push place before (place, update) refl (before-more place before earlier);
         rising = rising;
         left = refl;
-        carries = carried-behind run place update before;
+        carries = carried-after run place update before;
       });
     }
   where
@@ -319,15 +319,15 @@ step-here run place update before others rise earlier rising =
     or_false true = refl
     or_false false = refl
 
-step-past : (run : Run) (place : ℕ) (before behind : List (ℕ × StopUpdate)) → Rise 0 (before ++ behind)
+step-past : (run : Run) (place : ℕ) (before after : List (ℕ × StopUpdate)) → Rise 0 (before ++ after)
     → all_before place before ≡ true
-    → are_rising_from (place + 1) behind ≡ true → first_at (map (placed_at run) behind) place ≡ None
-    → Step run (before ++ behind) place (delay_of run (last_supply before)) (map (placed_at run) behind)
-step-past run place before behind rise earlier rising none = record {
-  reads = rw none (prop-behind run place before behind rise earlier rising);
+    → are_rising_from (place + 1) after ≡ true → first_at (map (placed_at run) after) place ≡ None
+    → Step run (before ++ after) place (delay_of run (last_supply before)) (map (placed_at run) after)
+step-past run place before after rise earlier rising none = record {
+  reads = rw none (prop-after run place before after rise earlier rising);
   reached = rw none (record {
     before = before;
-    behind = behind;
+    after = after;
     split = refl;
     rise = rise;
     earlier = before-more place before earlier;
@@ -337,10 +337,10 @@ step-past run place before behind rise earlier rising none = record {
   });
 }
 
-step : (run : Run) (place : ℕ) (before behind : List (ℕ × StopUpdate)) → Rise 0 (before ++ behind)
+step : (run : Run) (place : ℕ) (before after : List (ℕ × StopUpdate)) → Rise 0 (before ++ after)
     → all_before place before ≡ true
-    → are_rising_from place behind ≡ true
-    → Step run (before ++ behind) place (delay_of run (last_supply before)) (map (placed_at run) behind)
+    → are_rising_from place after ≡ true
+    → Step run (before ++ after) place (delay_of run (last_supply before)) (map (placed_at run) after)
 step run place before [] rise earlier rising = step-past run place before [] rise earlier refl refl
 step run place before ((at, update) ∷ others) rise earlier rising = by (at == place) refl
   where
@@ -363,7 +363,7 @@ pub step-reached : (run : Run) (updates : List (ℕ × StopUpdate)) (place : ℕ
     → Reached run updates place delay rest
     → Step run updates place delay rest
 step-reached run updates place delay rest h =
-    rw (h.split, h.left, h.carries) (step run place h.before h.behind (rw h.split at h.rise) h.earlier h.rising)
+    rw (h.split, h.left, h.carries) (step run place h.before h.after (rw h.split at h.rise) h.earlier h.rising)
 
 -- the stops before a place read like this, and what is carried to it
 pub record SpreadTo (run : Run) (updates : List (ℕ × StopUpdate)) (place : ℕ) (delay : Option ℤ) (rest : List Placed)
@@ -389,7 +389,7 @@ pub spread_more : (run : Run) (updates : List (ℕ × StopUpdate)) (place : ℕ)
     (rest rest' : List Placed) (all all' : List StopReading)
     (said : Option Says) (planned : ℤ × ℤ) (read : StopReading) → SpreadTo run updates place delay rest all
     → said ≡ first_at rest place → planned ≡ planned_at run place
-    → read ≡ reading_at planned delay said → all' ≡ all ++ read ∷ [] → delay' ≡ delay_behind delay said
+    → read ≡ reading_at planned delay said → all' ≡ all ++ read ∷ [] → delay' ≡ delay_after delay said
     → rest' ≡ (if is_some said then drop 1 rest else rest)
     → SpreadTo run updates (place + 1) delay' rest' all'
 spread_more run updates place delay delay' rest rest' all all' said planned read h is_said is_planned is_read pushed

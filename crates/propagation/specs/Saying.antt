@@ -3,10 +3,8 @@ use Rattle.std.specs.Prelude.{◌||◌, ℕ, ℤ, ◌-ℤ◌, Bool, List, map, O
 use Rattle.std.specs.List.{zip}
 use Rattle.gw_base.specs.declared.messages.StopUpdate.{StopUpdate}
 use Rattle.journey_model.specs.Runs.{Run, planned_at}
-use Rattle.journey_model.specs.Times.{delay_fault}
-use Rattle.journey_model.specs.Updates.{arrival_time, departure_time, is_no_data, is_scheduled, is_skipped, times}
+use Rattle.journey_model.specs.Updates.{is_no_data, is_scheduled, is_skipped, times}
 use Rattle.journey_model.specs.declared.fault.Fault.{Fault}
-use Rattle.journey_model.specs.declared.fault.Fault.TheVariants.{NoTime}
 use Rattle.propagation.specs.declared.placing.Placed.{Placed}
 use Rattle.propagation.specs.declared.placing.Says.{Says}
 use Rattle.propagation.specs.declared.placing.Says.TheVariants.{Skipped, NoData, Timed}
@@ -19,25 +17,6 @@ is_read update = is_scheduled update || (is_skipped update || is_no_data update)
 abbrev pub timed_by : ℤ × ℤ → ℤ × ℤ → Says
 timed_by planned both = Timed both.0 both.1 (both.1 -ℤ planned.1)
 
--- what both times say, unless there is a fault
-abbrev pub said_times : ℕ → ℤ × ℤ → Option Fault → Option (ℤ × ℤ) → Result Says Fault
-said_times number planned fault None = Err (NoTime number)
-said_times number planned None (Some both) = Ok (timed_by planned both)
-said_times number planned (Some fault) (Some both) = Err fault
-
--- what the update of that number says by its events at a place with these planned times, or its fault there
-abbrev pub said_by_events : ℕ → ℤ × ℤ → StopUpdate → Result Says Fault
-said_by_events number planned update =
-    said_times number planned
-    (delay_fault number planned (arrival_time planned update) (departure_time planned update))
-    (times planned update)
-
--- what it says there, or its fault
-abbrev pub said_at : ℕ → ℤ × ℤ → StopUpdate → Result Says Fault
-said_at number planned update =
-    if is_skipped update then Ok Skipped else
-    (if is_no_data update then Ok NoData else said_by_events number planned update)
-
 -- what times say, if there are any
 abbrev pub says_times : ℤ × ℤ → Option (ℤ × ℤ) → Says
 says_times planned None = NoData
@@ -48,6 +27,11 @@ abbrev pub says_at : ℤ × ℤ → StopUpdate → Says
 says_at planned update =
     if is_skipped update then Skipped
     else (if is_no_data update then NoData else says_times planned (times planned update))
+
+-- what is said, unless there is a fault
+abbrev pub said_unless : Option Fault → Says → Result Says Fault
+said_unless None says = Ok says
+said_unless (Some fault) says = Err fault
 
 -- an update at a place
 abbrev pub placed_at : Run → ℕ × StopUpdate → Placed

@@ -19,11 +19,11 @@ first_at [] place = None
 first_at (first ∷ others) place = if first.place == place then Some first.says else None
 
 -- the delay that is carried on from a stop of which this is said: SKIPPED leaves it, and NO_DATA ends it
-abbrev pub delay_behind : Option ℤ → Option Says → Option ℤ
-delay_behind delay None = delay
-delay_behind delay (Some Skipped) = delay
-delay_behind delay (Some NoData) = None
-delay_behind delay (Some (Timed arrival departure later)) = Some later
+abbrev pub delay_after : Option ℤ → Option Says → Option ℤ
+delay_after delay None = delay
+delay_after delay (Some Skipped) = delay
+delay_after delay (Some NoData) = None
+delay_after delay (Some (Timed arrival departure later)) = Some later
 
 -- both planned times, later by a delay that is carried on
 abbrev pub later : ℤ × ℤ → Option ℤ → StopReading

@@ -3,7 +3,7 @@
 ghost use Rattle.std.specs.Prelude.{◌≡◌, ◌-ℤ◌, true};
 ghost use Rattle.journey_model.specs.Times.{ArePlanned, IsPlanned, both_times, delay_fault, is_delay};
 ghost use Rattle.journey_model.specs.Updates as spec;
-ghost use Rattle.propagation.specs.Saying.{said_times, timed_by};
+ghost use Rattle.propagation.specs.Saying.{said_unless, says_times, timed_by};
 
 use crate::placing::Says;
 use gw_base::Event;
@@ -38,7 +38,7 @@ fn timed_by(planned: &(i64, i64), both: &(i64, i64)) -> Says
 }
 
 /// What the events of the update of that number say: both times and the delay of the departure, or their fault.
-pub(crate) fn said_times(
+pub(crate) fn says_times(
     number: u64,
     planned: (i64, i64),
     arrival: Option<i64>,
@@ -46,7 +46,8 @@ pub(crate) fn said_times(
 ) -> Result<Says, Fault>
     requires { ArePlanned planned }
     ensures { let late = delay_fault number planned arrival departure in
-        result ≡ said_times number planned late (both_times planned arrival departure) }
+        let both = both_times planned arrival departure in
+        result ≡ said_unless (spec.events_fault number late both) (says_times planned both) }
 {
     if let Some(fault) = delay_fault(number, planned, arrival, departure) {
         return Err(fault);

@@ -7,9 +7,9 @@ ghost use Rattle.journey_model.specs.Dated.{run_of};
 ghost use Rattle.journey_model.specs.Times.{ArePlanned};
 ghost use Rattle.journey_model.specs.Updates as spec;
 ghost use Rattle.propagation.specs.Answers.{Propagates};
-ghost use Rattle.propagation.specs.Saying.{is_read, placed_all, placed_by, said_at, said_by_events};
+ghost use Rattle.propagation.specs.Saying.{is_read, placed_all, placed_by, said_unless, says_at};
 
-use crate::events::{event_time, said_times};
+use crate::events::{event_time, says_times};
 use crate::room::with_room;
 use crate::update_fault::UpdateFault;
 use gw_base::stop_relation::{NO_DATA, SCHEDULED, SKIPPED};
@@ -57,7 +57,7 @@ pub(crate) fn filled_text(text: &Option<Text>) -> Option<&str>
 
 // The stop of a trip after the place before, if it has one.
 #[tactic(auto, using(crate::proofs::KnownLemmas::known_at))]
-fn stop_behind(table: &Timetable, trip: TripNo, after: Option<u32>) -> Option<StopNo>
+fn stop_after(table: &Timetable, trip: TripNo, after: Option<u32>) -> Option<StopNo>
     ensures { IfSome result (λ stop. stop.0 < length table.now.stops) }
 {
     if trip.0 >= table.trips() {
@@ -124,19 +124,21 @@ fn is_read(update: &StopUpdate) -> bool
 }
 
 // What the update of that number says by its events at its place with these planned times, or its fault there.
-fn said_by_events(number: u64, planned: (i64, i64), update: &StopUpdate) -> Result<Says, Fault>
-    requires { ArePlanned planned }
-    ensures { result ≡ said_by_events number planned update.now }
+fn says_by_events(number: u64, planned: (i64, i64), update: &StopUpdate) -> Result<Says, Fault>
+    requires planned { ArePlanned planned }
+    requires scheduled { spec.is_scheduled update.now ≡ true }
+    ensures { result ≡ said_unless (spec.times_fault number planned update.now) (says_at planned update.now) }
 {
     let arrival = event_time(&planned.0, &update.arrival);
     let departure = event_time(&planned.1, &update.departure);
-    said_times(number, planned, arrival, departure)
+    says_times(number, planned, arrival, departure)
 }
 
 // What the update of that number says at its place with these planned times, or its fault there.
-fn said_at(number: u64, planned: (i64, i64), update: &StopUpdate) -> Result<Says, Fault>
-    requires { ArePlanned planned }
-    ensures { result ≡ said_at number planned update.now }
+fn says_at(number: u64, planned: (i64, i64), update: &StopUpdate) -> Result<Says, Fault>
+    requires planned { ArePlanned planned }
+    requires read { is_read update.now ≡ true }
+    ensures { result ≡ said_unless (spec.times_fault number planned update.now) (says_at planned update.now) }
 {
     if update.relation == SKIPPED {
         return Ok(Says::Skipped);
@@ -144,7 +146,7 @@ fn said_at(number: u64, planned: (i64, i64), update: &StopUpdate) -> Result<Says
     if update.relation == NO_DATA {
         return Ok(Says::NoData);
     }
-    said_by_events(number, planned, update)
+    says_by_events(number, planned, update)
 }
 
 // The update of that number at a place, or its fault there.
@@ -159,7 +161,7 @@ fn placed_at(
     ensures { (ids : Values (Values ℕ)) → let run = run_of ids dated.now in
         result ≡ placed_by run update.now (spec.place_timed run number update.now (Ok place)) }
 {
-    match said_at(number, dated.planned_at(place), update) {
+    match says_at(number, dated.planned_at(place), update) {
         Ok(says) => Ok(Placed { place, says }),
         Err(fault) => Err(fault),
     }
@@ -179,7 +181,7 @@ fn place(
     if !is_read(update) {
         return Err(Fault::OtherRelation(update.relation));
     }
-    let named = named_stop(table, stop_behind(table, dated.trip, after), update);
+    let named = named_stop(table, stop_after(table, dated.trip, after), update);
     match match_update(dated, after, update.sequence, named) {
         Ok(at) => placed_at(number, dated, at, update),
         Err(fault) => Err(match_fault(number, fault)),

@@ -7,7 +7,7 @@ ghost use Rattle.journey_model.specs.Dated.{run_of};
 ghost use Rattle.journey_model.specs.Propagation.{prop};
 ghost use Rattle.journey_model.specs.Times.{ArePlanned};
 ghost use Rattle.propagation.specs.Saying.{placed_at};
-ghost use Rattle.propagation.specs.Spreading.{are_rising_from, delay_behind, first_at, later, reading_at};
+ghost use Rattle.propagation.specs.Spreading.{are_rising_from, delay_after, first_at, later, reading_at};
 
 use crate::placing::{Placed, Says};
 use crate::room::with_room;
@@ -26,8 +26,8 @@ fn first_at(placed: &[Placed], place: usize) -> Option<Says>
 }
 
 // The delay that is carried on from a stop of which this is said; None where nothing is known.
-fn delay_behind(delay: Option<i32>, said: Option<Says>) -> Option<i32>
-    ensures { result ≡ delay_behind delay said }
+fn delay_after(delay: Option<i32>, said: Option<Says>) -> Option<i32>
+    ensures { result ≡ delay_after delay said }
 {
     match said {
         None => delay,
@@ -88,16 +88,16 @@ pub(crate) fn readings(
     for (place, row) in dated.stops.iter().enumerate() {
         let said = first_at(rest, place);
         all.push(reading_at(dated.planned_times(row), delay, said))?;
-        delay = delay_behind(delay, said);
+        delay = delay_after(delay, said);
         if said.is_some() {
-            rest = behind_first(rest);
+            rest = after_first(rest);
         }
     }
     Ok(all)
 }
 
 // The updates after the first.
-fn behind_first(placed: &[Placed]) -> &[Placed]
+fn after_first(placed: &[Placed]) -> &[Placed]
     ensures { result.now ≡ drop 1 placed.now }
 {
     match placed {

@@ -11,7 +11,7 @@ use Rattle.std.proofs.lemmas.Bool.{and_from, and_parts}
 use Rattle.serde_json.specs.Data.{Data, Members, no_members, member}
 use Rattle.serde_json.specs.Find.{get, get_member}
 use Rattle.siri_calls.specs.DeliveryTree.{members, object_of}
-use Rattle.siri_calls.proofs.SaidAgainTrees.{HasPlain, IsPlain, is_behind, joined}
+use Rattle.siri_calls.proofs.SaidAgainTrees.{HasPlain, IsPlain, is_after, joined}
 
 -- a member that may be missing, and members of which each may be
 abbrev pub block : List ℕ → Option Data → List (List ℕ × Data)
@@ -62,8 +62,8 @@ abbrev pub rising : List (List ℕ × Option Data) → Bool
 rising [] = true
 rising (one ∷ others) = list_all (λ later. is_past later.0 one.0) others && rising others
 
-abbrev are_behind : List (List ℕ × Option Data) → Members → Bool
-are_behind parts front = list_all (λ one. is_behind one.0 front) parts
+abbrev are_after : List (List ℕ × Option Data) → Members → Bool
+are_after parts front = list_all (λ one. is_after one.0 front) parts
 
 -- each name is a text, and each tree plain
 abbrev pub IsPlainPart : ℕ → Option Data → Type 0
@@ -74,39 +74,39 @@ abbrev pub ArePlainParts : ℕ → List (List ℕ × Option Data) → Type 0
 ArePlainParts room [] = ⊤
 ArePlainParts room (one ∷ others) = IsUtf8 one.0 × IsPlainPart room one.1 × ArePlainParts room others
 
-behind-joined : (name other : List ℕ) (tree : Data) (front : Members) → is_behind name front ≡ true → is_past name other ≡ true
-    → is_behind name (joined front (member other tree no_members)) ≡ true
-behind-joined name other tree no_members h past = and_from _ true past refl
-behind-joined name other tree (member first d ms) h past =
-    let parts = and_parts (is_past name first) (is_behind name ms) h in
-    and_from (is_past name first) _ parts.0 (behind-joined name other tree ms parts.1 past)
+after-joined : (name other : List ℕ) (tree : Data) (front : Members) → is_after name front ≡ true → is_past name other ≡ true
+    → is_after name (joined front (member other tree no_members)) ≡ true
+after-joined name other tree no_members h past = and_from _ true past refl
+after-joined name other tree (member first d ms) h past =
+    let parts = and_parts (is_past name first) (is_after name ms) h in
+    and_from (is_past name first) _ parts.0 (after-joined name other tree ms parts.1 past)
 
-all-behind-joined : (parts : List (List ℕ × Option Data)) (other : List ℕ) (tree : Data) (front : Members) → are_behind parts front ≡ true
-    → list_all (λ later. is_past later.0 other) parts ≡ true → are_behind parts (joined front (member other tree no_members)) ≡ true
-all-behind-joined [] other tree front h past = refl
-all-behind-joined (one ∷ others) other tree front h past =
-    let here = and_parts (is_behind one.0 front) _ h in
+all-after-joined : (parts : List (List ℕ × Option Data)) (other : List ℕ) (tree : Data) (front : Members) → are_after parts front ≡ true
+    → list_all (λ later. is_past later.0 other) parts ≡ true → are_after parts (joined front (member other tree no_members)) ≡ true
+all-after-joined [] other tree front h past = refl
+all-after-joined (one ∷ others) other tree front h past =
+    let here = and_parts (is_after one.0 front) _ h in
     let there = and_parts (is_past one.0 other) _ past in
-    and_from (is_behind one.0 (joined front (member other tree no_members))) _ (behind-joined one.0 other tree front here.0 there.0)
-    (all-behind-joined others other tree front here.1 there.1)
+    and_from (is_after one.0 (joined front (member other tree no_members))) _ (after-joined one.0 other tree front here.0 there.0)
+    (all-after-joined others other tree front here.1 there.1)
 
-has-plain : (room : ℕ) (front : Members) (parts : List (List ℕ × Option Data)) → are_behind parts front ≡ true → rising parts ≡ true
+has-plain : (room : ℕ) (front : Members) (parts : List (List ℕ × Option Data)) → are_after parts front ≡ true → rising parts ≡ true
     → ArePlainParts room parts → HasPlain room front (members (blocks parts))
 has-plain room front [] h rise plain = tt
 has-plain room front (one ∷ others) h rise plain =
-    let here = and_parts (is_behind one.0 front) (are_behind others front) h in
+    let here = and_parts (is_after one.0 front) (are_after others front) h in
     let rest = and_parts (list_all (λ later. is_past later.0 one.0) others) (rising others) rise in
     by one.1 plain.1 here.0 here.1 rest.0 (λ before later. has-plain room before others later rest.1 plain.2)
   where
-    by : (tree : Option Data) → IsPlainPart room tree → is_behind one.0 front ≡ true → are_behind others front ≡ true
+    by : (tree : Option Data) → IsPlainPart room tree → is_after one.0 front ≡ true → are_after others front ≡ true
         → list_all (λ later. is_past later.0 one.0) others ≡ true
-        → ((before : Members) → are_behind others before ≡ true → HasPlain room before (members (blocks others)))
+        → ((before : Members) → are_after others before ≡ true → HasPlain room before (members (blocks others)))
         → HasPlain room front (members (block one.0 tree ++ blocks others))
     by None part first later past next = next front later
     by (Some tree) part first later past next =
-        (first, plain.0, part, next (joined front (member one.0 tree no_members)) (all-behind-joined others one.0 tree front later past))
+        (first, plain.0, part, next (joined front (member one.0 tree no_members)) (all-after-joined others one.0 tree front later past))
 
-none-before : (parts : List (List ℕ × Option Data)) → are_behind parts no_members ≡ true
+none-before : (parts : List (List ℕ × Option Data)) → are_after parts no_members ≡ true
 none-before [] = refl
 none-before (one ∷ others) = none-before others
 

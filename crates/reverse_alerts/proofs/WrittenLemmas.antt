@@ -214,8 +214,8 @@ situation_pieces : (affects word created description reason number summary perio
 situation_pieces affects word created description reason number summary periods end = simp append_assoc
 
 -- the members of a situation after what it affects
-abbrev behind : ℤ → Situation → Named
-behind moment one =
+abbrev after : ℤ → Situation → Named
+after moment one =
     consequences_of (condition_of one.effect)
     ++ (codes "CreationTime", moment_tree moment) ∷ text_member (codes "Description") one.description
     ++ reason_member (reason_of one.cause)
@@ -225,13 +225,13 @@ behind moment one =
 same_five : (a b c d e a' b' c' d' e' : List ℕ) → a ≡ a' → b ≡ b' → c ≡ c' → d ≡ d' → e ≡ e' → a ++ b ++ c ++ d ++ e ≡ a' ++ b' ++ c' ++ d' ++ e'
 same_five a b c d e a' b' c' d' e' p q r s t = rw (p, q, r, s, t) refl
 
-behind_text : (moment : ℤ) (one : Situation) → front true (behind moment one)
+after_text : (moment : ℤ) (one : Situation) → front true (after moment one)
     ≡ condition_text (condition_of one.effect)
     ++ (led (codes ",\"CreationTime\":") (moment_text moment) ++ led_if (codes ",\"Description\":") one.description)
     ++ reason_text (reason_of one.cause)
     ++ (led (codes ",\"SituationNumber\":") one.number ++ led_if (codes ",\"Summary\":") one.summary)
     ++ valid_text one.periods
-behind_text moment one =
+after_text moment one =
     let a = consequences_of (condition_of one.effect) in
     let b = (codes "CreationTime", moment_tree moment) ∷ text_member (codes "Description") one.description in
     let c = reason_member (reason_of one.cause) in
@@ -256,10 +256,10 @@ situation table moment one =
     let ms = lines_member (ref_trees table a) ++ stops_member (ref_trees table b) ++ journeys_member (ref_trees table c) in
     let affects = codes "{\"Affects\":{" ++ kinds_text table a b c ++ codes "}" in
     let all : compact_text (situation_tree table moment one)
-    ≡ (123 ∷ ((comma_if false ++ (quoted (codes "Affects") ++ 58 ∷ compact_text (object_of ms))) ++ front true (behind moment one))) ++ codes "}" =
-    ap (λ l. 123 ∷ l) (all_members false ((codes "Affects", object_of ms) ∷ behind moment one)) in
+    ≡ (123 ∷ ((comma_if false ++ (quoted (codes "Affects") ++ 58 ∷ compact_text (object_of ms))) ++ front true (after moment one))) ++ codes "}" =
+    ap (λ l. 123 ∷ l) (all_members false ((codes "Affects", object_of ms) ∷ after moment one)) in
     all
-    ∙ ap (λ l. l ++ codes "}") (affects_by ms (kinds_text table a b c) (front true (behind moment one)) (kinds table a b c) ∙ ap (λ l. affects ++ l) (behind_text moment one))
+    ∙ ap (λ l. l ++ codes "}") (affects_by ms (kinds_text table a b c) (front true (after moment one)) (kinds table a b c) ∙ ap (λ l. affects ++ l) (after_text moment one))
     ∙ append_assoc affects _ (codes "}")
     ∙ situation_pieces affects (condition_text (condition_of one.effect)) (led (codes ",\"CreationTime\":") (moment_text moment))
     (led_if (codes ",\"Description\":") one.description) (reason_text (reason_of one.cause)) (led (codes ",\"SituationNumber\":") one.number)

@@ -60,7 +60,7 @@ fn affects_fault(named: usize) -> Option<Fault>
 }
 
 // The first fault of an alert whose entity has an id.
-fn fault_behind(alert: &Alert, named: usize) -> Option<Fault>
+fn fault_after(alert: &Alert, named: usize) -> Option<Fault>
     ensures { result ≡ option_or (spec.periods_fault alert.now.periods) (progress.none_named named) }
 {
     match periods_fault(alert.periods.as_slice()) {
@@ -75,6 +75,6 @@ pub(crate) fn fault_of(id: &str, alert: &Alert, named: usize) -> Option<Fault>
 {
     match number_fault(id) {
         Some(fault) => Some(fault),
-        None => fault_behind(alert, named),
+        None => fault_after(alert, named),
     }
 }

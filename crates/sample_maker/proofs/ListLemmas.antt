@@ -82,9 +82,9 @@ pub text_more : (text : ℕ → List ℕ) (n : ℕ) (start before comma after : 
     → before ≡ start ++ listed (all_below (λ i. text i ∷ []) n) → comma ≡ before ++ comma_if (nat_lt 0 n)
     → after ≡ comma ++ text n → after ≡ start ++ listed (all_below (λ i. text i ∷ []) (n + 1))
 unfolding following
-text_more text n start before comma after so_far behind added =
+text_more text n start before comma after so_far left added =
     texts_more (λ i. text i ∷ []) n (nat_lt 0 n) start before after so_far (sym (some_above text n))
-    (two_pieces before (comma_if (nat_lt 0 n)) (text n) comma after behind added)
+    (two_pieces before (comma_if (nat_lt 0 n)) (text n) comma after left added)
 
 pub ruleset pieces = (all_below-0, all_below-next, append_assoc, append-nil)
 

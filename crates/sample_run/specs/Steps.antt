@@ -65,9 +65,9 @@ abbrev pub head_said : ℕ → List DatedReading → Option JourneyReading
 head_said trip [] = None
 head_said trip (one ∷ others) = if one.trip.0 == trip then Some one.reading else None
 
-abbrev pub behind : ℕ → List DatedReading → List DatedReading
-behind trip [] = []
-behind trip (one ∷ others) = if one.trip.0 == trip then others else one ∷ others
+abbrev pub after : ℕ → List DatedReading → List DatedReading
+after trip [] = []
+after trip (one ∷ others) = if one.trip.0 == trip then others else one ∷ others
 
 -- this is what readings, in the order of their trips, say of trips from a number on
 abbrev pub AreSaid : (ℕ → Option JourneyReading) → ℕ → List DatedReading → Type 0

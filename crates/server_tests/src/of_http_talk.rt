@@ -212,7 +212,7 @@ static INPUTS: [(&[u8], Want); 62] = [
     (b"GET /gtfs-rt\xff HTTP/1.1\n\n", Err(Refusal::Head)),
 ];
 
-/// A long input, a front, a part and how often it stands there, and a back, with what it asks for.
+/// A long input, a prefix, a part and how often it stands there, and a back, with what it asks for.
 type Long = (&'static [u8], &'static [u8], usize, &'static [u8], Want);
 
 static LONG_INPUTS: [Long; 10] = [
@@ -329,9 +329,9 @@ fn in_pieces<'a>(
 {
     let mut rest = input;
     while rest.len() > 0 {
-        let (piece, behind) = rest.split_at(size.min(rest.len()));
+        let (piece, later) = rest.split_at(size.min(rest.len()));
         match reader.feed(piece) {
-            Fed::More => rest = behind,
+            Fed::More => rest = later,
             Fed::Whole { used, head } => {
                 let (_, after) = rest.split_at(used);
                 return with_rest(head, after);

@@ -78,23 +78,23 @@ stops_dated schedule trip day reading ids dated fits on_day = by (start_in sched
 -- the stops of a trip are stops of the timetable
 known_stops : (stops : ℕ) (rows : List StopRow) → are_stops_of stops rows ≡ true → are_known stops rows ≡ true
 known_stops stops rows h =
-    let behind_few = and_parts (nat_le (length rows) 250) (are_rising rows && (are_known stops rows && are_timed rows)) h in
-    let behind_rising = and_parts (are_rising rows) (are_known stops rows && are_timed rows) behind_few.1 in
-    (and_parts (are_known stops rows) (are_timed rows) behind_rising.1).0
+    let after_few = and_parts (nat_le (length rows) 250) (are_rising rows && (are_known stops rows && are_timed rows)) h in
+    let after_rising = and_parts (are_rising rows) (are_known stops rows && are_timed rows) after_few.1 in
+    (and_parts (are_known stops rows) (are_timed rows) after_rising.1).0
 
 of_trip : (routes stops : ℕ) (rows : List StopRow) (one : CarriedTrip) → is_in_range routes stops rows one ≡ true → are_stops_of stops (drop one.first (take one.end rows)) ≡ true
 of_trip routes stops rows one h =
     let its : Bool = are_stops_of stops (drop one.first (take one.end rows)) in
-    let behind_route = and_parts (nat_lt one.route routes) (nat_le one.first one.end && (nat_le one.end (length rows) && its)) h in
-    let behind_first = and_parts (nat_le one.first one.end) (nat_le one.end (length rows) && its) behind_route.1 in
-    (and_parts (nat_le one.end (length rows)) its behind_first.1).1
+    let after_route = and_parts (nat_lt one.route routes) (nat_le one.first one.end && (nat_le one.end (length rows) && its)) h in
+    let after_first = and_parts (nat_le one.first one.end) (nat_le one.end (length rows) && its) after_route.1 in
+    (and_parts (nat_le one.end (length rows)) its after_first.1).1
 
 all_in : (trips routes stops : List (List ℕ)) (carried : List CarriedTrip) (rows : List StopRow) → are_in_range trips routes stops carried rows ≡ true
     → list_all (is_in_range (length routes) (length stops) rows) carried ≡ true
 all_in trips routes stops carried rows h =
     let all : Bool = list_all (is_in_range (length routes) (length stops) rows) carried in
-    let behind_same = and_parts (length carried == length trips) (nat_le (length trips) 200000 && all) h in
-    (and_parts (nat_le (length trips) 200000) all behind_same.1).1
+    let after_same = and_parts (length carried == length trips) (nat_le (length trips) 200000 && all) h in
+    (and_parts (nat_le (length trips) 200000) all after_same.1).1
 
 known_at : (routes stops : ℕ) (carried : List CarriedTrip) (rows : List StopRow) (trip : ℕ) (found : Option CarriedTrip) → list_all (is_in_range routes stops rows) carried ≡ true
     → slice_get carried trip ≡ found → are_known stops (stops_held rows found) ≡ true

@@ -33,7 +33,7 @@ pub none-before : (place from : ℕ) (placed : List (ℕ × (ℕ × Call))) → 
     → find (λ one. one.0 == place) placed ≡ None
 none-before place from [] less rising = refl
 none-before place from (one ∷ others) less rising =
-    let behind : from ≤ one.0 = leb-true from one.0 (first-of (nat_le from one.0) _ rising) in
+    let after : from ≤ one.0 = leb-true from one.0 (first-of (nat_le from one.0) _ rising) in
     rw (other place one.0 (omega arith)) (none-before place (one.0 + 1) others (omega arith) (second-of (nat_le from one.0) _ rising))
 
 -- a call says nothing of the places after its own
@@ -84,9 +84,9 @@ one-none run all front pushed list place stops reading none less push read whole
     rw (push, read) (sym (step-none run list place (stops - (place + 1)) front none) ∙ before)
 
 -- the others rise from the next place on
-pub rise-behind : (place : ℕ) (list others : List (ℕ × (ℕ × Call))) (one : ℕ × (ℕ × Call)) → list ≡ one ∷ others → one.0 ≡ place → rise_from place list ≡ true
+pub rise-after : (place : ℕ) (list others : List (ℕ × (ℕ × Call))) (one : ℕ × (ℕ × Call)) → list ≡ one ∷ others → one.0 ≡ place → rise_from place list ≡ true
     → rise_from (place + 1) others ≡ true
-rise-behind place list others one is here rising =
+rise-after place list others one is here rising =
     let all : rise_from place (one ∷ others) ≡ true = rw is at rising in
     subst (λ p. rise_from (p + 1) others ≡ true) here (second-of (nat_le place one.0) _ all)
 
@@ -94,7 +94,7 @@ rise-behind place list others one is here rising =
 pub none-here : (place : ℕ) (one : ℕ × (ℕ × Call)) (others : List (ℕ × (ℕ × Call))) → rise_from place (one ∷ others) ≡ true → (one.0 == place) ≡ false
     → find (λ other. other.0 == place) (one ∷ others) ≡ None
 none-here place one others rising elsewhere =
-    let behind : place ≤ one.0 = leb-true place one.0 (first-of (nat_le place one.0) _ rising) in
+    let after : place ≤ one.0 = leb-true place one.0 (first-of (nat_le place one.0) _ rising) in
     let above : place < one.0 + 1 = omega arith in
     rw elsewhere (none-before place (one.0 + 1) others above (second-of (nat_le place one.0) _ rising))
 
@@ -107,6 +107,6 @@ rise-on place (one ∷ others) rising none = by (one.0 == place) refl
     by : (b : Bool) → (one.0 == place) ≡ b → rise_from (place + 1) (one ∷ others) ≡ true
     by true e = let absent : Some one ≡ None = rw e at none in absurd (cc)
     by false e =
-        let behind : place ≤ one.0 = leb-true place one.0 (first-of (nat_le place one.0) _ rising) in
+        let after : place ≤ one.0 = leb-true place one.0 (first-of (nat_le place one.0) _ rising) in
         let more : nat_le (place + 1) one.0 ≡ true = grind (arith, nat_tests) in
         rw more (second-of (nat_le place one.0) _ rising)

@@ -4,7 +4,7 @@ use Rattle.std.specs.Option.{ok_or}
 use Rattle.std.proofs.lemmas.Bool.{leb-true}
 use Rattle.std.proofs.lemmas.Bool.Decides.{nat_tests}
 use Rattle.gw_base.specs.Chains.{◌>>=◌}
-use Rattle.journey_model.specs.Matching.{call_place, first_place, fits_order, is_of_stop, place_behind, stands_at}
+use Rattle.journey_model.specs.Matching.{call_place, first_place, fits_order, is_of_stop, place_after, stands_at}
 use Rattle.journey_model.specs.Runs.{Run}
 use Rattle.journey_model.specs.declared.fault.Fault.{Fault}
 use Rattle.journey_model.specs.declared.fault.Fault.TheVariants.{OutOfOrder}
@@ -15,26 +15,26 @@ use Rattle.siri_calls.specs.MatchedCalls.{rise_from}
 use Rattle.siri_calls.proofs.DenseLemmas.{first-of, second-of}
 
 -- the first place of a stop from a place on isn't before it
-first-behind : (stop from : ℕ) (stops : List StopRow) (place : ℕ) → first_place stop from stops ≡ Some place → from ≤ place
-first-behind stop from stops place at = by (position (is_of_stop stop) (drop from stops)) at
+first-after : (stop from : ℕ) (stops : List StopRow) (place : ℕ) → first_place stop from stops ≡ Some place → from ≤ place
+first-after stop from stops place at = by (position (is_of_stop stop) (drop from stops)) at
   where
     by : (found : Option ℕ) → option_map (λ p. p + from) found ≡ Some place → from ≤ place
     by None e = absurd (cc)
     by (Some p) e = let same : p + from ≡ place = cc in omega arith
 
 -- the place of a call is after the one before
-call-behind : (stops : List StopRow) (after : Option ℕ) (stop : ℕ) (order : Option ℕ) (place : ℕ) → call_place stops after stop order ≡ Some place
-    → place_behind after ≤ place
-call-behind stops after stop None place at = first-behind stop (place_behind after) stops place at
-call-behind stops after stop (Some order) place at = by (fits_order stop (place_behind after) order stops) refl at
+call-after : (stops : List StopRow) (after : Option ℕ) (stop : ℕ) (order : Option ℕ) (place : ℕ) → call_place stops after stop order ≡ Some place
+    → place_after after ≤ place
+call-after stops after stop None place at = first-after stop (place_after after) stops place at
+call-after stops after stop (Some order) place at = by (fits_order stop (place_after after) order stops) refl at
   where
-    by : (b : Bool) → fits_order stop (place_behind after) order stops ≡ b
-        → cond b (Some (order - 1)) (first_place stop (place_behind after) stops) ≡ Some place → place_behind after ≤ place
-    by false e h = first-behind stop (place_behind after) stops place h
+    by : (b : Bool) → fits_order stop (place_after after) order stops ≡ b
+        → cond b (Some (order - 1)) (first_place stop (place_after after) stops) ≡ Some place → place_after after ≤ place
+    by false e h = first-after stop (place_after after) stops place h
     by true e h =
         let same : order - 1 ≡ place = cc in
-        let behind : place_behind after ≤ order - 1 =
-        leb-true _ _ (first-of (nat_le (place_behind after) (order - 1)) (stands_at (is_of_stop stop) (order - 1) stops) (second-of (nat_le 1 order) _ e)) in
+        let later : place_after after ≤ order - 1 =
+        leb-true _ _ (first-of (nat_le (place_after after) (order - 1)) (stands_at (is_of_stop stop) (order - 1) stops) (second-of (nat_le 1 order) _ e)) in
         omega arith
 
 le-true : (n m : ℕ) → n ≤ m → nat_le n m ≡ true
@@ -42,26 +42,26 @@ le-true n m less = grind (arith, nat_tests)
 
 -- the calls with their places rise, from the place after the one before
 pub placed-rise : (stops : List StopRow) (after : Option ℕ) (named placed : List (ℕ × (ℕ × Call))) → placed_calls stops after named ≡ Ok placed
-    → rise_from (place_behind after) placed ≡ true
+    → rise_from (place_after after) placed ≡ true
 placed-rise stops after [] placed e = let none : [] ≡ placed = cc in rw (← none) refl
 placed-rise stops after (one ∷ others) placed e = by (call_place stops after one.0 one.1.1.order) refl e (λ place. placed-rise stops (Some place) others)
   where
-    with : (place : ℕ) (rest : Result (List (ℕ × (ℕ × Call))) Fault) → place_behind after ≤ place
+    with : (place : ℕ) (rest : Result (List (ℕ × (ℕ × Call))) Fault) → place_after after ≤ place
         → (rest >>= λ found. Ok ((place, one.1) ∷ found)) ≡ Ok placed
         → ((found : List (ℕ × (ℕ × Call))) → rest ≡ Ok found → rise_from (place + 1) found ≡ true)
-        → rise_from (place_behind after) placed ≡ true
-    with place (Err fault) behind h rise = absurd (cc)
-    with place (Ok found) behind h rise =
+        → rise_from (place_after after) placed ≡ true
+    with place (Err fault) later h rise = absurd (cc)
+    with place (Ok found) later h rise =
         let all : (place, one.1) ∷ found ≡ placed = cc in
-        let test : nat_le (place_behind after) place ≡ true = le-true _ _ behind in
+        let test : nat_le (place_after after) place ≡ true = le-true _ _ later in
         rw (← all, test) (rise found refl)
 
     by : (at : Option ℕ) → call_place stops after one.0 one.1.1.order ≡ at
         → (ok_or at (OutOfOrder one.1.0) >>= λ place. placed_calls stops (Some place) others >>= λ found. Ok ((place, one.1) ∷ found)) ≡ Ok placed
         → ((place : ℕ) (found : List (ℕ × (ℕ × Call))) → placed_calls stops (Some place) others ≡ Ok found → rise_from (place + 1) found ≡ true)
-        → rise_from (place_behind after) placed ≡ true
+        → rise_from (place_after after) placed ≡ true
     by None at h rise = absurd (cc)
-    by (Some place) at h rise = with place (placed_calls stops (Some place) others) (call-behind stops after one.0 one.1.1.order place at) h (rise place)
+    by (Some place) at h rise = with place (placed_calls stops (Some place) others) (call-after stops after one.0 one.1.1.order place at) h (rise place)
 
 pub calls-rise : (run : Run) (all : List (Option Call)) (placed : List (ℕ × (ℕ × Call))) → calls_placed run all ≡ Ok placed → rise_from 0 placed ≡ true
 calls-rise run all placed e = by (stops_named run (numbered 0 all)) e

@@ -7,7 +7,7 @@ use Rattle.std.specs.Option.{ok_or}
 use Rattle.std.specs.Prelude.{is_some, not, option_and_then}
 use Rattle.std.specs.Str.{bytes_eq}
 use Rattle.gw_base.specs.Chains.{◌>>=◌}
-use Rattle.journey_model.specs.Matching.{call_place, first_place, fits_order, is_of_stop, place_behind, stands_at}
+use Rattle.journey_model.specs.Matching.{call_place, first_place, fits_order, is_of_stop, place_after, stands_at}
 use Rattle.journey_model.specs.Runs.{Run}
 use Rattle.journey_model.specs.declared.fault.Fault.{Fault}
 use Rattle.journey_model.specs.declared.fault.Fault.TheVariants.{OutOfOrder, UnknownStop}
@@ -33,20 +33,20 @@ first-any stop from stops place at = by (position (is_of_stop stop) (drop from s
         → list_any (is_of_stop stop) stops ≡ true
     by None is e = absurd (cc)
     by (Some p) is e =
-        let behind : list_any (is_of_stop stop) (drop from stops) ≡ true = sym (is_some-position (is_of_stop stop) (drop from stops)) ∙ ap is_some is in
-        any-split (is_of_stop stop) from stops ∙ rw behind (or-true _)
+        let beyond : list_any (is_of_stop stop) (drop from stops) ≡ true = sym (is_some-position (is_of_stop stop) (drop from stops)) ∙ ap is_some is in
+        any-split (is_of_stop stop) from stops ∙ rw beyond (or-true _)
 
 placed-any : (stops : List StopRow) (after : Option ℕ) (stop : ℕ) (order : Option ℕ) (place : ℕ) → call_place stops after stop order ≡ Some place
     → list_any (is_of_stop stop) stops ≡ true
-placed-any stops after stop None place at = first-any stop (place_behind after) stops place at
-placed-any stops after stop (Some order) place at = by (fits_order stop (place_behind after) order stops) refl at
+placed-any stops after stop None place at = first-any stop (place_after after) stops place at
+placed-any stops after stop (Some order) place at = by (fits_order stop (place_after after) order stops) refl at
   where
-    by : (b : Bool) → fits_order stop (place_behind after) order stops ≡ b
-        → cond b (Some (order - 1)) (first_place stop (place_behind after) stops) ≡ Some place → list_any (is_of_stop stop) stops ≡ true
-    by false e h = first-any stop (place_behind after) stops place h
+    by : (b : Bool) → fits_order stop (place_after after) order stops ≡ b
+        → cond b (Some (order - 1)) (first_place stop (place_after after) stops) ≡ Some place → list_any (is_of_stop stop) stops ≡ true
+    by false e h = first-any stop (place_after after) stops place h
     by true e h =
         stands-any (is_of_stop stop) (order - 1) stops
-        (second-of (nat_le (place_behind after) (order - 1)) (stands_at (is_of_stop stop) (order - 1) stops) (second-of (nat_le 1 order) _ e))
+        (second-of (nat_le (place_after after) (order - 1)) (stands_at (is_of_stop stop) (order - 1) stops) (second-of (nat_le 1 order) _ e))
 
 -- ---- the calls so far have these stops and these places, and the others follow
 

@@ -12,7 +12,7 @@ use Rattle.stop_schedule.specs.Planned.{planned}
 use Rattle.stop_schedule.specs.Stops.{is_timed}
 use Rattle.stop_schedule.specs.declared.stop_times.StopRow.{StopRow}
 use Rattle.journey_model.specs.Ids.{id_of}
-use Rattle.journey_model.specs.Matching.{call_place, fits_order, is_of_stop, place_behind, stands_at}
+use Rattle.journey_model.specs.Matching.{call_place, fits_order, is_of_stop, place_after, stands_at}
 use Rattle.journey_model.specs.Readings.{are_near, is_near}
 use Rattle.journey_model.specs.Runs.{Run, planned_at}
 use Rattle.journey_model.specs.Times.{delay_fault, is_delay}
@@ -134,15 +134,15 @@ placed_from run place [] readings = []
 placed_from run place (row ∷ rows) [] = []
 placed_from run place (row ∷ rows) (reading ∷ readings) = (place, (place, said_call run (place + 1) row reading)) ∷ placed_from run (place + 1) rows readings
 
--- the first of what is left of a list, and what is left behind it
+-- the first of what is left of a list, and what is left after it
 slice_get-drop : {A : Type 0} (xs : List A) (i : ℕ) (x : A) (rest : List A) → drop i xs ≡ x ∷ rest → slice_get xs i ≡ Some x
 slice_get-drop [] zero x rest e = absurd (cc)
 slice_get-drop [] (suc i) x rest e = absurd (cc)
 slice_get-drop (y ∷ ys) zero x rest e = cc
 slice_get-drop (y ∷ ys) (suc i) x rest e = slice_get-drop ys i x rest e
 
-drop-behind : {A : Type 0} (xs : List A) (i : ℕ) (x : A) (rest : List A) → drop i xs ≡ x ∷ rest → drop (i + 1) xs ≡ rest
-drop-behind xs i x rest e = rw add-one (by xs i x rest e)
+drop-after : {A : Type 0} (xs : List A) (i : ℕ) (x : A) (rest : List A) → drop i xs ≡ x ∷ rest → drop (i + 1) xs ≡ rest
+drop-after xs i x rest e = rw add-one (by xs i x rest e)
   where
     by : {A : Type 0} (xs : List A) (i : ℕ) (x : A) (rest : List A) → drop i xs ≡ x ∷ rest → drop (suc i) xs ≡ rest
     by [] zero x rest e = absurd (cc)
@@ -181,17 +181,17 @@ stops-named run place (row ∷ rows) (reading ∷ readings) sound known at =
     let knowns = and_parts (nat_lt row.stop.0 (length run.ids)) _ known in
     named-cons run (place, said_call run (place + 1) row reading) (numbered (place + 1) (read_from run (place + 1) rows readings)) row.stop.0 (named_from run (place + 1) rows readings)
     (stop-named run place row rows sound (ltb-true _ _ knowns.0) at)
-    (stops-named run (place + 1) rows readings sound knowns.1 (drop-behind run.stops place row rows at))
+    (stops-named run (place + 1) rows readings sound knowns.1 (drop-after run.stops place row rows at))
 
 -- the stop of a call is that of its order
-placed-here : (stops : List StopRow) (after : Option ℕ) (place : ℕ) (row : StopRow) (rest : List StopRow) → place_behind after ≡ place → drop place stops ≡ row ∷ rest
+placed-here : (stops : List StopRow) (after : Option ℕ) (place : ℕ) (row : StopRow) (rest : List StopRow) → place_after after ≡ place → drop place stops ≡ row ∷ rest
     → call_place stops after row.stop.0 (Some (place + 1)) ≡ Some place
-placed-here stops after place row rest behind at =
+placed-here stops after place row rest left at =
     let back : place + 1 - 1 ≡ place = omega arith in
     let low : nat_le 1 (place + 1) ≡ true = le-leb 1 (place + 1) (omega arith) in
     let from : nat_le place place ≡ true = le-leb place place (omega arith) in
     let stands : stands_at (is_of_stop row.stop.0) place stops ≡ true = rw (slice_get-drop stops place row rest at, same-number row.stop.0) refl in
-    let fits : fits_order row.stop.0 (place_behind after) (place + 1) stops ≡ true = rw (behind, back, low, from, stands) refl in
+    let fits : fits_order row.stop.0 (place_after after) (place + 1) stops ≡ true = rw (left, back, low, from, stands) refl in
     rw (fits, back) refl
 
 placed-cons : (stops : List StopRow) (after : Option ℕ) (one : ℕ × (ℕ × Call)) (others : List (ℕ × (ℕ × Call))) (place : ℕ) (rest : List (ℕ × (ℕ × Call)))
@@ -199,14 +199,14 @@ placed-cons : (stops : List StopRow) (after : Option ℕ) (one : ℕ × (ℕ × 
     → placed_calls stops after (one ∷ others) ≡ Ok ((place, one.1) ∷ rest)
 placed-cons stops after one others place rest first later = rw (first, later) refl
 
-calls-placed : (run : Run) (after : Option ℕ) (place : ℕ) (rows : List StopRow) (readings : List StopReading) → place_behind after ≡ place → drop place run.stops ≡ rows
+calls-placed : (run : Run) (after : Option ℕ) (place : ℕ) (rows : List StopRow) (readings : List StopReading) → place_after after ≡ place → drop place run.stops ≡ rows
     → placed_calls run.stops after (named_from run place rows readings) ≡ Ok (placed_from run place rows readings)
-calls-placed run after place [] readings behind at = refl
-calls-placed run after place (row ∷ rows) [] behind at = refl
-calls-placed run after place (row ∷ rows) (reading ∷ readings) behind at =
+calls-placed run after place [] readings left at = refl
+calls-placed run after place (row ∷ rows) [] left at = refl
+calls-placed run after place (row ∷ rows) (reading ∷ readings) left at =
     placed-cons run.stops after (row.stop.0, (place, said_call run (place + 1) row reading)) (named_from run (place + 1) rows readings) place (placed_from run (place + 1) rows readings)
-    (placed-here run.stops after place row rows behind at)
-    (calls-placed run (Some place) (place + 1) rows readings refl (drop-behind run.stops place row rows at))
+    (placed-here run.stops after place row rows left at)
+    (calls-placed run (Some place) (place + 1) rows readings refl (drop-after run.stops place row rows at))
 
 -- ---- no delay is over a week
 
@@ -230,7 +230,7 @@ no-faults run place (row ∷ rows) (reading ∷ readings) at near =
     let first : fault_of_delay run (place, (place, said_call run (place + 1) row reading)) ≡ None
     = subst (λ plan. cond (skips reading) None (delay_fault place plan (arrival_said reading) (departure_said reading)) ≡ None) (sym (planned-here run place row rows at)) (no-fault place (planned run.start row) reading nears.0) in
     ap (λ found. option_or found (delays_fault run (placed_from run (place + 1) rows readings))) first
-    ∙ no-faults run (place + 1) rows readings (drop-behind run.stops place row rows at) nears.1
+    ∙ no-faults run (place + 1) rows readings (drop-after run.stops place row rows at) nears.1
 
 -- ---- each stop reads as the journey says
 

@@ -22,9 +22,9 @@ use Rattle.serde_json.proofs.Numbers.{number_of-decimal}
 use Rattle.serde_json.proofs.Texts.{print-outline}
 
 -- a name stands after all names of members
-abbrev pub is_behind : List ℕ → Members → Bool
-is_behind name no_members = true
-is_behind name (member other tree ms) = match_ordering (slice_cmp nat_cmp name other) false false true && is_behind name ms
+abbrev pub is_after : List ℕ → Members → Bool
+is_after name no_members = true
+is_after name (member other tree ms) = match_ordering (slice_cmp nat_cmp name other) false false true && is_after name ms
 
 -- members, and then others
 abbrev pub joined : Members → Members → Members
@@ -57,7 +57,7 @@ abbrev mutual
   pub HasPlain : ℕ → Members → Members → Type 0
   HasPlain room front no_members = ⊤
   HasPlain room front (member name d ms) =
-      (is_behind name front ≡ true) × IsUtf8 name × IsPlain room d × HasPlain room (joined front (member name d no_members)) ms
+      (is_after name front ≡ true) × IsUtf8 name × IsPlain room d × HasPlain room (joined front (member name d no_members)) ms
 
 -- ---- the numbers' texts, and how deep it is
 
@@ -105,12 +105,12 @@ mutual
 
 -- ---- a member whose name is after all goes last
 
-put-last : (name : List ℕ) (d : Data) (front : Members) → is_behind name front ≡ true → put name d front ≡ joined front (member name d no_members)
+put-last : (name : List ℕ) (d : Data) (front : Members) → is_after name front ≡ true → put name d front ≡ joined front (member name d no_members)
 put-last name d no_members h = refl
 put-last name d (member other tree ms) h = by (slice_cmp nat_cmp name other) h (put-last name d ms)
   where
-    by : (order : Ordering) → (match_ordering order false false true && is_behind name ms) ≡ true
-        → (is_behind name ms ≡ true → put name d ms ≡ joined ms (member name d no_members))
+    by : (order : Ordering) → (match_ordering order false false true && is_after name ms) ≡ true
+        → (is_after name ms ≡ true → put name d ms ≡ joined ms (member name d no_members))
         → match_ordering order (member name d (member other tree ms)) (member other d ms) (member other tree (put name d ms))
         ≡ member other tree (joined ms (member name d no_members))
     by Less e last = absurd (cc)

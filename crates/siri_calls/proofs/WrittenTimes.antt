@@ -1,7 +1,6 @@
 -- The times that a journey says are moments.
-use Rattle.std.proofs.Common.{◌≡◌, ℕ, ℤ, pos, map, ap, ◌+ℤ◌, ◌-ℤ◌, ◌≤◌, ◌<◌, Bool, true, List, [], ◌∷◌, length, slice_get, Some, nat_le, refl, arith, suc, zero}
+use Rattle.std.proofs.Common.{◌≡◌, ℕ, ℤ, pos, map, ap, ◌+ℤ◌, ◌-ℤ◌, ◌≤◌, ◌<◌, true, List, [], ◌∷◌, length, slice_get, Some, nat_le, refl, arith, suc, zero}
 use Rattle.std.proofs.lemmas.Bool.{and_parts}
-use Rattle.std.specs.List.{list_all}
 use Rattle.std.proofs.lemmas.Bool.Decides.{nat_tests}
 use Rattle.std.proofs.lemmas.Int.{ints}
 use Rattle.service_day.specs.Starts.{IsDayStart}
@@ -66,12 +65,6 @@ as_many start (one ∷ rows) (first ∷ readings) near =
 pub all_skipped : (start : ℤ) (rows : List StopRow) → are_near start rows (map skipped_at rows) ≡ true
 all_skipped start [] = refl
 all_skipped start (row ∷ rows) = all_skipped start rows
-
--- what holds of each of the stops holds of one
-pub each_at : (test : StopRow → Bool) (rows : List StopRow) (place : ℕ) (row : StopRow) → list_all test rows ≡ true → slice_get rows place ≡ Some row → test row ≡ true
-each_at test [] place row all at = absurd (cc)
-each_at test (one ∷ rows) zero row all at = let same : one ≡ row = cc in rw (← same) (and_parts (test one) (list_all test rows) all).0
-each_at test (one ∷ rows) (suc place) row all at = each_at test rows place row (and_parts (test one) (list_all test rows) all).1 at
 
 -- a journey that skips all stops skips each
 pub skipped_there : (rows : List StopRow) (place : ℕ) → place < length rows → slice_get (map skipped_at rows) place ≡ Some Skipped

@@ -1,14 +1,9 @@
 -- What the look-up of a slot and the live bytes are after a put and after a span is given back.
-use Rattle.std.proofs.Common.{Some, ◌≡◌, ◌≢◌, ◌+◌, ◌++◌, ◌∷◌, [], ℕ, List, None, IsSome, length, eqb, arith, refl, ◌∙◌, Bool, true, false, cond, unwrap_or, not}
+use Rattle.std.proofs.Common.{Some, ◌≡◌, ◌+◌, ◌++◌, ◌∷◌, [], ℕ, List, None, length, eqb, arith, refl, ◌∙◌, Bool, true, false, cond, unwrap_or, not}
 use Rattle.std.proofs.lemmas.Bool.{eq-eqb}
 use Rattle.std.proofs.lemmas.Bool.Decides.{nat_tests}
 use Rattle.std.proofs.lemmas.List.Sums.{sum_by-append, sum_by-cons}
 use Rattle.span_pool.specs.Spans.{bytes_of, live_bytes, without, AreApart}
-
--- a slot that holds a span still holds it after others
-pub bytes_of-append : (xs ys : List (ℕ × List ℕ)) (slot : ℕ) → IsSome (bytes_of xs slot) → bytes_of (xs ++ ys) slot ≡ bytes_of xs slot
-bytes_of-append [] ys slot held = cc
-bytes_of-append (x ∷ xs) ys slot held = grind (arith, nat_tests, bytes_of-append xs ys slot)
 
 -- a slot that holds no span holds what is put after it
 pub bytes_of-append_new : (xs ys : List (ℕ × List ℕ)) (slot : ℕ) → bytes_of xs slot ≡ None → bytes_of (xs ++ ys) slot ≡ bytes_of ys slot
@@ -19,16 +14,6 @@ bytes_of-append_new (x ∷ xs) ys slot none = grind (arith, nat_tests, bytes_of-
 pub bytes_of_put : (xs : List (ℕ × List ℕ)) (slot : ℕ) (bytes : List ℕ) → bytes_of xs slot ≡ None → bytes_of (xs ++ (slot, bytes) ∷ []) slot ≡ Some bytes
 bytes_of_put [] slot bytes none = rw (eq-eqb slot slot refl) refl
 bytes_of_put (x ∷ xs) slot bytes none = grind (arith, nat_tests, bytes_of_put xs slot bytes)
-
--- other slots hold what they held after one was given back
-pub bytes_of-without : (xs : List (ℕ × List ℕ)) (slot other : ℕ) → other ≢ slot → bytes_of (without xs slot) other ≡ bytes_of xs other
-bytes_of-without [] slot other ne = refl
-bytes_of-without (x ∷ xs) slot other ne = grind (arith, nat_tests, bytes_of-without xs slot other ne)
-
--- the slot that was given back holds nothing
-pub bytes_of-without_same : (xs : List (ℕ × List ℕ)) (slot : ℕ) → bytes_of (without xs slot) slot ≡ None
-bytes_of-without_same [] slot = refl
-bytes_of-without_same (x ∷ xs) slot = grind (arith, nat_tests, bytes_of-without_same xs slot)
 
 -- the live bytes of two lists of spans, one after the other
 pub live_bytes-append : (xs ys : List (ℕ × List ℕ)) → live_bytes (xs ++ ys) ≡ live_bytes xs + live_bytes ys

@@ -23,7 +23,7 @@ use Rattle.journey_model.specs.declared.readings.StopReading.TheVariants.{Absent
 use Rattle.sparse_planner.specs.Means.{HasPlace, IsLeastOf, Says}
 use Rattle.sparse_planner.specs.Shortest.{is_skipped, same_reading, shortest, update}
 use Rattle.sparse_planner.proofs.Placing.{places-plan, places-rise, plan_places}
-use Rattle.sparse_planner.proofs.States.{delay_behind, needs, plan_from, running, updates-plan}
+use Rattle.sparse_planner.proofs.States.{delay_after, needs, plan_from, running, updates-plan}
 use Rattle.sparse_planner.proofs.Walks.{own, prop-walk, rise-lower, walk}
 
 -- ---- a stop without an update reads as is supplied to it
@@ -53,7 +53,7 @@ needs-running start (Some delay) row =
     rw ((Decides-int_eq (times.0 +ℤ delay) (times.0 +ℤ delay)).1 refl, (Decides-int_eq (times.1 +ℤ delay) (times.1 +ℤ delay)).1 refl) refl
 
 -- it supplies what is supplied to it
-delay-running : (start : ℤ) (delay : Option ℤ) (row : StopRow) → delay_behind start delay row (running (planned start row) delay) ≡ delay
+delay-running : (start : ℤ) (delay : Option ℤ) (row : StopRow) → delay_after start delay row (running (planned start row) delay) ≡ delay
 delay-running start None row = refl
 delay-running start (Some delay) row = ap Some (omega (arith, ints))
 
@@ -67,7 +67,7 @@ own-update start row (Timed arrival departure) = refl
 plan-rise : (start : ℤ) (place : ℕ) (delay : Option ℤ) (stops : List (StopRow × StopReading)) → Rise place (zip (plan_places start place delay stops) (plan_from start delay stops))
 plan-rise start place delay [] = tt
 plan-rise start place delay (stop ∷ stops) =
-    let next = delay_behind start delay stop.0 stop.1 in
+    let next = delay_after start delay stop.0 stop.1 in
     let rest = plan-rise start (place + 1) next stops in
     elim (needs start delay stop.0 stop.1) as (λ needed. Rise place (zip ((if needed then place ∷ [] else []) ++ plan_places start (place + 1) next stops)
     ((if needed then update start stop.0 stop.1 ∷ [] else []) ++ plan_from start next stops))) [
@@ -89,7 +89,7 @@ walk-plan start place delay [] (reading ∷ readings) near = absurd (cc)
 walk-plan start place delay (row ∷ rows) [] near = absurd (cc)
 walk-plan start place delay (row ∷ rows) (reading ∷ readings) near =
     let parts = and_parts (is_near (planned start row) reading) (are_near start rows readings) near in
-    let next = delay_behind start delay row reading in
+    let next = delay_after start delay row reading in
     let at = plan_places start (place + 1) next (zip rows readings) in
     let others = plan_from start next (zip rows readings) in
     let rest = walk-plan start (place + 1) next rows readings parts.1 in
@@ -97,10 +97,10 @@ walk-plan start place delay (row ∷ rows) (reading ∷ readings) near =
     (zip ((if needed then place ∷ [] else []) ++ at) ((if needed then update start row reading ∷ [] else []) ++ others)) ≡ reading ∷ readings in
     (elim (needs start delay row reading) as (λ needed. needs start delay row reading ≡ needed → Goal needed) [
       | true ↦ λ e. rw (eq-eqb place place refl)
-          (ap₂ ◌∷◌ (own-update start row reading) (ap (λ own. walk start (place + 1) (delay_behind start delay row own) rows (zip at others)) (own-update start row reading) ∙ rest))
+          (ap₂ ◌∷◌ (own-update start row reading) (ap (λ own. walk start (place + 1) (delay_after start delay row own) rows (zip at others)) (own-update start row reading) ∙ rest))
       | false ↦ λ e.
           let is = unneeded-is start delay row reading e in
-          let same = ap (delay_behind start delay row) is ∙ delay-running start delay row in
+          let same = ap (delay_after start delay row) is ∙ delay-running start delay row in
           walk-past start place delay row rows (zip at others) (plan-rise start (place + 1) next (zip rows readings))
           ∙ ap₂ ◌∷◌ (sym is) (ap (λ from. walk start (place + 1) from rows (zip at others)) (sym same) ∙ rest)
     ]) refl
@@ -111,10 +111,10 @@ none-there : (place : ℕ) (P : Type 0) → HasPlace place [] → P
 none-there place P h = absurd (cc)
 
 -- a place that the shortest list has is that of a stop that needs it, or of one after
-first-or-behind : (place first : ℕ) (needed : Bool) (others : List ℕ) → HasPlace place ((if needed then first ∷ [] else []) ++ others)
+first-or-after : (place first : ℕ) (needed : Bool) (others : List ℕ) → HasPlace place ((if needed then first ∷ [] else []) ++ others)
     → ((needed ≡ true) × (first ≡ place)) ⊎ HasPlace place others
-first-or-behind place first true others h = ⊎_elim (λ e. inl (refl, eqb-true first place e)) (λ e. inr e) (or_cases (first == place) (list_any (λ other. other == place) others) h)
-first-or-behind place first false others h = inr h
+first-or-after place first true others h = ⊎_elim (λ e. inl (refl, eqb-true first place e)) (λ e. inr e) (or_cases (first == place) (list_any (λ other. other == place) others) h)
+first-or-after place first false others h = inr h
 
 -- the cells of equal lists
 head-same : (one other : StopReading) (ones others : List StopReading) → one ∷ ones ≡ other ∷ others → one ≡ other
@@ -124,11 +124,11 @@ tail-same : (one other : StopReading) (ones others : List StopReading) → one �
 tail-same one other ones others h = cc
 
 -- a stop that reads as is supplied to it has no place
-behind-place : (start : ℤ) (place first : ℕ) (delay : Option ℤ) (row : StopRow) (reading : StopReading) (stops : List (StopRow × StopReading))
+after-place : (start : ℤ) (place first : ℕ) (delay : Option ℤ) (row : StopRow) (reading : StopReading) (stops : List (StopRow × StopReading))
     → running (planned start row) delay ≡ reading → HasPlace place (plan_places start first delay ((row, reading) ∷ stops)) → HasPlace place (plan_places start (first + 1) delay stops)
-behind-place start place first delay row reading stops is h =
+after-place start place first delay row reading stops is h =
     let unneeded = subst (λ (one : StopReading). needs start delay row one ≡ false) is (needs-running start delay row) in
-    let same : delay_behind start delay row reading ≡ delay = ap (delay_behind start delay row) (sym is) ∙ delay-running start delay row in
+    let same : delay_after start delay row reading ≡ delay = ap (delay_after start delay row) (sym is) ∙ delay-running start delay row in
     subst₂ (λ (needed : Bool) (next : Option ℤ). HasPlace place ((if needed then first ∷ [] else []) ++ plan_places start (first + 1) next stops)) unneeded same h
 
 walk-least : (start : ℤ) (first : ℕ) (delay : Option ℤ) (rows : List StopRow) (readings : List StopReading) (placed : List (ℕ × StopUpdate))
@@ -138,23 +138,23 @@ walk-least start first delay [] readings placed read place h = none-there place 
 walk-least start first delay (row ∷ rows) [] placed read place h = none-there place _ h
 walk-least start first delay (row ∷ rows) (reading ∷ readings) [] read place h =
     walk-least start (first + 1) delay rows readings [] (tail-same _ _ _ _ read) place
-    (behind-place start place first delay row reading (zip rows readings) (head-same _ _ _ _ read) h)
+    (after-place start place first delay row reading (zip rows readings) (head-same _ _ _ _ read) h)
 walk-least start first delay (row ∷ rows) (reading ∷ readings) (one ∷ others) read place h =
     let there = own (planned start row) one.1 in
     let supplied = running (planned start row) delay in
-    let Walked : Bool → Type 0 = λ at. (if at then there ∷ walk start (first + 1) (delay_behind start delay row there) rows others
+    let Walked : Bool → Type 0 = λ at. (if at then there ∷ walk start (first + 1) (delay_after start delay row there) rows others
     else supplied ∷ walk start (first + 1) delay rows (one ∷ others)) ≡ reading ∷ readings in
     (elim (one.0 == first) as (λ at. (one.0 == first) ≡ at → Walked at → list_any (λ (other : ℕ × StopUpdate). other.0 == place) (one ∷ others) ≡ true) [
       | true ↦ λ e walked.
           let is = head-same there reading _ readings walked in
-          let rest = ap (λ own. walk start (first + 1) (delay_behind start delay row own) rows others) (sym is) ∙ tail-same there reading _ readings walked in
+          let rest = ap (λ own. walk start (first + 1) (delay_after start delay row own) rows others) (sym is) ∙ tail-same there reading _ readings walked in
           ⊎_elim
           (λ here. or_left (one.0 == place) _ (eq-eqb one.0 place (eqb-true one.0 first e ∙ here.1)))
-          (λ behind. or_right (one.0 == place) _ (walk-least start (first + 1) (delay_behind start delay row reading) rows readings others rest place behind))
-          (first-or-behind place first (needs start delay row reading) (plan_places start (first + 1) (delay_behind start delay row reading) (zip rows readings)) h)
+          (λ after. or_right (one.0 == place) _ (walk-least start (first + 1) (delay_after start delay row reading) rows readings others rest place after))
+          (first-or-after place first (needs start delay row reading) (plan_places start (first + 1) (delay_after start delay row reading) (zip rows readings)) h)
       | false ↦ λ e walked.
           walk-least start (first + 1) delay rows readings (one ∷ others) (tail-same supplied reading _ readings walked) place
-          (behind-place start place first delay row reading (zip rows readings) (head-same supplied reading _ readings walked) h)
+          (after-place start place first delay row reading (zip rows readings) (head-same supplied reading _ readings walked) h)
     ]) refl read
 
 placed-has : (place : ℕ) (at : List ℕ) (updates : List StopUpdate) → list_any (λ (one : ℕ × StopUpdate). one.0 == place) (zip at updates) ≡ true → HasPlace place at

@@ -8,7 +8,7 @@ use Rattle.stop_schedule.specs.Stops.{are_rising}
 use Rattle.stop_schedule.specs.declared.stop_times.StopRow.{StopRow}
 use Rattle.journey_model.proofs.Suppliers.{Rise}
 use Rattle.gw_base.specs.Chains.{◌>>=◌}
-use Rattle.journey_model.specs.Matching.{agrees, first_place, has_sequence, in_order, is_of_stop, place_behind, place_by_sequence, place_by_stop, stands_at, update_place}
+use Rattle.journey_model.specs.Matching.{agrees, first_place, has_sequence, in_order, is_of_stop, place_after, place_by_sequence, place_by_stop, stands_at, update_place}
 use Rattle.journey_model.specs.Readings.{are_near, is_near}
 use Rattle.journey_model.specs.Runs.{Run, planned_at}
 use Rattle.journey_model.specs.Times.{delay_fault, is_delay}
@@ -22,14 +22,14 @@ use Rattle.journey_model.specs.declared.matching.NamedStop.TheVariants.{Missing,
 use Rattle.journey_model.specs.declared.readings.StopReading.{StopReading}
 use Rattle.journey_model.specs.declared.readings.StopReading.TheVariants.{Absent, Skipped, Timed}
 use Rattle.sparse_planner.specs.Shortest.{update}
-use Rattle.sparse_planner.proofs.States.{delay_behind, needs, plan_from}
+use Rattle.sparse_planner.proofs.States.{delay_after, needs, plan_from}
 use Rattle.sparse_planner.proofs.Walks.{planned-here, stop-here, stops-more, length-more}
 
 -- the places of the updates of stops from a place on, after others that supply this delay
 abbrev pub plan_places : ℤ → ℕ → Option ℤ → List (StopRow × StopReading) → List ℕ
 plan_places start place delay [] = []
 plan_places start place delay (stop ∷ stops) =
-    (if needs start delay stop.0 stop.1 then place ∷ [] else []) ++ plan_places start (place + 1) (delay_behind start delay stop.0 stop.1) stops
+    (if needs start delay stop.0 stop.1 then place ∷ [] else []) ++ plan_places start (place + 1) (delay_after start delay stop.0 stop.1) stops
 
 -- ---- the stop of a sequence is found at its own place
 
@@ -56,11 +56,11 @@ position-here front rows row h =
 stands-here : (front rows : List StopRow) (row : StopRow) → stands_at (agrees Missing) (length front) (front ++ row ∷ rows) ≡ true
 stands-here front rows row = rw (stop-here front rows row) refl
 
-found-here : (after : Option ℕ) (front rows : List StopRow) (row : StopRow) → are_rising (front ++ row ∷ rows) ≡ true → place_behind after ≤ length front
+found-here : (after : Option ℕ) (front rows : List StopRow) (row : StopRow) → are_rising (front ++ row ∷ rows) ≡ true → place_after after ≤ length front
     → update_place (front ++ row ∷ rows) after (Some row.sequence) Missing ≡ Ok (length front)
 found-here after front rows row rising le =
-    ap (place_by_sequence (front ++ row ∷ rows) (place_behind after) Missing) (position-here front rows row rising)
-    ∙ rw (stands-here front rows row, le-leb (place_behind after) (length front) le) refl
+    ap (place_by_sequence (front ++ row ∷ rows) (place_after after) Missing) (position-here front rows row rising)
+    ∙ rw (stands-here front rows row, le-leb (place_after after) (length front) le) refl
 
 -- ---- the updates of the shortest list have no fault
 
@@ -71,7 +71,7 @@ no-fault number times arrival departure near =
     rw (parts.0, parts.1) refl
 
 place-update : (run : Run) (number : ℕ) (after : Option ℕ) (front rows : List StopRow) (row : StopRow) (reading : StopReading)
-    → run.stops ≡ front ++ row ∷ rows → are_rising (front ++ row ∷ rows) ≡ true → place_behind after ≤ length front
+    → run.stops ≡ front ++ row ∷ rows → are_rising (front ++ row ∷ rows) ≡ true → place_after after ≤ length front
     → is_near (planned run.start row) reading ≡ true
     → place_of run number after (update run.start row reading) ≡ Ok (length front)
 place-update run number after front rows row Absent stops rising le near =
@@ -90,7 +90,7 @@ places-cons : (run : Run) (number : ℕ) (after : Option ℕ) (one : StopUpdate)
 places-cons run number after one others place at e f = rw (e, f) refl
 
 pub places-plan : (run : Run) (front rows : List StopRow) (readings : List StopReading) (place number : ℕ) (after : Option ℕ) (delay : Option ℤ)
-    → run.stops ≡ front ++ rows → are_rising run.stops ≡ true → length front ≡ place → place_behind after ≤ place
+    → run.stops ≡ front ++ rows → are_rising run.stops ≡ true → length front ≡ place → place_after after ≤ place
     → are_near run.start rows readings ≡ true
     → places_from run number after (plan_from run.start delay (zip rows readings)) ≡ Ok (plan_places run.start place delay (zip rows readings))
 places-plan run front [] readings place number after delay stops rising long le near = refl
@@ -100,7 +100,7 @@ places-plan run front (row ∷ rows) (reading ∷ readings) place number after d
     let rises = subst (λ (at : List StopRow). are_rising at ≡ true) stops rising in
     let more = stops-more run.stops front rows row stops in
     let longer = length-more front row place long in
-    let next = delay_behind run.start delay row reading in
+    let next = delay_after run.start delay row reading in
     elim (needs run.start delay row reading) as (λ needed. places_from run number after ((if needed then update run.start row reading ∷ [] else []) ++ plan_from run.start next (zip rows readings))
     ≡ Ok ((if needed then place ∷ [] else []) ++ plan_places run.start (place + 1) next (zip rows readings))) [
       | true ↦ places-cons run number after (update run.start row reading) (plan_from run.start next (zip rows readings)) place (plan_places run.start (place + 1) next (zip rows readings))
@@ -116,31 +116,31 @@ if-ok : (test : Bool) (fault : MatchFault) (answer : Result ℕ MatchFault) (pla
 if-ok true fault answer place h = (refl, h)
 if-ok false fault answer place h = absurd (cc)
 
-in_order-behind : (from at place : ℕ) → in_order from at ≡ Ok place → from ≤ place
-in_order-behind from at place h =
+in_order-after : (from at place : ℕ) → in_order from at ≡ Ok place → from ≤ place
+in_order-after from at place h =
     let parts = if-ok (nat_le from at) OutOfOrder (Ok at) place h in
     let same : at ≡ place = cc (parts.1) in
     let le : from ≤ at = leb-true from at parts.0 in
     omega arith
 
-sequence-behind : (stops : List StopRow) (from : ℕ) (named : NamedStop) (found : Option ℕ) (place : ℕ) → place_by_sequence stops from named found ≡ Ok place → from ≤ place
-sequence-behind stops from named None place h = absurd (cc)
-sequence-behind stops from named (Some at) place h = in_order-behind from at place (if-ok (stands_at (agrees named) at stops) StopMismatch (in_order from at) place h).1
+sequence-after : (stops : List StopRow) (from : ℕ) (named : NamedStop) (found : Option ℕ) (place : ℕ) → place_by_sequence stops from named found ≡ Ok place → from ≤ place
+sequence-after stops from named None place h = absurd (cc)
+sequence-after stops from named (Some at) place h = in_order-after from at place (if-ok (stands_at (agrees named) at stops) StopMismatch (in_order from at) place h).1
 
-first-behind : (from : ℕ) (found : Option ℕ) (place : ℕ) → ok_or (option_map (λ at. at + from) found) OutOfOrder ≡ Ok place → from ≤ place
-first-behind from None place h = absurd (cc)
-first-behind from (Some at) place h = let same : at + from ≡ place = cc in omega arith
+first-after : (from : ℕ) (found : Option ℕ) (place : ℕ) → ok_or (option_map (λ at. at + from) found) OutOfOrder ≡ Ok place → from ≤ place
+first-after from None place h = absurd (cc)
+first-after from (Some at) place h = let same : at + from ≡ place = cc in omega arith
 
-stop-behind : (stops : List StopRow) (from : ℕ) (named : NamedStop) (place : ℕ) → place_by_stop stops from named ≡ Ok place → from ≤ place
-stop-behind stops from Missing place h = absurd (cc)
-stop-behind stops from Unknown place h = absurd (cc)
-stop-behind stops from (Known stop) place h =
-    first-behind from (position (is_of_stop stop.0) (drop from stops)) place
+stop-after : (stops : List StopRow) (from : ℕ) (named : NamedStop) (place : ℕ) → place_by_stop stops from named ≡ Ok place → from ≤ place
+stop-after stops from Missing place h = absurd (cc)
+stop-after stops from Unknown place h = absurd (cc)
+stop-after stops from (Known stop) place h =
+    first-after from (position (is_of_stop stop.0) (drop from stops)) place
     (if-ok (list_any (is_of_stop stop.0) stops) UnknownStop (ok_or (first_place stop.0 from stops) OutOfOrder) place h).1
 
-update-behind : (stops : List StopRow) (after sequence : Option ℕ) (named : NamedStop) (place : ℕ) → update_place stops after sequence named ≡ Ok place → place_behind after ≤ place
-update-behind stops after None named place h = stop-behind stops (place_behind after) named place h
-update-behind stops after (Some sequence) named place h = sequence-behind stops (place_behind after) named (position (has_sequence sequence) stops) place h
+update-after : (stops : List StopRow) (after sequence : Option ℕ) (named : NamedStop) (place : ℕ) → update_place stops after sequence named ≡ Ok place → place_after after ≤ place
+update-after stops after None named place h = stop-after stops (place_after after) named place h
+update-after stops after (Some sequence) named place h = sequence-after stops (place_after after) named (position (has_sequence sequence) stops) place h
 
 -- an update without a fault has the place that was found
 unless-ok : (fault : Option Fault) (at place : ℕ) → place_unless fault at ≡ Ok place → at ≡ place
@@ -155,10 +155,10 @@ related-ok : (known : Bool) (fault : Fault) (answer : Result ℕ Fault) (place :
 related-ok true fault answer place h = h
 related-ok false fault answer place h = absurd (cc)
 
-place-behind : (run : Run) (number : ℕ) (after : Option ℕ) (one : StopUpdate) (place : ℕ) → place_of run number after one ≡ Ok place → place_behind after ≤ place
-place-behind run number after one place h =
+place-after : (run : Run) (number : ℕ) (after : Option ℕ) (one : StopUpdate) (place : ℕ) → place_of run number after one ≡ Ok place → place_after after ≤ place
+place-after run number after one place h =
     let found = update_place run.stops after one.sequence (named_stop run.ids one) in
-    update-behind run.stops after one.sequence (named_stop run.ids one) place
+    update-after run.stops after one.sequence (named_stop run.ids one) place
     (timed-ok run number one found place (related-ok (is_scheduled one || (is_skipped one || is_no_data one)) (OtherRelation one.relation) (place_timed run number one found) place h))
 
 -- the first place and the others
@@ -175,9 +175,9 @@ cons-ok (Ok first) rest place at h =
 cons-ok (Err fault) rest place at h = absurd (cc)
 
 -- the places of updates without a fault rise
-pub places-rise : (run : Run) (number : ℕ) (after : Option ℕ) (updates : List StopUpdate) (at : List ℕ) → places_from run number after updates ≡ Ok at → Rise (place_behind after) (zip at updates)
+pub places-rise : (run : Run) (number : ℕ) (after : Option ℕ) (updates : List StopUpdate) (at : List ℕ) → places_from run number after updates ≡ Ok at → Rise (place_after after) (zip at updates)
 places-rise run number after updates [] h = tt
 places-rise run number after [] (place ∷ at) h = tt
 places-rise run number after (one ∷ others) (place ∷ at) h =
     let parts = cons-ok (place_of run number after one) (λ first. places_from run (number + 1) (Some first) others) place at h in
-    (place-behind run number after one place parts.0, places-rise run (number + 1) (Some place) others at parts.1)
+    (place-after run number after one place parts.0, places-rise run (number + 1) (Some place) others at parts.1)

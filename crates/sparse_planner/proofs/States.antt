@@ -17,10 +17,10 @@ abbrev pub running : ℤ × ℤ → Option ℤ → StopReading
 running planned delay = option_map_or (later_by planned) delay Absent
 
 -- the delay after a stop
-abbrev pub delay_behind : ℤ → Option ℤ → StopRow → StopReading → Option ℤ
-delay_behind start delay row Absent = None
-delay_behind start delay row Skipped = delay
-delay_behind start delay row (Timed arrival departure) = Some (departure -ℤ (planned start row).1)
+abbrev pub delay_after : ℤ → Option ℤ → StopRow → StopReading → Option ℤ
+delay_after start delay row Absent = None
+delay_after start delay row Skipped = delay
+delay_after start delay row (Timed arrival departure) = Some (departure -ℤ (planned start row).1)
 
 -- a stop needs an update of its own
 abbrev pub needs : ℤ → Option ℤ → StopRow → StopReading → Bool
@@ -30,7 +30,7 @@ needs start delay row reading = is_skipped reading || not (same_reading reading 
 abbrev pub plan_from : ℤ → Option ℤ → List (StopRow × StopReading) → List StopUpdate
 plan_from start delay [] = []
 plan_from start delay (stop ∷ stops) =
-    (if needs start delay stop.0 stop.1 then update start stop.0 stop.1 ∷ [] else []) ++ plan_from start (delay_behind start delay stop.0 stop.1) stops
+    (if needs start delay stop.0 stop.1 then update start stop.0 stop.1 ∷ [] else []) ++ plan_from start (delay_after start delay stop.0 stop.1) stops
 
 -- ---- the same updates
 
@@ -54,7 +54,7 @@ nearest-push (first ∷ before) stop = ap (λ found. option_or found (unskipped 
 -- the delay that the nearest stop supplies
 abbrev delay_of : ℤ → Option (StopRow × StopReading) → Option ℤ
 delay_of start None = None
-delay_of start (Some stop) = delay_behind start None stop.0 stop.1
+delay_of start (Some stop) = delay_after start None stop.0 stop.1
 
 supply-running : (start : ℤ) (row : StopRow) (found : Option (StopRow × StopReading)) → supply start row found ≡ running (planned start row) (delay_of start found)
 supply-running start row None = refl
@@ -63,37 +63,37 @@ supply-running start row (Some (earlier, Skipped)) = refl
 supply-running start row (Some (earlier, Timed arrival departure)) = refl
 
 delay-unskipped : (start : ℤ) (row : StopRow) (reading : StopReading) (found : Option (StopRow × StopReading))
-    → delay_of start (option_or (unskipped (row, reading)) found) ≡ delay_behind start (delay_of start found) row reading
+    → delay_of start (option_or (unskipped (row, reading)) found) ≡ delay_after start (delay_of start found) row reading
 delay-unskipped start row Absent found = refl
 delay-unskipped start row Skipped found = refl
 delay-unskipped start row (Timed arrival departure) found = refl
 
 delay-push : (start : ℤ) (before : List (StopRow × StopReading)) (row : StopRow) (reading : StopReading)
-    → delay_of start (nearest (before ++ (row, reading) ∷ [])) ≡ delay_behind start (delay_of start (nearest before)) row reading
+    → delay_of start (nearest (before ++ (row, reading) ∷ [])) ≡ delay_after start (delay_of start (nearest before)) row reading
 delay-push start before row reading = ap (delay_of start) (nearest-push before (row, reading)) ∙ delay-unskipped start row reading (nearest before)
 
-updates-plan-behind : (start : ℤ) (before stops : List (StopRow × StopReading)) → updates_from start before stops ≡ plan_from start (delay_of start (nearest before)) stops
-updates-plan-behind start before [] = refl
-updates-plan-behind start before ((row, reading) ∷ stops) =
+updates-plan-after : (start : ℤ) (before stops : List (StopRow × StopReading)) → updates_from start before stops ≡ plan_from start (delay_of start (nearest before)) stops
+updates-plan-after start before [] = refl
+updates-plan-after start before ((row, reading) ∷ stops) =
     ap₂ (λ (supplied : StopReading) (rest : List StopUpdate). (if is_skipped reading || not (same_reading reading supplied) then update start row reading ∷ [] else []) ++ rest)
     (supply-running start row (nearest before))
-    (updates-plan-behind start (before ++ (row, reading) ∷ []) stops ∙ ap (λ delay. plan_from start delay stops) (delay-push start before row reading))
+    (updates-plan-after start (before ++ (row, reading) ∷ []) stops ∙ ap (λ delay. plan_from start delay stops) (delay-push start before row reading))
 
 pub updates-plan : (start : ℤ) (stops : List (StopRow × StopReading)) → updates_from start [] stops ≡ plan_from start None stops
-updates-plan start stops = updates-plan-behind start [] stops
+updates-plan start stops = updates-plan-after start [] stops
 
 -- ---- a step of the walk in code
 
 pub delay-is : (start : ℤ) (delay next : Option ℤ) (row : StopRow) (reading : StopReading)
     → (reading ≡ Absent → next ≡ None) → (reading ≡ Skipped → next ≡ delay)
     → ((arrival departure : ℤ) → reading ≡ Timed arrival departure → next ≡ Some (departure -ℤ (planned start row).1))
-    → next ≡ delay_behind start delay row reading
+    → next ≡ delay_after start delay row reading
 delay-is start delay next row Absent absent skipped at_times = absent refl
 delay-is start delay next row Skipped absent skipped at_times = skipped refl
 delay-is start delay next row (Timed arrival departure) absent skipped at_times = at_times arrival departure refl
 
 pub delay-small : (start : ℤ) (delay : Option ℤ) (row : StopRow) (reading : StopReading) → is_near (planned start row) reading ≡ true
-    → IfSome delay (λ d. is_delay d ≡ true) → IfSome (delay_behind start delay row reading) (λ d. is_delay d ≡ true)
+    → IfSome delay (λ d. is_delay d ≡ true) → IfSome (delay_after start delay row reading) (λ d. is_delay d ≡ true)
 delay-small start delay row Absent near small = tt
 delay-small start delay row Skipped near small = small
 delay-small start delay row (Timed arrival departure) near small =
@@ -102,11 +102,11 @@ delay-small start delay row (Timed arrival departure) near small =
 -- the update of a stop, if it needs one, stands after those so far
 pub plan-more : (start : ℤ) (delay : Option ℤ) (row : StopRow) (reading : StopReading) (stops : List (StopRow × StopReading)) (updates whole : List StopUpdate)
     → updates ++ plan_from start delay ((row, reading) ∷ stops) ≡ whole
-    → (if needs start delay row reading then updates ++ update start row reading ∷ [] else updates) ++ plan_from start (delay_behind start delay row reading) stops ≡ whole
+    → (if needs start delay row reading then updates ++ update start row reading ∷ [] else updates) ++ plan_from start (delay_after start delay row reading) stops ≡ whole
 plan-more start delay row reading stops updates whole h = by (needs start delay row reading) ∙ h
   where
-    by : (needed : Bool) → (if needed then updates ++ update start row reading ∷ [] else updates) ++ plan_from start (delay_behind start delay row reading) stops
-        ≡ updates ++ ((if needed then update start row reading ∷ [] else []) ++ plan_from start (delay_behind start delay row reading) stops)
+    by : (needed : Bool) → (if needed then updates ++ update start row reading ∷ [] else updates) ++ plan_from start (delay_after start delay row reading) stops
+        ≡ updates ++ ((if needed then update start row reading ∷ [] else []) ++ plan_from start (delay_after start delay row reading) stops)
     by true = append_assoc updates _ _
     by false = refl
 

@@ -14,7 +14,7 @@ use Rattle.journey_model.specs.Runs.{Run, planned_at}
 use Rattle.journey_model.specs.Updates.{is_no_data, is_skipped, times}
 use Rattle.journey_model.specs.declared.readings.StopReading.{StopReading}
 use Rattle.journey_model.specs.declared.readings.StopReading.TheVariants.{Absent, Skipped}
-use Rattle.sparse_planner.proofs.States.{delay_behind, or-assoc, or-none, running}
+use Rattle.sparse_planner.proofs.States.{delay_after, or-assoc, or-none, running}
 
 -- how a stop reads by an update of its own
 abbrev pub own : ℤ × ℤ → StopUpdate → StopReading
@@ -26,7 +26,7 @@ walk start place delay [] placed = []
 walk start place delay (row ∷ rows) [] = running (planned start row) delay ∷ walk start (place + 1) delay rows []
 walk start place delay (row ∷ rows) (one ∷ others) =
     if one.0 == place
-    then own (planned start row) one.1 ∷ walk start (place + 1) (delay_behind start delay row (own (planned start row) one.1)) rows others
+    then own (planned start row) one.1 ∷ walk start (place + 1) (delay_after start delay row (own (planned start row) one.1)) rows others
     else running (planned start row) delay ∷ walk start (place + 1) delay rows (one ∷ others)
 
 pub rise-lower : (low high : ℕ) (placed : List (ℕ × StopUpdate)) → low ≤ high → Rise high placed → Rise low placed
@@ -56,10 +56,10 @@ delay_of run (Some one) =
     if is_no_data one.1 then None else option_map (λ (both : ℤ × ℤ). both.1 -ℤ (planned_at run one.0).1) (times (planned_at run one.0) one.1)
 
 -- after the place of an update stands what its delay supplies
-supplied-behind : (run : Run) (place : ℕ) (found : Option (ℕ × StopUpdate)) → IfSome found (λ one. one.0 < place)
+supplied-after : (run : Run) (place : ℕ) (found : Option (ℕ × StopUpdate)) → IfSome found (λ one. one.0 < place)
     → supplied run place found ≡ running (planned_at run place) (delay_of run found)
-supplied-behind run place None h = refl
-supplied-behind run place (Some one) h =
+supplied-after run place None h = refl
+supplied-after run place (Some one) h =
     rw (ne_eqb one.0 place (λ e. absurd (omega arith))) (by (is_no_data one.1) (times (planned_at run one.0) one.1))
   where
     by : (no_data : Bool) (both : Option (ℤ × ℤ))
@@ -136,7 +136,7 @@ prop-past run placed place found rest left rise =
     prop-is run placed place false found
     (left.skips place (omega arith) ∙ skips-none place (place + 1) rest (omega arith) rise)
     (left.supplier_is place (omega arith) ∙ ap (λ one. option_or one found) (supplier-none place (place + 1) rest (omega arith) rise))
-    ∙ supplied-behind run place found left.before
+    ∙ supplied-after run place found left.before
 
 -- an update that stands at the place
 skips-at : (place : ℕ) (one : ℕ × StopUpdate) (others : List (ℕ × StopUpdate)) → one.0 ≡ place → Rise (place + 1) others → skips_at place (one ∷ others) ≡ is_skipped one.1
@@ -146,7 +146,7 @@ supplier-at : (place : ℕ) (found : Option (ℕ × StopUpdate)) (one : ℕ × S
     → option_or (last_supplier place (one ∷ others)) found ≡ passed found one
 supplier-at place found one others e rise =
     supplier-passed place one others found (omega arith)
-    ∙ ap (λ behind. option_or behind (passed found one)) (supplier-none place (place + 1) others (omega arith) rise)
+    ∙ ap (λ after. option_or after (passed found one)) (supplier-none place (place + 1) others (omega arith) rise)
 
 -- what it supplies there is its own reading
 own-at : (run : Run) (place : ℕ) (found : Option (ℕ × StopUpdate)) (one : ℕ × StopUpdate) → one.0 ≡ place
@@ -170,19 +170,19 @@ prop-at run placed place found one others left e =
 
 -- the delay that an update supplies is that of its stop's reading
 delay-own : (run : Run) (row : StopRow) (found : Option (ℕ × StopUpdate)) (one : ℕ × StopUpdate) → planned_at run one.0 ≡ planned run.start row
-    → delay_of run (passed found one) ≡ delay_behind run.start (delay_of run found) row (own (planned run.start row) one.1)
+    → delay_of run (passed found one) ≡ delay_after run.start (delay_of run found) row (own (planned run.start row) one.1)
 unfolding passed
 delay-own run row found one e = by (is_skipped one.1)
   where
     timed-delay : (no_data : Bool) (both : Option (ℤ × ℤ))
         → ◌≡◌ {A = Option ℤ} (if no_data then None else option_map (λ (both : ℤ × ℤ). both.1 -ℤ (planned run.start row).1) both)
-        (delay_behind run.start (delay_of run found) row (if no_data then Absent else timed both))
+        (delay_after run.start (delay_of run found) row (if no_data then Absent else timed both))
     timed-delay true both = refl
     timed-delay false None = refl
     timed-delay false (Some both) = refl
 
     by : (skipped : Bool) → delay_of run (if skipped then found else Some one)
-        ≡ delay_behind run.start (delay_of run found) row (if skipped then Skipped else (if is_no_data one.1 then Absent else timed (times (planned run.start row) one.1)))
+        ≡ delay_after run.start (delay_of run found) row (if skipped then Skipped else (if is_no_data one.1 then Absent else timed (times (planned run.start row) one.1)))
     by true = refl
     by false = rw e (timed-delay (is_no_data one.1) (times (planned run.start row) one.1))
 
@@ -216,7 +216,7 @@ walk-is run placed front (row ∷ rows) place found (one ∷ others) stops long 
     let longer = length-more front row place long in
     let Goal : Bool → Type 0 = λ at. map (prop run placed) (range_with_len place (length (row ∷ rows)))
     ≡ (if at
-    then own (planned run.start row) one.1 ∷ walk run.start (place + 1) (delay_behind run.start (delay_of run found) row (own (planned run.start row) one.1)) rows others
+    then own (planned run.start row) one.1 ∷ walk run.start (place + 1) (delay_after run.start (delay_of run found) row (own (planned run.start row) one.1)) rows others
     else running (planned run.start row) (delay_of run found) ∷ walk run.start (place + 1) (delay_of run found) rows (one ∷ others)) in
     (elim (one.0 == place) as (λ at. (one.0 == place) ≡ at → Goal at) [
       | true ↦ λ e.
@@ -229,8 +229,8 @@ walk-is run placed front (row ∷ rows) place found (one ∷ others) stops long 
       | false ↦ λ e.
           let first : place ≤ one.0 = left.rise.0 in
           let other = eqb-false one.0 place e in
-          let behind : place + 1 ≤ one.0 = omega arith in
-          let rise : Rise (place + 1) (one ∷ others) = (behind, left.rise.1) in
+          let after : place + 1 ≤ one.0 = omega arith in
+          let rise : Rise (place + 1) (one ∷ others) = (after, left.rise.1) in
           ap₂ ◌∷◌
           (prop-past run placed place found (one ∷ others) left rise ∙ ap (λ both. running both (delay_of run found)) here)
           (walk-is run placed (front ++ row ∷ []) rows (place + 1) found (one ∷ others) more longer (past placed place found (one ∷ others) left rise))

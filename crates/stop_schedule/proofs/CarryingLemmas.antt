@@ -5,9 +5,8 @@ use Rattle.std.proofs.lemmas.List.{take_more}
 use Rattle.std.proofs.Math.Numerals.{add-one}
 use Rattle.std.proofs.lemmas.List.{append-nil, map-append, take-append-le}
 use Rattle.std.proofs.lemmas.Option.{none-some, same_Some}
-use Rattle.std.specs.List.{AllZip, list_all}
+use Rattle.std.specs.List.{AllZip}
 use Rattle.indexmap.proofs.SetLemmas.{AllZip-push}
-use Rattle.stop_schedule.proofs.IdLemmas.{and-left, and-right}
 use Rattle.stop_schedule.specs.Carrying.{Candidate, Lists, candidate, carried_to, ids_to, IsOf, Carries, Adds}
 use Rattle.stop_schedule.specs.StopTimes.{filled, least, lesser, untimed_end}
 use Rattle.stop_schedule.specs.declared.assembling.Assembled.{Assembled}
@@ -49,10 +48,6 @@ of-more rows more (trip ∷ trips) (one ∷ ones) all =
       },
       of-more rows more trips ones all.1,
     )
-
-pub carries_none : (all : Assembled) → all.stop_rows.items ≡ [] → all.carried.items ≡ [] → all.untimed ≡ None
-    → Carries all []
-carries_none all rows carried untimed = record { trips = rw carried tt; untimed_is = untimed }
 
 pub carries_one : (old new : Assembled) (ones : List Candidate) (one : Candidate) → Carries old ones
     → Adds old new one → Carries new (ones ++ one ∷ [])
@@ -129,12 +124,6 @@ carried-ids lists (suc n) =
         ≡ ids_to lists.ids lists.carried n ++ cond b (get_or lists.ids n [] ∷ []) []
     by true so_far = ap (λ (ids : List (List ℕ)). ids ++ get_or lists.ids n [] ∷ []) so_far
     by false so_far = ap (λ (ids : List (List ℕ)). ids ++ []) so_far
-
-pub flag-at : (flags : List Bool) (place : ℕ) → list_all (λ flag. flag) flags ≡ true → place < length flags
-    → get_or flags place false ≡ true
-flag-at [] place all within = absurd (omega arith)
-flag-at (flag ∷ flags) zero all within = and-left flag _ all
-flag-at (flag ∷ flags) (suc place) all within = flag-at flags place (and-right flag _ all) (omega arith)
 
 ids-first : (ids : List (List ℕ)) (carried : List Bool) (n : ℕ) → n ≤ length ids
     → ((place : ℕ) → place < length ids → get_or carried place false ≡ true)

@@ -1,11 +1,11 @@
 -- Faults of rows, and places of columns.
-use Rattle.std.proofs.Common.{◌≡◌, ◌∙◌, ◌<◌, ◌≤◌, ◌+◌, ◌||◌, nat_lt, cond, ℕ, Bool, true, false, List, [], ◌∷◌, ◌++◌, length, Option, Some, None, Result, Ok, Err, refl, ap, sym, arith, append_assoc, drop, get_or, add-one, drop-cons}
+use Rattle.std.proofs.Common.{◌≡◌, ◌∙◌, ◌<◌, ◌≤◌, ◌+◌, ℕ, Bool, true, false, List, [], ◌∷◌, ◌++◌, length, Option, Some, None, Result, Ok, Err, refl, ap, sym, arith, append_assoc, drop, get_or, add-one, drop-cons}
 use Rattle.std.specs.Str.{is_utf8}
 use Rattle.std.specs.Option.{option_or}
 use Rattle.std.specs.Bool.{MatchBool}
 use Rattle.std.specs.Prelude.{⊤}
 use Rattle.std.proofs.lemmas.Bool.Decides.{nat_tests}
-use Rattle.stop_schedule.specs.Faults.{Fits, all_text, any_long, bad_fault, common_fault, fault_if, first_bad, first_fault}
+use Rattle.stop_schedule.specs.Faults.{all_text, first_fault}
 use Rattle.stop_schedule.specs.Layout.{columns}
 use Rattle.stop_schedule.specs.Limits.{row_limit}
 use Rattle.stop_schedule.specs.Columns.{column_name}
@@ -15,7 +15,6 @@ use Rattle.stop_schedule.specs.declared.table_file.TableFile.{TableFile}
 use Rattle.stop_schedule.specs.declared.column.Column.{Column}
 use Rattle.stop_schedule.specs.declared.forms.Form.{Form}
 use Rattle.stop_schedule.specs.declared.table_fault.TableFault.{TableFault}
-use Rattle.stop_schedule.specs.declared.table_fault.TableFault.TheVariants.{NotUtf8, Limit}
 use Rattle.stop_schedule.specs.declared.table_file.TableFile.TheVariants.{Agency, Stops, Routes, Trips, Calendar, CalendarDates, Frequencies, StopTimes}
 
 -- where the first of some columns has no text, not all have
@@ -58,40 +57,11 @@ few-rows CalendarDates = omega arith
 few-rows Frequencies = omega arith
 few-rows StopTimes = omega arith
 
-by-limit : (long over : Bool) (fault : TableFault) → fault_if (long || over) fault ≡ None
-    → (long ≡ false) × (over ≡ false)
-by-limit true over fault none = cc
-by-limit false true fault none = cc
-by-limit false false fault none = (refl, refl)
-
-by-bad : (file : TableFile) (number : ℕ) (bad : Option Column) (later : Option TableFault)
-    → option_or (bad_fault file number bad) later ≡ None → (bad ≡ None) × (later ≡ None)
-by-bad file number None later none = (refl, none)
-by-bad file number (Some column) later none = cc
-
-by-text : (texts : Bool) (later : Option TableFault) (fault : TableFault) → cond texts later (Some fault) ≡ None
-    → (texts ≡ true) × (later ≡ None)
-by-text true later fault none = (refl, none)
-by-text false later fault none = cc
-
--- a row without such a fault has fields of their forms
-pub fits-from : (file : TableFile) (number : ℕ) (row : Row) → common_fault file number row ≡ None → Fits file number row
-fits-from file number row none =
-    let texts = by-text (all_text 0 (columns file) row) _ (NotUtf8 file number) none in
-    let forms = by-bad file number (first_bad 0 (columns file) row) _ texts.1 in
-    let short = by-limit (any_long 0 (columns file) row) (nat_lt (row_limit file) number) (Limit file number) forms.1 in
-    let over = short.1 in
-    record { texts = texts.0; forms = forms.0; short = short.0; counted = grind (arith, nat_tests, over) }
-
 pub both-none : (first second : Option TableFault) → first ≡ None → second ≡ None → option_or first second ≡ None
 both-none first second one two = rw (one, two) refl
 
-pub second-some : (first second : Option TableFault) (fault : TableFault) → first ≡ None → second ≡ Some fault
-    → option_or first second ≡ Some fault
-second-some first second fault one two = rw (one, two) refl
-
 module _ (fault : List Row → Row → Option TableFault) where
-  -- rows behind one without fault
+  -- rows after one without fault
   pub next-row : (before : List Row) (row : Row) (rows all : List Row) (told : Option TableFault) → all ≡ row ∷ rows
       → fault before row ≡ None
       → told ≡ first_fault fault before all → told ≡ first_fault fault (before ++ row ∷ []) rows

@@ -48,11 +48,6 @@ get_or-map f [] k d e within = absurd (omega arith)
 get_or-map f (x ∷ xs) zero d e within = refl
 get_or-map f (x ∷ xs) (suc k) d e within = get_or-map f xs k d e (omega arith)
 
-slice_get-in : {A : Type 0} (xs : List A) (k : ℕ) (d : A) → k < length xs → slice_get xs k ≡ Some (get_or xs k d)
-slice_get-in [] k d within = absurd (omega arith)
-slice_get-in (x ∷ xs) zero d within = refl
-slice_get-in (x ∷ xs) (suc k) d within = slice_get-in xs k d (omega arith)
-
 -- numbers of names
 numbered : (ids : List (List ℕ)) (numbers : List ℕ) (names : List (List ℕ)) (k : ℕ) (d : List ℕ)
     → AreNumbers ids numbers names → k < length names → slice_get ids (get_or numbers k 0) ≡ Some (get_or names k d)

@@ -121,26 +121,6 @@ are_ids-push ids id good =
     rw (list_all-append is_id ids (id ∷ []), are_distinct-push ids id)
     (push-both (list_all is_id ids) (are_distinct ids) (is_id id) (not (has_id id ids)) good)
 
-not-left : (a b : Bool) → not (a || b) ≡ true → not a ≡ true
-not-left true b h = h
-not-left false b h = refl
-
-are_distinct-front : (ids more : List (List ℕ)) → are_distinct (ids ++ more) ≡ true → are_distinct ids ≡ true
-are_distinct-front [] more h = refl
-are_distinct-front (id ∷ ids) more h =
-    let lacks = rw (list_any-append (bytes_eq id) ids more) at
-    (and-left (not (has_id id (ids ++ more))) (are_distinct (ids ++ more)) h) in
-    both_true (not-left (has_id id ids) (has_id id more) lacks)
-    (are_distinct-front ids more (and-right (not (has_id id (ids ++ more))) (are_distinct (ids ++ more)) h))
-
--- the front of ids are ids
-pub are_ids-front : (ids more : List (List ℕ)) → are_ids (ids ++ more) ≡ true → are_ids ids ≡ true
-are_ids-front ids more h =
-    let all = rw (list_all-append is_id ids more) at
-    (and-left (list_all is_id (ids ++ more)) (are_distinct (ids ++ more)) h) in
-    both_true (and-left (list_all is_id ids) (list_all is_id more) all)
-    (are_distinct-front ids more (and-right (list_all is_id (ids ++ more)) (are_distinct (ids ++ more)) h))
-
 -- ---- the limits of an id at a place
 
 pub id-at-has-bytes : (ids : List (List ℕ)) (place : ℕ) (id : List ℕ) → are_ids ids ≡ true
@@ -221,9 +201,9 @@ one-more before after true is few = omega arith
 one-more before after false is few = omega arith
 
 -- the id after others has the next number
-pub id-behind : (ids : List (List ℕ)) (id : List ℕ) → slice_get (ids ++ id ∷ []) (length ids) ≡ Some id
-id-behind [] id = refl
-id-behind (first ∷ ids) id = id-behind ids id
+pub id-after : (ids : List (List ℕ)) (id : List ℕ) → slice_get (ids ++ id ∷ []) (length ids) ≡ Some id
+id-after [] id = refl
+id-after (first ∷ ids) id = id-after ids id
 
 -- where an id is found it stands
 pub at-place : (ids : List (List ℕ)) (found : Option ℕ) (id : List ℕ) → found ≡ position (bytes_eq id) ids

@@ -1,8 +1,8 @@
 -- What is known of what was made of rows, whatever they say.
-use Rattle.std.proofs.Common.{◌≡◌, ◌<◌, ◌++◌, ℕ, zero, suc, Bool, true, false, cond, nat_le, nat_lt, List, [], ◌∷◌, length, replicate, get_or, refl, arith}
+use Rattle.std.proofs.Common.{◌≡◌, ◌<◌, ℕ, zero, suc, Bool, true, false, cond, nat_le, nat_lt, List, [], ◌∷◌, length, replicate, get_or, refl, arith}
 use Rattle.std.specs.List.{list_all}
 use Rattle.std.specs.Cmp.Derive.{both_true}
-use Rattle.std.proofs.lemmas.Bool.{le-leb, lt-ltb, ltb-true}
+use Rattle.std.proofs.lemmas.Bool.{le-leb, ltb-true}
 use Rattle.stop_schedule.specs.Keeping.{all_loaded, are_below, are_loaded, is_loaded}
 use Rattle.stop_schedule.specs.Rising.{has_sequence, is_rising}
 use Rattle.stop_schedule.specs.StopTimes.{placed}
@@ -54,10 +54,3 @@ below-at limit [] place all within = absurd (omega arith)
 below-at limit (number ∷ numbers) zero all within = ltb-true number limit (and-left (nat_lt number limit) _ all)
 below-at limit (number ∷ numbers) (suc place) all within =
     below-at limit numbers place (and-right (nat_lt number limit) _ all) (omega arith)
-
-pub below-behind : (limit : ℕ) (numbers : List ℕ) (number : ℕ) → are_below limit numbers ≡ true → number < limit
-    → are_below limit (numbers ++ number ∷ []) ≡ true
-below-behind limit [] number all less = both_true (lt-ltb number limit less) refl
-below-behind limit (first ∷ numbers) number all less =
-    both_true (and-left (nat_lt first limit) _ all)
-    (below-behind limit numbers number (and-right (nat_lt first limit) _ all) less)

@@ -41,11 +41,11 @@ list_all-set test (x ∷ xs) zero value all one = both_true one (and-right (test
 list_all-set test (x ∷ xs) (suc place) value all one =
     both_true (and-left (test x) _ all) (list_all-set test xs place value (and-right (test x) _ all) one)
 
-pub enumerate-behind : {A : Type 0} (n : ℕ) (xs : List A) (x : A)
+pub enumerate-after : {A : Type 0} (n : ℕ) (xs : List A) (x : A)
     → enumerate_from n (xs ++ x ∷ []) ≡ enumerate_from n xs ++ (n + length xs, x) ∷ []
-enumerate-behind n [] x = ap (λ k. (k, x) ∷ []) (let e : n ≡ n + 0 = omega arith in e)
-enumerate-behind n (y ∷ xs) x =
+enumerate-after n [] x = ap (λ k. (k, x) ∷ []) (let e : n ≡ n + 0 = omega arith in e)
+enumerate-after n (y ∷ xs) x =
     ap (λ rest. (n, y) ∷ rest)
-    (enumerate-behind (n + 1) xs x
+    (enumerate-after (n + 1) xs x
     ∙ ap (λ k. enumerate_from (n + 1) xs ++ (k, x) ∷ [])
     (let e : n + 1 + length xs ≡ n + suc (length xs) = omega arith in e))

@@ -13,7 +13,7 @@ use Rattle.csv.specs.declared.reader.Reader.{Reader}
 use Rattle.csv.specs.declared.reader.Trim.TheVariants as untrimmed
 use Rattle.stop_schedule.specs.RowReader.{rows_from, rows_of, IsPlainUnlessFailed}
 
--- what is left behind a record is shorter than the text, or nothing at the start of a record
+-- what is left after a record is shorter than the text, or nothing at the start of a record
 abbrev Shortens : List ℕ → Option Read → Type 0
 Shortens text None = ⊤
 Shortens text (Some read) = (length read.2 < length text) ⊎ ((read.1 ≡ st.StartRecord) × (read.2 ≡ []))
@@ -68,7 +68,7 @@ records_from-enough cfg (suc n) (suc m) state text a b =
     same-next cfg n m text _ (next_record-shortens cfg text state [] []) (omega arith) (omega arith)
     (records_from-enough cfg n m)
 
--- the first of some records, and what is left behind it
+-- the first of some records, and what is left after it
 records-next : (text : List ℕ) (o : Option Read) (found : Bool) (fields : List (List ℕ)) (after : State) (left : List ℕ)
     → Shortens text o → NextIs o found fields after left
     → MatchBool found

@@ -50,20 +50,20 @@ placed-first : (stop : LoadedStop) (stops : List LoadedStop) → all_greater sto
 placed-first stop [] greater = refl
 placed-first stop (first ∷ stops) greater = rw (and-left (nat_lt stop.sequence first.sequence) _ greater) refl
 
-pub placed-behind : (stop : LoadedStop) (front stops : List LoadedStop) → all_less stop.sequence front ≡ true
+pub placed-after : (stop : LoadedStop) (front stops : List LoadedStop) → all_less stop.sequence front ≡ true
     → placed stop (front ++ stops) ≡ front ++ placed stop stops
-placed-behind stop [] stops less = refl
-placed-behind stop (first ∷ front) stops less =
+placed-after stop [] stops less = refl
+placed-after stop (first ∷ front) stops less =
     let before = and-left (nat_lt first.sequence stop.sequence) _ less in
     let not_after : nat_lt stop.sequence first.sequence ≡ false = grind (arith, nat_tests, before) in
     rw not_after (ap (λ later. first ∷ later)
-    (placed-behind stop front stops (and-right (nat_lt first.sequence stop.sequence) _ less)))
+    (placed-after stop front stops (and-right (nat_lt first.sequence stop.sequence) _ less)))
 
 pub placed-at : (stops : List LoadedStop) (stop : LoadedStop) (place : ℕ) → IsBetween stops stop.sequence place
     → insert stops place stop ≡ placed stop stops
 placed-at stops stop place is =
     sym (ap (λ all. placed stop all) (sym (take-append-drop place stops))
-    ∙ placed-behind stop (take place stops) (drop place stops) is.before
+    ∙ placed-after stop (take place stops) (drop place stops) is.before
     ∙ ap (λ later. take place stops ++ later) (placed-first stop (drop place stops) is.after))
 
 -- ---- stops with other sequences may be placed in any order
@@ -111,12 +111,12 @@ or-false true b h = absurd (false≢true (sym h))
 or-false false b h = (refl, h)
 
 -- one more stop after others, of a sequence that none has
-pub in_sequence-behind : (stops : List LoadedStop) (stop : LoadedStop) → has_sequence stop.sequence stops ≡ false
+pub in_sequence-after : (stops : List LoadedStop) (stop : LoadedStop) → has_sequence stop.sequence stops ≡ false
     → in_sequence (stops ++ stop ∷ []) ≡ placed stop (in_sequence stops)
-in_sequence-behind [] stop none = refl
-in_sequence-behind (first ∷ stops) stop none =
+in_sequence-after [] stop none = refl
+in_sequence-after (first ∷ stops) stop none =
     let apart = or-false (stop.sequence == first.sequence) _ none in
-    ap (λ later. placed first later) (in_sequence-behind stops stop apart.1)
+    ap (λ later. placed first later) (in_sequence-after stops stop apart.1)
     ∙ sym (placed-swap stop first (in_sequence stops) apart.0)
 
 -- ---- what sorting keeps

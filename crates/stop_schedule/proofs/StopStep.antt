@@ -25,8 +25,8 @@ use Rattle.stop_schedule.specs.declared.table_file.TableFile.TheVariants.{StopTi
 use Rattle.stop_schedule.specs.declared.column.Column.TheVariants.{TripId, StopId}
 use Rattle.stop_schedule.specs.declared.table_fault.TableFault.TheVariants.{Limit, Unknown, Duplicate}
 use Rattle.stop_schedule.proofs.IdLemmas.{and-left, and-right, bytes_eq-flips, bytes_eq-refl}
-use Rattle.stop_schedule.proofs.ListLemmas.{enumerate-behind, list_all-set, set-one}
-use Rattle.stop_schedule.proofs.SequenceLemmas.{any-in_sequence, in_sequence-behind, length-in_sequence, rising-placed}
+use Rattle.stop_schedule.proofs.ListLemmas.{enumerate-after, list_all-set, set-one}
+use Rattle.stop_schedule.proofs.SequenceLemmas.{any-in_sequence, in_sequence-after, length-in_sequence, rising-placed}
 
 abbrev pub items_of : Vec LoadedStop → List LoadedStop
 items_of stops = stops.items
@@ -68,13 +68,13 @@ count-held stops trip n (row ∷ rows) = by (count-held stops trip (n + 1) rows)
     by later true = ap (λ n. suc n) later
     by later false = later
 
-held-behind : (stops : List (List ℕ)) (trip : List ℕ) (rows : List Row) (row : Row) (same : Bool)
+held-after : (stops : List (List ℕ)) (trip : List ℕ) (rows : List Row) (row : Row) (same : Bool)
     → bytes_eq trip (nth 0 row) ≡ same
     → held stops trip (enumerate_from 1 (rows ++ row ∷ [])) ≡ held stops trip (enumerate_from 1 rows)
     ++ cond same (loaded stops (length rows + 1, row) ∷ []) []
-held-behind stops trip rows row same is =
+held-after stops trip rows row same is =
     let number : 1 + length rows ≡ length rows + 1 = omega arith in
-    ap (held stops trip) (enumerate-behind 1 rows row ∙ ap (λ n. enumerate_from 1 rows ++ (n, row) ∷ []) number)
+    ap (held stops trip) (enumerate-after 1 rows row ∙ ap (λ n. enumerate_from 1 rows ++ (n, row) ∷ []) number)
     ∙ ap (map (loaded stops)) (filter-append (is_of_trip trip) (enumerate_from 1 rows) ((length rows + 1, row) ∷ []))
     ∙ map-append (loaded stops) (filter (is_of_trip trip) (enumerate_from 1 rows))
     (filter (is_of_trip trip) ((length rows + 1, row) ∷ []))
@@ -91,7 +91,7 @@ stops-other : (stops : List (List ℕ)) (rows : List Row) (row : Row) (trip : Li
     → bytes_eq (nth 0 row) trip ≡ false → stops_in stops rows trip ≡ stops_in stops (rows ++ row ∷ []) trip
 stops-other stops rows row trip apart =
     ap in_sequence (sym
-    (held-behind stops trip rows row false (bytes_eq-flips trip (nth 0 row) ∙ apart)
+    (held-after stops trip rows row false (bytes_eq-flips trip (nth 0 row) ∙ apart)
     ∙ append-nil (held stops trip (enumerate_from 1 rows))))
 
 stops-self : (stops : List (List ℕ)) (rows : List Row) (row : Row)
@@ -102,8 +102,8 @@ stops-self stops rows row none =
     let lacks : has_sequence (sequence_of row) (held stops (nth 0 row) (enumerate_from 1 rows)) ≡ false =
     sym (any-in_sequence (λ stop. sequence_of row == stop.sequence) (held stops (nth 0 row) (enumerate_from 1 rows)))
     ∙ none in
-    ap in_sequence (held-behind stops (nth 0 row) rows row true (bytes_eq-refl (nth 0 row)))
-    ∙ in_sequence-behind (held stops (nth 0 row) (enumerate_from 1 rows)) (loaded stops (length rows + 1, row)) lacks
+    ap in_sequence (held-after stops (nth 0 row) rows row true (bytes_eq-refl (nth 0 row)))
+    ∙ in_sequence-after (held stops (nth 0 row) (enumerate_from 1 rows)) (loaded stops (length rows + 1, row)) lacks
 
 -- an earlier row has the trip and the sequence
 pub has-in : (stops : List (List ℕ)) (rows : List Row) (row : Row)

@@ -7,11 +7,11 @@ use Rattle.stop_schedule.specs.Ids.{has_id, with_id}
 use Rattle.stop_schedule.specs.Sheet.{Row, nth}
 use Rattle.stop_schedule.proofs.ServiceLemmas.{extends-with, numbers-grow}
 
-numbers-behind : (ids : List (List ℕ)) (numbers : List ℕ) (number column : ℕ) (before : List Row) (row : Row)
+numbers-after : (ids : List (List ℕ)) (numbers : List ℕ) (number column : ℕ) (before : List Row) (row : Row)
     → AreNumbers ids numbers (map (nth column) before)
     → slice_get ids number ≡ Some (nth column row)
     → AreNumbers ids (numbers ++ number ∷ []) (map (nth column) (before ++ row ∷ []))
-numbers-behind ids numbers number column before row are at =
+numbers-after ids numbers number column before row are at =
     map-append (slice_get ids) numbers (number ∷ []) ∙ ap (λ front. front ++ slice_get ids number ∷ []) are
     ∙ ap (λ last. map Some (map (nth column) before) ++ last ∷ []) at
     ∙ sym (map-append Some (map (nth column) before) (nth column row ∷ []))
@@ -26,8 +26,8 @@ pub trip-held : (routes services trips more all : List (List ℕ))
 trip-held routes services trips more all trip_routes trip_services more_routes more_services route service before row
     holds on_route grown on_service added one two = record {
       ids = added ∙ ap (λ ids. ids ++ nth 0 row ∷ []) holds.ids ∙ sym (map-append (nth 0) before (row ∷ []));
-      routes_are = rw one (numbers-behind routes trip_routes route 1 before row holds.routes_are on_route);
-      services_are = rw two (numbers-behind more trip_services service 2 before row
+      routes_are = rw one (numbers-after routes trip_routes route 1 before row holds.routes_are on_route);
+      services_are = rw two (numbers-after more trip_services service 2 before row
           (rw grown (numbers-grow services (with_id (nth 2 row) services) trip_services (map (nth 2) before)
           (extends-with services (nth 2 row)) holds.services_are)) on_service);
     }

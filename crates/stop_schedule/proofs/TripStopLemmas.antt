@@ -1,26 +1,26 @@
 -- What is kept of the stops of a trip.
-use Rattle.std.proofs.Common.{◌≡◌, ◌∙◌, ◌<◌, ◌+◌, ℕ, zero, suc, true, List, [], ◌∷◌, ◌++◌, length, drop, get_or, drop-cons, refl, ap, sym, add-one, append_assoc, arith}
+use Rattle.std.proofs.Common.{◌≡◌, ◌∙◌, ◌<◌, ◌+◌, ℕ, zero, suc, true, List, [], ◌∷◌, ◌++◌, length, get_or, refl, ap, sym, arith}
 use Rattle.std.proofs.lemmas.List.{append-nil}
 use Rattle.stop_schedule.specs.Rising.{all_less, is_rising}
 use Rattle.stop_schedule.specs.StopTimes.{placed}
 use Rattle.stop_schedule.specs.TripStops.{Places, all_expanded, expanded}
 use Rattle.stop_schedule.specs.declared.stop_times.LoadedStop.{LoadedStop}
 use Rattle.stop_schedule.specs.declared.trip_stops.BriefStop.{BriefStop}
-use Rattle.stop_schedule.proofs.SequenceLemmas.{less-apart, less-front, placed-behind}
+use Rattle.stop_schedule.proofs.SequenceLemmas.{less-apart, less-front, placed-after}
 
 pub length-expanded : (row minute : ℕ) (stops : List BriefStop) → length (all_expanded row minute stops) ≡ length stops
 length-expanded row minute [] = refl
 length-expanded row minute (stop ∷ stops) = ap (λ n. suc n) (length-expanded (row + 1) minute stops)
 
-pub expanded-behind : (row minute : ℕ) (stops : List BriefStop) (stop : BriefStop)
+pub expanded-after : (row minute : ℕ) (stops : List BriefStop) (stop : BriefStop)
     → all_expanded row minute (stops ++ stop ∷ []) ≡ all_expanded row minute stops
     ++ expanded (row + length stops) minute stop ∷ []
-expanded-behind row minute [] stop = let same : row ≡ row + 0 =
+expanded-after row minute [] stop = let same : row ≡ row + 0 =
     omega arith in ap (λ n. expanded n minute stop ∷ []) same
-expanded-behind row minute (first ∷ stops) stop =
+expanded-after row minute (first ∷ stops) stop =
     let same : row + 1 + length stops ≡ row + suc (length stops) = omega arith in
     ap (λ later. expanded row minute first ∷ later)
-    (expanded-behind (row + 1) minute stops stop
+    (expanded-after (row + 1) minute stops stop
     ∙ ap (λ n. all_expanded (row + 1) minute stops ++ expanded n minute stop ∷ []) same)
 
 sequence-at : (row minute : ℕ) (stops : List BriefStop) (k : ℕ) (d : BriefStop) (e : LoadedStop) → k < length stops
@@ -40,25 +40,10 @@ less-all row minute stops k d sequence long less rising =
     less-front all [] sequence k e (length-expanded row minute stops ∙ long) (ap is_rising (append-nil all) ∙ rising)
     (rw same less)
 
--- one stop more is spread
-pub spread-next : (row minute place : ℕ) (stops : List BriefStop) (d : BriefStop) (into all : List LoadedStop)
-    → place < length stops
-    → into ++ all_expanded (row + place) minute (drop place stops) ≡ all
-    → (into ++ expanded (row + place) minute (get_or stops place d) ∷ [])
-    ++ all_expanded (row + (place + 1)) minute (drop (place + 1) stops) ≡ all
-spread-next row minute place stops d into all within so_far =
-    let stop = get_or stops place d in
-    let cell : drop place stops ≡ stop ∷ drop (place + 1) stops = rw (add-one place) (drop-cons stops place d within) in
-    let same : row + (place + 1) ≡ row + place + 1 = omega arith in
-    append_assoc into (expanded (row + place) minute stop ∷ [])
-    (all_expanded (row + (place + 1)) minute (drop (place + 1) stops))
-    ∙ ap (λ n. into ++ (expanded (row + place) minute stop ∷ all_expanded n minute (drop (place + 1) stops))) same
-    ∙ ap (λ left. into ++ all_expanded (row + place) minute left) (sym cell) ∙ so_far
-
 -- a stop after those of less sequences is at its place
-pub places-behind : (stop : LoadedStop) (stops : List LoadedStop) → all_less stop.sequence stops ≡ true
+pub places-after : (stop : LoadedStop) (stops : List LoadedStop) → all_less stop.sequence stops ≡ true
     → Places stop stops (stops ++ stop ∷ []) true
-places-behind stop stops less = (
+places-after stop stops less = (
   less-apart stop.sequence stops less,
-  sym (placed-behind stop stops [] less) ∙ ap (λ (all : List LoadedStop). placed stop all) (append-nil stops),
+  sym (placed-after stop stops [] less) ∙ ap (λ (all : List LoadedStop). placed stop all) (append-nil stops),
 )

@@ -17,13 +17,13 @@ use Rattle.stop_schedule.specs.declared.table_fault.TableFault.{TableFault}
 use Rattle.stop_schedule.specs.declared.table_fault.TableFault.TheVariants.{Limit, Zones, Unknown, Duplicate}
 
 -- the number of the row after these
-abbrev pub number_behind : List Row → ℕ
-number_behind before = length before + 1
+abbrev pub number_after : List Row → ℕ
+number_after before = length before + 1
 
 -- an id stands in no earlier row
 abbrev pub duplicate_fault : TableFile → List Row → Row → Option TableFault
 duplicate_fault file before row =
-    fault_if (has_id (nth own_id row) (map (nth own_id) before)) (Duplicate file (number_behind before))
+    fault_if (has_id (nth own_id row) (map (nth own_id) before)) (Duplicate file (number_after before))
 
 abbrev pub first_row : List Row → Option Row
 first_row [] = None
@@ -35,13 +35,13 @@ differs None row = false
 differs (Some first) row = not (bytes_eq (nth agency_timezone first) (nth agency_timezone row))
 
 abbrev pub zone_fault : List Row → Row → Option TableFault
-zone_fault before row = fault_if (differs (first_row before) row) (Zones (number_behind before))
+zone_fault before row = fault_if (differs (first_row before) row) (Zones (number_after before))
 
 -- trips.txt, of which these are the ids of the routes
 abbrev pub trip_fault : List (List ℕ) → List Row → Row → Option TableFault
 trip_fault routes before row =
     option_or
-    (fault_if (not (has_id (nth trips_route_id row) routes)) (Unknown Trips (number_behind before) Column.RouteId))
+    (fault_if (not (has_id (nth trips_route_id row) routes)) (Unknown Trips (number_after before) Column.RouteId))
     (duplicate_fault Trips before row)
 
 -- calendar.txt and calendar_dates.txt
@@ -51,13 +51,13 @@ calendar_fault before row = duplicate_fault Calendar before row
 abbrev pub date_fault : List Row → Row → Option TableFault
 date_fault before row =
     fault_if (list_any (λ other. is_exception (nth dates_service_id row) (day_of_row row) other) before)
-    (Duplicate CalendarDates (number_behind before))
+    (Duplicate CalendarDates (number_after before))
 
 -- frequencies.txt, of which these are the ids of the trips
 abbrev pub frequency_fault : List (List ℕ) → List Row → Row → Option TableFault
 frequency_fault trips before row =
     fault_if (not (has_id (nth frequencies_trip_id row) trips))
-    (Unknown Frequencies (number_behind before) Column.TripId)
+    (Unknown Frequencies (number_after before) Column.TripId)
 
 -- the rows have the same trip
 abbrev pub same_trip : Row → Row → Bool
@@ -68,12 +68,12 @@ same_trip row other = bytes_eq (nth stop_times_trip_id row) (nth stop_times_trip
 abbrev pub stop_time_fault : List (List ℕ) → List (List ℕ) → List Row → Row → Option TableFault
 stop_time_fault trips stops before row =
     option_or
-    (fault_if (nat_le stop_limit (length (filter (same_trip row) before))) (Limit StopTimes (number_behind before)))
+    (fault_if (nat_le stop_limit (length (filter (same_trip row) before))) (Limit StopTimes (number_after before)))
     (option_or
     (fault_if (not (has_id (nth stop_times_trip_id row) trips))
-    (Unknown StopTimes (number_behind before) Column.TripId))
+    (Unknown StopTimes (number_after before) Column.TripId))
     (option_or
     (fault_if (not (has_id (nth stop_times_stop_id row) stops))
-    (Unknown StopTimes (number_behind before) Column.StopId))
+    (Unknown StopTimes (number_after before) Column.StopId))
     (fault_if (list_any (λ other. same_trip row other && (sequence_of row == sequence_of other)) before)
-    (Duplicate StopTimes (number_behind before)))))
+    (Duplicate StopTimes (number_after before)))))

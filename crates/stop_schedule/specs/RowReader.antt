@@ -6,7 +6,7 @@ use Rattle.csv.specs.declared.parser.State.{State}
 use Rattle.csv.specs.declared.reader.Reader.{Reader}
 use Rattle.csv.specs.declared.reader.Trim.TheVariants as untrimmed
 
--- the row at hand, and the rows that are left behind it
+-- the row at hand, and the rows that are left after it
 pub record RowsLeft : Type 0 where
   pub row : List (List ℕ)
   pub left : List (List (List ℕ))

@@ -4,7 +4,7 @@ use Rattle.std.specs.Str.{bytes_eq}
 use Rattle.csv.specs.Reading.{default_config, records, strip_bom}
 use Rattle.stop_schedule.specs.Fields.{trimmed}
 
--- the records of comma separated, quoted fields that stand behind one byte order mark, if there is one
+-- the records of comma separated, quoted fields that stand after one byte order mark, if there is one
 abbrev pub rows : List ℕ → List (List (List ℕ))
 rows bytes = records default_config (strip_bom bytes)
 

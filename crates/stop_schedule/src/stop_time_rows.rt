@@ -267,17 +267,11 @@ impl<'a> TakesRows for StopTimeRows<'a> {
         alloc: Global,
         sheet: &Sheet<'_>,
         number: u64,
-    ) -> Result<bool, TableFault> {
+    ) -> Option<Result<(), TableFault>> {
         let stop = self.next_stop.next();
-        let Some((trip, loaded)) = known_row(self.trips, self.stops, sheet, number, self.last, stop)
-        else {
-            return Ok(false);
-        };
+        let (trip, loaded) = known_row(self.trips, self.stops, sheet, number, self.last, stop)?;
         self.next_stop.note(loaded.stop.0);
         self.last = begin_trip(&mut self.by_trip, self.last, trip);
-        match put(alloc, &mut self.by_trip, trip, loaded, number) {
-            Ok(()) => Ok(true),
-            Err(fault) => Err(fault),
-        }
+        Some(put(alloc, &mut self.by_trip, trip, loaded, number))
     }
 }

@@ -1,11 +1,9 @@
 //! The rows of a file, taken one after the other by what is made of them.
-ghost use Rattle.std.specs.Prelude.{◌≡◌, ◌≤◌, ◌+◌, ◌++◌, ◌∷◌, [], ℕ, true, if◌then◌else◌, None, Some, List, length, OnOk, IfErr, IfSome, IfOk};
-ghost use Rattle.std.specs.Bool.{MatchBool};
-ghost use Rattle.gw_base.specs.Answers.{UnlessFree};
+ghost use Rattle.std.specs.Prelude.{◌≡◌, ◌≤◌, ◌+◌, ◌++◌, ◌∷◌, [], ℕ, Some, List, length, OnOk, IfNone, IfSome};
 ghost use Rattle.gw_base.specs.Count.{Counts};
 ghost use Rattle.gw_base.specs.Directory.{bytes_of};
 ghost use Rattle.stop_schedule.specs.Failures.{IfFailed};
-ghost use Rattle.stop_schedule.specs.Answers.{Finds, FindsKnown, HasFailed, is_free};
+ghost use Rattle.stop_schedule.specs.Answers.{Finds, HasFailed};
 ghost use Rattle.stop_schedule.specs.Keeping.{KeepsTo};
 ghost use Rattle.stop_schedule.specs.Limits.{row_limit};
 ghost use Rattle.stop_schedule.specs.Faults.{Fits, fault_in, first_fault, row_fault as fault_of_row};
@@ -61,27 +59,27 @@ pub(crate) trait TakesRows {
         ensures same_given { given self.new ≡ given self.old }
         ensures no_failure { HasFailed result → ⊥ };
 
-    /// Takes the row at hand where it is seen at once that its fields have their forms, and says whether it was
-    /// taken, or tells its fault.
+    /// Takes the row at hand, or tells its fault, where it is seen at once that its fields have their forms. Where it
+    /// isn't seen, nothing changes.
     fn take_known(
         &mut self,
         _alloc: Global,
         sheet: &Sheet<'_>,
         number: u64,
-    ) -> Result<bool, TableFault>
+    ) -> Option<Result<(), TableFault>>
         requires { Keeps self.old number }
         ensures takes { (start : Self) (before : List Row) → Holds start self.old before → number ≡ length before + 1
-            → FindsKnown (fault_of_row (file_of self.old) (fault self.old) before sheet.now.row)
-            (Holds start self.new before)
-            (Holds start self.new (before ++ sheet.now.row ∷ [])) result }
-        ensures few { IfOk result (λ taken. taken ≡ true → number ≤ row_limit (file_of self.old)) }
-        ensures keeps { IfOk result (λ taken. Keeps self.new (if taken then number + 1 else number)) }
+            → IfSome result (Finds (fault_of_row (file_of self.old) (fault self.old) before sheet.now.row)
+            (λ _. Holds start self.new (before ++ sheet.now.row ∷ []))) }
+        ensures unseen { IfNone result (self.new ≡ self.old) }
+        ensures few { IfSome result (λ taken. OnOk taken (number ≤ row_limit (file_of self.old))) }
+        ensures keeps { IfSome result (λ taken. OnOk taken (Keeps self.new (number + 1))) }
         ensures same_fault { fault self.new ≡ fault self.old }
         ensures same_file { file_of self.new ≡ file_of self.old }
         ensures same_given { given self.new ≡ given self.old }
-        ensures no_failure { HasFailed result → ⊥ }
+        ensures no_failure { IfSome result (λ taken. HasFailed taken → ⊥) }
     {
-        Ok(false)
+        None
     }
 }
 
@@ -103,10 +101,8 @@ fn take_row<T: TakesRows>(
     ensures same_given { T.given taker.new ≡ T.given taker.old }
     ensures no_failure { HasFailed result → ⊥ }
 {
-    match taker.take_known(alloc, sheet, number) {
-        Ok(true) => return Ok(()),
-        Ok(false) => {}
-        Err(fault) => return Err(fault),
+    if let Some(taken) = taker.take_known(alloc, sheet, number) {
+        return taken;
     }
     if let Some(fault) = row_fault(sheet, taker.file(), number) {
         return Err(fault);

@@ -104,7 +104,7 @@ fn expanded(row: u64, minute: u16, stop: &BriefStop) -> LoadedStop
 }
 
 // Whether a sequence is greater than the last stop's.
-fn is_behind(stops: &[BriefStop], sequence: u32) -> bool
+fn is_after(stops: &[BriefStop], sequence: u32) -> bool
     ensures { result ≡ true → (row minute : ℕ) → spec.IsBehind (spec.all_expanded row minute stops.now) sequence }
 {
     match stops {
@@ -137,7 +137,7 @@ fn append(held: &mut BriefStops, stop: &LoadedStop) -> Result<bool, AllocError>
         (λ added. spec.brief_stops held.new ≡ spec.with_stop added stop.now (spec.brief_stops held.old)) }
     ensures less { IfOk result (λ added. added ≡ true → spec.IsBehind (spec.brief_stops held.old) stop.now.sequence) }
 {
-    if !is_behind(held.stops.as_slice(), stop.sequence) {
+    if !is_after(held.stops.as_slice(), stop.sequence) {
         return Ok(false);
     }
     begin(held, stop);

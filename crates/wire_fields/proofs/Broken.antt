@@ -71,13 +71,13 @@ walked_whole number a b w h = open_close w.room number a b w.is_open h
 -- ---- no item follows
 
 -- whatever item the bytes begin with, this is it
-the_item : (tail rest first behind : List ℕ) (item other : Item) → item_at tail ≡ Ok (item, rest) → tail ≡ first ++ behind → IsItem other first → item ≡ other
-the_item tail rest first behind item other e parts h =
-    ap (λ (p : Item × List ℕ). p.0) (ok_is (item, rest) (other, behind) (sym e ∙ ap item_at parts ∙ item_again other first behind h))
+the_item : (tail rest first after : List ℕ) (item other : Item) → item_at tail ≡ Ok (item, rest) → tail ≡ first ++ after → IsItem other first → item ≡ other
+the_item tail rest first after item other e parts h =
+    ap (λ (p : Item × List ℕ). p.0) (ok_is (item, rest) (other, after) (sym e ∙ ap item_at parts ∙ item_again other first after h))
 
-no_item : (tail first behind : List ℕ) (other : Item) (k : WireKind) → item_at tail ≡ Err k → tail ≡ first ++ behind → IsItem other first → ⊥
-no_item tail first behind other k e parts h =
-    let d = sym e ∙ ap item_at parts ∙ item_again other first behind h in absurd cc
+no_item : (tail first after : List ℕ) (other : Item) (k : WireKind) → item_at tail ≡ Err k → tail ≡ first ++ after → IsItem other first → ⊥
+no_item tail first after other k e parts h =
+    let d = sym e ∙ ap item_at parts ∙ item_again other first after h in absurd cc
 
 -- why no item follows where these groups are open
 pub record IsStop (groups tail : List ℕ) (kind : WireKind) : Type 0 where
@@ -107,8 +107,8 @@ pub stop_at_end : (groups tail rest : List ℕ) (number : ℕ) → item_at tail 
 stop_at_end groups tail rest number e none =
     let f = item_found tail (Ends number) rest e in
     record {
-      no_step = λ item first behind now parts h step.
-          let same : Ends number ≡ item = the_item tail rest first behind (Ends number) item e parts h in
+      no_step = λ item first after now parts h step.
+          let same : Ends number ≡ item = the_item tail rest first after (Ends number) item e parts h in
           let d : open_after_item groups (Ends number) ≡ Some now = ap (λ (i : Item). open_after_item groups i) same ∙ step in
           absurd cc;
       kind_is = (f.0, rest, number, f.1, f.2, none);
@@ -118,8 +118,8 @@ pub stop_at_start : (groups tail rest : List ℕ) (number : ℕ) → item_at tai
 stop_at_start groups tail rest number e full =
     let f = item_found tail (holding number Group) rest e in
     record {
-      no_step = λ item first behind now parts h step.
-          let same : holding number Group ≡ item = the_item tail rest first behind (holding number Group) item e parts h in
+      no_step = λ item first after now parts h step.
+          let same : holding number Group ≡ item = the_item tail rest first after (holding number Group) item e parts h in
           let d : open_after_item groups (holding number Group) ≡ Some now = ap (λ (i : Item). open_after_item groups i) same ∙ step in
           let none' = after_deep groups number full in
           absurd cc;

@@ -32,8 +32,8 @@ unfolding bytes_at
 bytes_cut size bytes lt = rw (lt-ltb (length bytes) size lt) refl
 
 -- after a tag its payload is read
-behind_tag : (number type : ℕ) (tag rest bytes : List ℕ) → bytes ≡ tag ++ rest → IsTag number type tag → type ≤ 5 → item_at bytes ≡ payload_at number type rest
-behind_tag number type tag rest bytes e h few =
+after_tag : (number type : ℕ) (tag rest bytes : List ℕ) → bytes ≡ tag ++ rest → IsTag number type tag → type ≤ 5 → item_at bytes ≡ payload_at number type rest
+after_tag number type tag rest bytes e h few =
     let value = number * 8 + type in
     let read : varint_at bytes ≡ Ok (value, rest) = rw e (varint_again tag rest value h.0) in
     let number_is : value / 8 ≡ number = omega arith in
@@ -72,15 +72,15 @@ pub part_cut : (part : Part) (bytes : List ℕ) → IsPart part bytes → item_a
 part_cut parts.Nothing bytes h = rw h nothing_cut
 part_cut (parts.Tag chain) bytes h = tag_cut chain bytes h.1
 part_cut (parts.Value chain) bytes h =
-    behind_tag h.0 0 h.1.0 h.1.1 bytes h.1.2 h.1.3 (omega arith) ∙ value_cut h.0 chain h.1.1 h.1.4
+    after_tag h.0 0 h.1.0 h.1.1 bytes h.1.2 h.1.3 (omega arith) ∙ value_cut h.0 chain h.1.1 h.1.4
 part_cut (parts.Size number chain) bytes h =
-    behind_tag number 2 h.0 h.1 bytes h.2 h.3 (omega arith) ∙ size_cut number chain h.1 h.4
+    after_tag number 2 h.0 h.1 bytes h.2 h.3 (omega arith) ∙ size_cut number chain h.1 h.4
 part_cut (parts.Payload number len left) bytes h =
-    behind_tag number 2 h.0 h.1 bytes h.2 h.3 (omega arith) ∙ body_cut number len left h.1 h.4.0 h.4.1 h.4.2 h.4.3 h.4.4
+    after_tag number 2 h.0 h.1 bytes h.2 h.3 (omega arith) ∙ body_cut number len left h.1 h.4.0 h.4.1 h.4.2 h.4.3 h.4.4
 part_cut (parts.Eight left) bytes h =
-    behind_tag h.0 1 h.1.0 h.1.1 bytes h.1.2 h.1.3 (omega arith) ∙ eight_cut h.0 left h.1.1 h.1.4
+    after_tag h.0 1 h.1.0 h.1.1 bytes h.1.2 h.1.3 (omega arith) ∙ eight_cut h.0 left h.1.1 h.1.4
 part_cut (parts.Four left) bytes h =
-    behind_tag h.0 5 h.1.0 h.1.1 bytes h.1.2 h.1.3 (omega arith) ∙ four_cut h.0 left h.1.1 h.1.4
+    after_tag h.0 5 h.1.0 h.1.1 bytes h.1.2 h.1.3 (omega arith) ∙ four_cut h.0 left h.1.1 h.1.4
 
 -- ---- a part of an item has some bytes
 

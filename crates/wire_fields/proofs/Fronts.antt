@@ -93,5 +93,5 @@ next_broken bytes at kind fields le ne h k = record {
 -- where a field begins, the bytes don't break
 pub next_not_broken : (bytes rest : List ℕ) (at : ℕ) (field : WireField) (kind : WireKind) → BeginsField (drop at bytes) field rest → IsBroken bytes at kind → ⊥
 next_not_broken bytes rest at field kind h b =
-    let behind : drop at bytes ≡ b.rest = ap (λ (l : List ℕ). drop at l) b.joined ∙ drop_at b.front b.rest at b.place in
-    b.breaks.none field h.0 rest (sym behind ∙ h.1) h.2
+    let later : drop at bytes ≡ b.rest = ap (λ (l : List ℕ). drop at l) b.joined ∙ drop_at b.front b.rest at b.place in
+    b.breaks.none field h.0 rest (sym later ∙ h.1) h.2

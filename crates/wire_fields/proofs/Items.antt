@@ -90,12 +90,12 @@ FindsPayload number type bytes =
     → (payload : List ℕ) × (bytes ≡ payload ++ rest) × IsItemPayload item payload × (number_of_item item ≡ number) × (type_of_item item ≡ type)
 
 -- an item and a rest that are known
-finds : (number type : ℕ) (bytes : List ℕ) (known item : Item) (behind rest : List ℕ) → ◌≡◌ {A = Result (Item × List ℕ) WireKind} (Ok (known, behind)) (Ok (item, rest))
-    → (payload : List ℕ) → bytes ≡ payload ++ behind → IsItemPayload known payload → number_of_item known ≡ number → type_of_item known ≡ type
+finds : (number type : ℕ) (bytes : List ℕ) (known item : Item) (after rest : List ℕ) → ◌≡◌ {A = Result (Item × List ℕ) WireKind} (Ok (known, after)) (Ok (item, rest))
+    → (payload : List ℕ) → bytes ≡ payload ++ after → IsItemPayload known payload → number_of_item known ≡ number → type_of_item known ≡ type
     → (payload : List ℕ) × (bytes ≡ payload ++ rest) × IsItemPayload item payload × (number_of_item item ≡ number) × (type_of_item item ≡ type)
-finds number type bytes known item behind rest e payload parts paid n t =
+finds number type bytes known item after rest e payload parts paid n t =
     subst (λ (p : Item × List ℕ). (payload : List ℕ) × (bytes ≡ payload ++ p.1) × IsItemPayload p.0 payload × (number_of_item p.0 ≡ number) × (type_of_item p.0 ≡ type))
-    (ok_is (known, behind) (item, rest) e) (payload, parts, paid, n, t)
+    (ok_is (known, after) (item, rest) e) (payload, parts, paid, n, t)
 
 pub payload_found : (number type : ℕ) (bytes : List ℕ) → FindsPayload number type bytes
 unfolding payload_at

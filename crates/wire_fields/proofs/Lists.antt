@@ -18,7 +18,7 @@ Concatenates-push Spells xs x a b h k = Concatenates-append Spells xs (x ∷ [])
 
 -- no spelling begins another, and none is empty
 pub record IsApart {X : Type 0} (Spells : X → List ℕ → Type 0) : Type 0 where
-  pub same : (x y : X) (a b rest behind : List ℕ) → Spells x a → Spells y b → a ++ rest ≡ b ++ behind → (x ≡ y) × (rest ≡ behind)
+  pub same : (x y : X) (a b rest after : List ℕ) → Spells x a → Spells y b → a ++ rest ≡ b ++ after → (x ≡ y) × (rest ≡ after)
   pub some : (x : X) (a : List ℕ) → Spells x a → a ≢ []
 
 -- bytes that no spelling begins
@@ -32,18 +32,18 @@ pub stops_at_end : {X : Type 0} (Spells : X → List ℕ → Type 0) → IsApart
 stops_at_end Spells apart x first rest e h = apart.some x first h (nil_front first rest (sym e))
 
 -- two lists of spellings with which the same bytes begin, and which no spelling follows, are one
-pub one_list : {X : Type 0} (Spells : X → List ℕ → Type 0) → IsApart Spells → (xs ys : List X) (a b rest behind : List ℕ)
-    → Concatenates Spells xs a → Concatenates Spells ys b → a ++ rest ≡ b ++ behind → Stops Spells rest → Stops Spells behind → (xs ≡ ys) × (rest ≡ behind)
-one_list Spells apart [] [] a b rest behind h k e ends stops = (refl, rw (h, k) at e)
-one_list Spells apart [] (y ∷ ys) a b rest behind h k e ends stops =
-    absurd (ends y k.0 (k.1 ++ behind) (sym (ap (λ (l : List ℕ). l ++ rest) h) ∙ e ∙ ap (λ (l : List ℕ). l ++ behind) k.2 ∙ append_assoc k.0 k.1 behind) k.3)
-one_list Spells apart (x ∷ xs) [] a b rest behind h k e ends stops =
-    absurd (stops x h.0 (h.1 ++ rest) (sym (ap (λ (l : List ℕ). l ++ behind) k) ∙ sym e ∙ ap (λ (l : List ℕ). l ++ rest) h.2 ∙ append_assoc h.0 h.1 rest) h.3)
-one_list {X = X} Spells apart (x ∷ xs) (y ∷ ys) a b rest behind h k e ends stops =
-    let parts : h.0 ++ (h.1 ++ rest) ≡ k.0 ++ (k.1 ++ behind) =
-    sym (append_assoc h.0 h.1 rest) ∙ sym (ap (λ (l : List ℕ). l ++ rest) h.2) ∙ e ∙ ap (λ (l : List ℕ). l ++ behind) k.2 ∙ append_assoc k.0 k.1 behind in
-    let first = apart.same x y h.0 k.0 (h.1 ++ rest) (k.1 ++ behind) h.3 k.3 parts in
-    let others = one_list Spells apart xs ys h.1 k.1 rest behind h.4 k.4 first.1 ends stops in
+pub one_list : {X : Type 0} (Spells : X → List ℕ → Type 0) → IsApart Spells → (xs ys : List X) (a b rest after : List ℕ)
+    → Concatenates Spells xs a → Concatenates Spells ys b → a ++ rest ≡ b ++ after → Stops Spells rest → Stops Spells after → (xs ≡ ys) × (rest ≡ after)
+one_list Spells apart [] [] a b rest after h k e ends stops = (refl, rw (h, k) at e)
+one_list Spells apart [] (y ∷ ys) a b rest after h k e ends stops =
+    absurd (ends y k.0 (k.1 ++ after) (sym (ap (λ (l : List ℕ). l ++ rest) h) ∙ e ∙ ap (λ (l : List ℕ). l ++ after) k.2 ∙ append_assoc k.0 k.1 after) k.3)
+one_list Spells apart (x ∷ xs) [] a b rest after h k e ends stops =
+    absurd (stops x h.0 (h.1 ++ rest) (sym (ap (λ (l : List ℕ). l ++ after) k) ∙ sym e ∙ ap (λ (l : List ℕ). l ++ rest) h.2 ∙ append_assoc h.0 h.1 rest) h.3)
+one_list {X = X} Spells apart (x ∷ xs) (y ∷ ys) a b rest after h k e ends stops =
+    let parts : h.0 ++ (h.1 ++ rest) ≡ k.0 ++ (k.1 ++ after) =
+    sym (append_assoc h.0 h.1 rest) ∙ sym (ap (λ (l : List ℕ). l ++ rest) h.2) ∙ e ∙ ap (λ (l : List ℕ). l ++ after) k.2 ∙ append_assoc k.0 k.1 after in
+    let first = apart.same x y h.0 k.0 (h.1 ++ rest) (k.1 ++ after) h.3 k.3 parts in
+    let others = one_list Spells apart xs ys h.1 k.1 rest after h.4 k.4 first.1 ends stops in
     (ap (λ (z : X). z ∷ xs) first.0 ∙ ap (λ (zs : List X). y ∷ zs) others.0, others.1)
 
 -- the same bytes are one list of spellings at most

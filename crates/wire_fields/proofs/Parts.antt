@@ -39,10 +39,10 @@ nothing_begun = record { counted = refl; few = omega arith; high = tt; value_is 
 pub long_tag : (bytes : List ℕ) → BeginsLong bytes → item_at bytes ≡ Err LongVarint
 long_tag bytes h = item_long bytes (inl h)
 
-pub long_behind : (number type : ℕ) (bytes : List ℕ) → (type ≡ 0) ⊎ (type ≡ 2) → IsTagged number type BeginsLong bytes → item_at bytes ≡ Err LongVarint
-long_behind number type bytes (inl zero_is) h =
+pub long_after : (number type : ℕ) (bytes : List ℕ) → (type ≡ 0) ⊎ (type ≡ 2) → IsTagged number type BeginsLong bytes → item_at bytes ≡ Err LongVarint
+long_after number type bytes (inl zero_is) h =
     item_long bytes (inr (h.0, h.1, number * 8 + type, h.2, h.3.0, h.3.1, inl (omega (arith, zero_is)), h.4))
-long_behind number type bytes (inr two_is) h =
+long_after number type bytes (inr two_is) h =
     item_long bytes (inr (h.0, h.1, number * 8 + type, h.2, h.3.0, h.3.1, inr (omega (arith, two_is)), h.4))
 
 pub value_plain : (number value : ℕ) (bytes : List ℕ) → IsTagged number 0 (λ rest. IsVarint rest value) bytes → IsPlain bytes

@@ -20,8 +20,8 @@ front_of_nil (x ∷ a) b e = absurd cc
 
 pub items_apart : IsApart IsItem
 items_apart = record {
-  same = λ x y a b rest behind h k e.
-      let p = ok_is (x, rest) (y, behind) (sym (item_again x a rest h) ∙ ap item_at e ∙ item_again y b behind k) in
+  same = λ x y a b rest after h k e.
+      let p = ok_is (x, rest) (y, after) (sym (item_again x a rest h) ∙ ap item_at e ∙ item_again y b after k) in
       (ap (λ (q : Item × List ℕ). q.0) p, ap (λ (q : Item × List ℕ). q.1) p);
   some = λ x a h e. no_empty_chain h.tag (front_of_nil h.tag h.payload (sym e ∙ h.joined)) h.tagged.chain;
 }
@@ -77,10 +77,10 @@ field_begins room field a h =
 
 -- no field begins with the end of a group
 pub end_stops : (room number : ℕ) (end rest : List ℕ) → IsItem (Ends number) end → Stops (IsSpelling room) (end ++ rest)
-end_stops room number end rest h field first behind e k =
+end_stops room number end rest h field first after e k =
     let b = field_begins room field first k in
-    let parts : end ++ rest ≡ b.0 ++ (b.1 ++ behind) = e ∙ ap (λ (l : List ℕ). l ++ behind) b.2 ∙ append_assoc b.0 b.1 behind in
-    let same = (items_apart.same (Ends number) (Holds field) end b.0 rest (b.1 ++ behind) h b.3 parts).0 in
+    let parts : end ++ rest ≡ b.0 ++ (b.1 ++ after) = e ∙ ap (λ (l : List ℕ). l ++ after) b.2 ∙ append_assoc b.0 b.1 after in
+    let same = (items_apart.same (Ends number) (Holds field) end b.0 rest (b.1 ++ after) h b.3 parts).0 in
     absurd cc
 
 pub regroup : (a b c d : List ℕ) → ((a ++ b) ++ c) ++ d ≡ a ++ (b ++ (c ++ d))
@@ -93,28 +93,28 @@ pub held : (x y : WireField) → Holds x ≡ Holds y → x ≡ y
 held x y e = cc
 
 -- two groups with which the same bytes begin
-groups_same : (low n m : ℕ) (a b rest behind : List ℕ) → IsApart (IsSpelling low) → IsGroup (IsSpelling low) n a → IsGroup (IsSpelling low) m b → a ++ rest ≡ b ++ behind → (n ≡ m) × (rest ≡ behind)
-groups_same low n m a b rest behind apart g k e =
+groups_same : (low n m : ℕ) (a b rest after : List ℕ) → IsApart (IsSpelling low) → IsGroup (IsSpelling low) n a → IsGroup (IsSpelling low) m b → a ++ rest ≡ b ++ after → (n ≡ m) × (rest ≡ after)
+groups_same low n m a b rest after apart g k e =
     let left : a ++ rest ≡ g.start ++ (g.inside ++ (g.end ++ rest)) = ap (λ (l : List ℕ). l ++ rest) g.joined ∙ regroup g.start g.inside g.end rest in
-    let right : b ++ behind ≡ k.start ++ (k.inside ++ (k.end ++ behind)) = ap (λ (l : List ℕ). l ++ behind) k.joined ∙ regroup k.start k.inside k.end behind in
-    let starts = items_apart.same (holding n Group) (holding m Group) g.start k.start (g.inside ++ (g.end ++ rest)) (k.inside ++ (k.end ++ behind)) g.starts k.starts (sym left ∙ e ∙ right) in
-    let insides = one_list (IsSpelling low) apart g.fields k.fields g.inside k.inside (g.end ++ rest) (k.end ++ behind) g.holds k.holds starts.1 (end_stops low n g.end rest g.ends) (end_stops low m k.end behind k.ends) in
-    let ends = items_apart.same (Ends n) (Ends m) g.end k.end rest behind g.ends k.ends insides.1 in
+    let right : b ++ after ≡ k.start ++ (k.inside ++ (k.end ++ after)) = ap (λ (l : List ℕ). l ++ after) k.joined ∙ regroup k.start k.inside k.end after in
+    let starts = items_apart.same (holding n Group) (holding m Group) g.start k.start (g.inside ++ (g.end ++ rest)) (k.inside ++ (k.end ++ after)) g.starts k.starts (sym left ∙ e ∙ right) in
+    let insides = one_list (IsSpelling low) apart g.fields k.fields g.inside k.inside (g.end ++ rest) (k.end ++ after) g.holds k.holds starts.1 (end_stops low n g.end rest g.ends) (end_stops low m k.end after k.ends) in
+    let ends = items_apart.same (Ends n) (Ends m) g.end k.end rest after g.ends k.ends insides.1 in
     (end_number n m ends.0, ends.1)
 
 -- no spelling of a field begins another
-fields_same : (room : ℕ) → ((low : ℕ) → room ≡ suc low → IsApart (IsSpelling low)) → (x y : WireField) (a b rest behind : List ℕ)
-    → IsSpelling room x a → IsSpelling room y b → a ++ rest ≡ b ++ behind → (x ≡ y) × (rest ≡ behind)
-fields_same room apart x y a b rest behind h k e =
+fields_same : (room : ℕ) → ((low : ℕ) → room ≡ suc low → IsApart (IsSpelling low)) → (x y : WireField) (a b rest after : List ℕ)
+    → IsSpelling room x a → IsSpelling room y b → a ++ rest ≡ b ++ after → (x ≡ y) × (rest ≡ after)
+fields_same room apart x y a b rest after h k e =
     let p = field_begins room x a h in
     let q = field_begins room y b k in
-    let parts : p.0 ++ (p.1 ++ rest) ≡ q.0 ++ (q.1 ++ behind) =
-    sym (ap (λ (l : List ℕ). l ++ rest) p.2 ∙ append_assoc p.0 p.1 rest) ∙ e ∙ ap (λ (l : List ℕ). l ++ behind) q.2 ∙ append_assoc q.0 q.1 behind in
-    let same = items_apart.same (Holds x) (Holds y) p.0 q.0 (p.1 ++ rest) (q.1 ++ behind) p.3 q.3 parts in
+    let parts : p.0 ++ (p.1 ++ rest) ≡ q.0 ++ (q.1 ++ after) =
+    sym (ap (λ (l : List ℕ). l ++ rest) p.2 ∙ append_assoc p.0 p.1 rest) ∙ e ∙ ap (λ (l : List ℕ). l ++ after) q.2 ∙ append_assoc q.0 q.1 after in
+    let same = items_apart.same (Holds x) (Holds y) p.0 q.0 (p.1 ++ rest) (q.1 ++ after) p.3 q.3 parts in
     let field : x ≡ y = held x y same.0 in
     elim (field_cases room x a h) [
       | inl whole ↦ elim (field_cases room y b k) [
-        | inl other ↦ (field, (items_apart.same (Holds x) (Holds y) a b rest behind whole.1 other.1 e).1)
+        | inl other ↦ (field, (items_apart.same (Holds x) (Holds y) a b rest after whole.1 other.1 e).1)
         | inr group ↦ absurd (whole.0 (ap (λ (f : WireField). f.payload) field ∙ group.0))
       ]
       | inr group ↦ elim (field_cases room y b k) [
@@ -122,7 +122,7 @@ fields_same room apart x y a b rest behind h k e =
         | inr twin ↦
             let low_is : twin.1.0 ≡ group.1.0 = omega (arith, group.1.1, twin.1.1) in
             let g : IsGroup (IsSpelling group.1.0) y.number b = subst (λ (n : ℕ). IsGroup (IsSpelling n) y.number b) low_is twin.1.2 in
-            (field, (groups_same group.1.0 x.number y.number a b rest behind (apart group.1.0 group.1.1) group.1.2 g e).1)
+            (field, (groups_same group.1.0 x.number y.number a b rest after (apart group.1.0 group.1.1) group.1.2 g e).1)
       ]
     ]
 

@@ -19,11 +19,11 @@ Follows number items =
     (innermost : ℕ) (groups last a b rest : List ℕ) → HasWalked number (innermost ∷ groups) a → Concatenates IsItem items b
     → open_after (innermost ∷ groups) items ≡ Some last → BeginsNone ((a ++ b) ++ rest) → IsWalked last (a ++ b)
 
-walked_behind : (number : ℕ) (items : List Item) → Follows number items → (now last a b rest : List ℕ) → HasWalked number now a → Concatenates IsItem items b
+walked_after : (number : ℕ) (items : List Item) → Follows number items → (now last a b rest : List ℕ) → HasWalked number now a → Concatenates IsItem items b
     → open_after now items ≡ Some last → BeginsNone ((a ++ b) ++ rest) → IsWalked last (a ++ b)
-walked_behind number items on [] last a b rest w h e none =
+walked_after number items on [] last a b rest w h e none =
     absurd (none (record { number = number; payload = Group }) a (b ++ rest) (append_assoc a b rest) w)
-walked_behind number items on (innermost ∷ groups) last a b rest w h e none = on innermost groups last a b rest w h e none
+walked_after number items on (innermost ∷ groups) last a b rest w h e none = on innermost groups last a b rest w h e none
 
 walked_from : (number : ℕ) (items : List Item) → Follows number items
 walked_from number [] innermost groups last a b rest w h e none =
@@ -34,7 +34,7 @@ walked_from number (item ∷ items) innermost groups last a b rest w h e none =
     let further = walk_on number (innermost ∷ groups) step.0 item a h.0 w (λ d. absurd cc) h.3 step.1 in
     let parts : a ++ b ≡ (a ++ h.0) ++ h.1 = ap (λ (l : List ℕ). a ++ l) h.2 ∙ sym (append_assoc a h.0 h.1) in
     let begins : BeginsNone (((a ++ h.0) ++ h.1) ++ rest) = rw (← parts) none in
-    rw parts (walked_behind number items (walked_from number items) step.0 last (a ++ h.0) h.1 rest further h.4 step.2 begins)
+    rw parts (walked_after number items (walked_from number items) step.0 last (a ++ h.0) h.1 rest further h.4 step.2 begins)
 
 -- the first item starts a group
 walked_first : (number : ℕ) (payload : Payload) (items : List Item) (last first b rest : List ℕ) → IsItem (holding number payload) first → Concatenates IsItem items b

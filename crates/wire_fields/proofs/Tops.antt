@@ -56,9 +56,9 @@ stands_as at groups P Q bytes s on = record {
   ends = on s.tail s.ends;
 }
 
-nil_behind : (a b : List ℕ) → a ++ b ≡ [] → b ≡ []
-nil_behind [] b e = e
-nil_behind (x ∷ a) b e = absurd cc
+nil_after : (a b : List ℕ) → a ++ b ≡ [] → b ≡ []
+nil_after [] b e = e
+nil_after (x ∷ a) b e = absurd cc
 
 nil_before : (a b : List ℕ) → a ++ b ≡ [] → a ≡ []
 nil_before [] b e = refl
@@ -73,7 +73,7 @@ some_walked : (number : ℕ) (groups run : List ℕ) → IsWalked (number ∷ gr
 unfolding IsOpen
 some_walked number groups run w e =
     items_apart.some (holding number Group) w.is_open.start w.is_open.starts
-    (nil_before w.is_open.start w.is_open.inside (nil_behind w.is_open.front (w.is_open.start ++ w.is_open.inside) (sym w.is_open.joined ∙ e)))
+    (nil_before w.is_open.start w.is_open.inside (nil_after w.is_open.front (w.is_open.start ++ w.is_open.inside) (sym w.is_open.joined ∙ e)))
 
 -- ---- breaks
 
@@ -98,7 +98,7 @@ no_fault_of_nothing bytes kind e ne nil =
 
 pub stands_fault : (at : ℕ) (groups bytes : List ℕ) (kind : WireKind) → Stands at groups (Turns (turns.Fault kind)) bytes → IsBroken bytes at kind × (kind ≢ Truncated)
 stands_fault at groups bytes kind s =
-    (stands_broken at groups (Turns (turns.Fault kind)) bytes kind s s.ends.0 (λ e. no_fault_of_nothing s.tail kind s.ends.0 s.ends.1 (nil_behind s.run s.tail e)), s.ends.1)
+    (stands_broken at groups (Turns (turns.Fault kind)) bytes kind s s.ends.0 (λ e. no_fault_of_nothing s.tail kind s.ends.0 s.ends.1 (nil_after s.run s.tail e)), s.ends.1)
 
 -- an item that can't follow
 stands_blocked : (at : ℕ) (groups : List ℕ) (item : Item) (bytes : List ℕ) → Stands at groups (IsItem item) bytes → open_after_item groups item ≡ None → IsBroken bytes at (kind_of_block item)
@@ -112,7 +112,7 @@ stands_blocked at groups item bytes s none =
       place = sym s.place;
       fields = s.fields;
       read = s.read;
-      some = λ e. items_apart.some item s.tail s.ends (nil_behind s.run s.tail e);
+      some = λ e. items_apart.some item s.tail s.ends (nil_after s.run s.tail e);
       breaks = break_after groups s.run s.tail (kind_of_block item) s.walked (stop_at_block groups s.tail [] item few read none);
     }
 
@@ -506,12 +506,12 @@ whole_or_cut : (taken at : ℕ) (groups : List ℕ) (part : Part) (bytes : List 
 whole_or_cut taken at (number ∷ groups) part bytes s =
     inr (λ e. absurd cc, cut_short (record { taken = taken; at = at; groups = number ∷ groups; part = part }) bytes s (λ e. some_walked number groups s.1.run s.1.walked (nil_before s.1.run s.1.tail e)))
 whole_or_cut taken at [] parts.Nothing bytes s = inl (refl, fields_at at bytes s.1)
-whole_or_cut taken at [] (parts.Tag chain) bytes s = inr (λ e. absurd cc, cut_short (record { taken = taken; at = at; groups = []; part = parts.Tag chain }) bytes s (λ e. part_some (parts.Tag chain) s.1.tail s.1.ends (λ d. absurd cc) (nil_behind s.1.run s.1.tail e)))
-whole_or_cut taken at [] (parts.Value chain) bytes s = inr (λ e. absurd cc, cut_short (record { taken = taken; at = at; groups = []; part = parts.Value chain }) bytes s (λ e. part_some (parts.Value chain) s.1.tail s.1.ends (λ d. absurd cc) (nil_behind s.1.run s.1.tail e)))
-whole_or_cut taken at [] (parts.Size number chain) bytes s = inr (λ e. absurd cc, cut_short (record { taken = taken; at = at; groups = []; part = parts.Size number chain }) bytes s (λ e. part_some (parts.Size number chain) s.1.tail s.1.ends (λ d. absurd cc) (nil_behind s.1.run s.1.tail e)))
-whole_or_cut taken at [] (parts.Payload number len left) bytes s = inr (λ e. absurd cc, cut_short (record { taken = taken; at = at; groups = []; part = parts.Payload number len left }) bytes s (λ e. part_some (parts.Payload number len left) s.1.tail s.1.ends (λ d. absurd cc) (nil_behind s.1.run s.1.tail e)))
-whole_or_cut taken at [] (parts.Eight left) bytes s = inr (λ e. absurd cc, cut_short (record { taken = taken; at = at; groups = []; part = parts.Eight left }) bytes s (λ e. part_some (parts.Eight left) s.1.tail s.1.ends (λ d. absurd cc) (nil_behind s.1.run s.1.tail e)))
-whole_or_cut taken at [] (parts.Four left) bytes s = inr (λ e. absurd cc, cut_short (record { taken = taken; at = at; groups = []; part = parts.Four left }) bytes s (λ e. part_some (parts.Four left) s.1.tail s.1.ends (λ d. absurd cc) (nil_behind s.1.run s.1.tail e)))
+whole_or_cut taken at [] (parts.Tag chain) bytes s = inr (λ e. absurd cc, cut_short (record { taken = taken; at = at; groups = []; part = parts.Tag chain }) bytes s (λ e. part_some (parts.Tag chain) s.1.tail s.1.ends (λ d. absurd cc) (nil_after s.1.run s.1.tail e)))
+whole_or_cut taken at [] (parts.Value chain) bytes s = inr (λ e. absurd cc, cut_short (record { taken = taken; at = at; groups = []; part = parts.Value chain }) bytes s (λ e. part_some (parts.Value chain) s.1.tail s.1.ends (λ d. absurd cc) (nil_after s.1.run s.1.tail e)))
+whole_or_cut taken at [] (parts.Size number chain) bytes s = inr (λ e. absurd cc, cut_short (record { taken = taken; at = at; groups = []; part = parts.Size number chain }) bytes s (λ e. part_some (parts.Size number chain) s.1.tail s.1.ends (λ d. absurd cc) (nil_after s.1.run s.1.tail e)))
+whole_or_cut taken at [] (parts.Payload number len left) bytes s = inr (λ e. absurd cc, cut_short (record { taken = taken; at = at; groups = []; part = parts.Payload number len left }) bytes s (λ e. part_some (parts.Payload number len left) s.1.tail s.1.ends (λ d. absurd cc) (nil_after s.1.run s.1.tail e)))
+whole_or_cut taken at [] (parts.Eight left) bytes s = inr (λ e. absurd cc, cut_short (record { taken = taken; at = at; groups = []; part = parts.Eight left }) bytes s (λ e. part_some (parts.Eight left) s.1.tail s.1.ends (λ d. absurd cc) (nil_after s.1.run s.1.tail e)))
+whole_or_cut taken at [] (parts.Four left) bytes s = inr (λ e. absurd cc, cut_short (record { taken = taken; at = at; groups = []; part = parts.Four left }) bytes s (λ e. part_some (parts.Four left) s.1.tail s.1.ends (λ d. absurd cc) (nil_after s.1.run s.1.tail e)))
 
 pub stands_whole_or_cut : (top : Top) (bytes : List ℕ) → StandsFor top bytes → IsWholeOrCut top bytes
 stands_whole_or_cut top bytes s = whole_or_cut top.taken top.at top.groups top.part bytes s

@@ -111,8 +111,8 @@ no_field groups room tail sum h field first rest e k =
 
 starts_not_closed : (groups : List ℕ) (number : ℕ) (start rest : List ℕ) → IsItem (holding number Group) start → NotClosed groups (start ++ rest)
 starts_not_closed [] number start rest h = tt
-starts_not_closed (outer ∷ groups) number start rest h = λ first behind e k.
-    let same = (items_apart.same (holding number Group) (Ends outer) start first rest behind h k e).0 in
+starts_not_closed (outer ∷ groups) number start rest h = λ first after e k.
+    let same = (items_apart.same (holding number Group) (Ends outer) start first rest after h k e).0 in
     absurd cc
 
 -- one level further out

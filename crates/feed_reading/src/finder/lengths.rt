@@ -24,7 +24,7 @@ fn begins_long(piece: &Piece<'_>) -> bool
                 return false;
             }
             match first_number(rest) {
-                Some((len, _behind)) => len > LIMIT,
+                Some((len, _after)) => len > LIMIT,
                 None => false,
             }
         }

@@ -34,16 +34,16 @@ fn bodies_in_front(bytes: &[u8], number: u8) -> usize
     let mut count = 0;
     let mut rest = bytes;
     for _ in 0..bytes.len() {
-        let Some((tag, size, behind)) = head(rest) else {
+        let Some((tag, size, after)) = head(rest) else {
             return count;
         };
-        if behind.len() < size {
+        if after.len() < size {
             return count;
         }
         if tag / 8 == number {
             count += 1;
         }
-        rest = &behind[size..];
+        rest = &after[size..];
     }
     count
 }

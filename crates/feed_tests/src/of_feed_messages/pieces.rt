@@ -32,8 +32,8 @@ fn take_piece(
     let mut rest = piece;
     while !rest.is_empty() {
         let (used, given) = reader.feed(rest)?;
-        let (_, behind) = rest.split_at(used);
-        rest = behind;
+        let (_, after) = rest.split_at(used);
+        rest = after;
         if let Some((_, entity)) = given {
             entities.extend(entity_bytes(alloc, &entity)?.as_slice())?;
         }
@@ -50,9 +50,9 @@ fn by_pieces(alloc: Global, bytes: &[u8], size: usize) -> Option<Said> {
     let mut entities = List::new(alloc);
     let mut rest = bytes;
     while !rest.is_empty() {
-        let (piece, behind) = rest.split_at(size.min(rest.len()));
+        let (piece, after) = rest.split_at(size.min(rest.len()));
         take_piece(alloc, &mut reader, piece, &mut entities).ok()?;
-        rest = behind;
+        rest = after;
     }
     let head = reader.finish();
     Some(Said { head, entities })

@@ -227,7 +227,7 @@ fn a_negative_enum_is_kept(rt: HostRuntime) {
     }
 }
 
-/// Both readers agree on a front of the bytes, which is no feed where it ends inside a field.
+/// Both readers agree on a prefix of the bytes, which is no feed where it ends inside a field.
 fn agree(rt: &impl Abort, alloc: Global, bytes: &[u8]) {
     assert_eq!(rt;
         read_feed(alloc, bytes).is_ok(),

@@ -107,7 +107,7 @@ static SINKS: [(&str, Bounds, Bounds, u8, bool, &str); 10] = [
     ("nothing has room", (0, &[]), (0, &[]), 74, false, ""),
 ];
 
-// A run over these sinks ends with that status, all of the feed or only a front of it, and that text on
+// A run over these sinks ends with that status, all of the feed or only a prefix of it, and that text on
 // standard error.
 fn assert_written(
     rt: &impl Abort,
@@ -171,7 +171,7 @@ static REFUSALS: [(&str, &[Other], &[u64], u8, &str); 6] = [
     (WORDS, &[], &[1], 74, FAILED),
 ];
 
-// A refusal with these bounds of standard error keeps its status, and standard error gets a front of its
+// A refusal with these bounds of standard error keeps its status, and standard error gets a prefix of its
 // text.
 fn assert_front(
     rt: &impl Abort,

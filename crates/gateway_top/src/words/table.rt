@@ -69,13 +69,13 @@ fn split_pair<'a>(
     ensures wrong { IfErr result (λ at. IsWrongAt (pair_of pair.now) before.now words.now at) }
     ensures within { IfErr result (λ at. at ≤ length words.now) }
 {
-    let Some((flag, behind)) = words.split_first() else {
+    let Some((flag, after)) = words.split_first() else {
         return Err(0);
     };
     if !is_flag(pair, flag) {
         return Err(0);
     }
-    match behind.split_first() {
+    match after.split_first() {
         Some((value, rest)) if has_form(pair.form, before, value) => Ok((value, rest)),
         _ => Err(1),
     }
@@ -94,9 +94,9 @@ fn wrong_word(command: &Command, name: &Text, words: &[Text]) -> Option<usize>
     let mut number = 0;
     while number < command.pairs.len() || !rest.is_empty() {
         match split_pair(pair_at(command, number), before, rest) {
-            Ok((value, behind)) => {
+            Ok((value, after)) => {
                 before = value;
-                rest = behind;
+                rest = after;
             }
             Err(wrong) => return Some(count - rest.len() + wrong),
         }
@@ -111,13 +111,13 @@ pub fn check(commands: &[Command], words: &[Text]) -> Result<(), BadWord>
     ensures accepted { IfOk result (λ _. IsAccepted (map row_of commands.now) words.now) }
     ensures refused { IfErr result (λ bad. StopsAt (IsAccepted (map row_of commands.now)) words.now bad.at) }
 {
-    let Some((name, behind)) = words.split_first() else {
+    let Some((name, after)) = words.split_first() else {
         return Err(BadWord { at: 0 });
     };
     let Some(command) = named(commands, name) else {
         return Err(BadWord { at: 0 });
     };
-    match wrong_word(command, name, behind) {
+    match wrong_word(command, name, after) {
         None => Ok(()),
         Some(at) => Err(BadWord { at: at as u64 + 1 }),
     }

@@ -1,7 +1,7 @@
 use Rattle.std.proofs.Common.{◌∙◌, ◌++◌, [], arith, drop, subst, sym, take}
 use Rattle.door_talk.specs.Requests.{ReadsHead}
 use Rattle.door_talk.specs.declared.heads.HeadRead.TheVariants as heads
-use Rattle.door_talk.proofs.AskLemmas.{asks_behind, asks_cut, asks_get, asks_refused}
+use Rattle.door_talk.proofs.AskLemmas.{asks_after, asks_cut, asks_get, asks_refused}
 use Rattle.door_talk.proofs.LimitLemmas.{small_body, within}
 use Rattle.door_talk.proofs.ReadLemmas.{reads_on}
 use Rattle.door_talk.proofs.requests.read_request.Goals as goal
@@ -15,7 +15,7 @@ returns-then-not-is_post-clause-asks g c =
 
 pub returns-else-not-is_post-clause-asks : goal.returns-else-not-is_post-clause-asks
 returns-else-not-is_post-clause-asks g c =
-    asks_behind (g.B.TakesBody.stands c.args.over.now c.read_post.new.taker c.args.moment) (g.D.Sink.beside c.args.door.now) (g.D.Sink.beside c.read_head.new.door) c.in-Ok-Ended.ensures.reads.0
+    asks_after (g.B.TakesBody.stands c.args.over.now c.read_post.new.taker c.args.moment) (g.D.Sink.beside c.args.door.now) (g.D.Sink.beside c.read_head.new.door) c.in-Ok-Ended.ensures.reads.0
     (drop c.in-Ok-Ended.from (take c.in-Ok-Ended.to c.read_head.new.piece)) read.2 c.in-Ok-Ended.head c.read_post.result c.in-Ok-Ended.ensures.reads.1 read.3 read.4 read.5 c.read_post.ensures.asks
   where
     read : ReadsHead (g.D.Sink.beside c.read_head.new.door) c.in-Ok-Ended.ensures.reads.0 c.read_head.new.piece (heads.Ended c.in-Ok-Ended.head c.in-Ok-Ended.from c.in-Ok-Ended.to)

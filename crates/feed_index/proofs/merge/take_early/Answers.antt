@@ -9,8 +9,8 @@ use Rattle.feed_index.proofs.merge.take_early.Goals as goal
 pub place-requires : goal.place-requires
 place-requires g c = record { sorted = rw c.deref.ensures.value (front_sorted g.met.K.Ord.total c.args.pool.now.spans c.args.rows.now.items c.args.front c.requires.staged.front_rises) }
 
-pub take_behind-requires-clause-new : goal.take_behind-requires-clause-new
-take_behind-requires-clause-new g c =
+pub take_after-requires-clause-new : goal.take_after-requires-clause-new
+take_after-requires-clause-new g c =
     let gap : IsGapAt g.K.Ord.cmp (take c.args.front c.args.rows.now.items) c.args.key c.in-Err.field-0 = rw c.deref.ensures.value at c.in-Err.ensures.parts in
     new_rows g.met.K.Ord.total c.args.rows.now.items c.args.front c.in-Err.field-0 c.args.key gap
 

@@ -23,7 +23,7 @@ returns-clause-keeps c = λ arrivals h.
     ∙ ap (λ (s : Setting). window_at s (c.args.moment ∷ moments_of arrivals)) same in
     keeps_left c.args.gate.now c.args.moment arrivals c.gate.inside.journeys.entries c.first.result c.gone_before-gone.result
     (ap (λ (k : Kept). k.journeys) (sym c.gate.view_is)) (c.first.ensures.value ∙ ap (λ (w : DayStarts). w.first) rolls) h
-    c.gone_before-gone.ensures.before c.gone_before-gone.ensures.behind
+    c.gone_before-gone.ensures.before c.gone_before-gone.ensures.after
 
 pub returns-clause-within : goal.returns-clause-within
 returns-clause-within c = gone_within c.args.gate.now c.gate.inside.journeys.entries c.gone_before-gone.result (ap (λ (k : Kept). k.journeys) (sym c.gate.view_is)) c.gone_before-gone.ensures.within

@@ -9,7 +9,7 @@ loop-flag-preserved g c =
     let took = rw (held.same, c.as_str.ensures.same, c.as_str-in-Some.ensures.same) at c.in-Ok.ensures.told in
     let more = rw c.as_str-in-Some-2.ensures.same at c.in_ok-add_report.ensures in
     record {
-      arrived = goes_on (g.F.Files.told c.args.files.now) c.args.gate.now.setting c.loop-flag.gate.setting c.args.at c.args.words.now c.loop-flag.rest.now c.in-Some.behind.now c.in-Some.flag.now c.in-Some.name.now
+      arrived = goes_on (g.F.Files.told c.args.files.now) c.args.gate.now.setting c.loop-flag.gate.setting c.args.at c.args.words.now c.loop-flag.rest.now c.in-Some.after.now c.in-Some.flag.now c.in-Some.name.now
           c.loop-flag.gate c.file_taken.new.gate c.loop-flag.so_far c.add_report.new.so_far c.in-Ok.report held.setting c.in-Some.ensures more held.arrived took;
       counts = let falls = c.file_taken.ensures.counts.never_falls in let before = held.counts in omega (arith, falls, before);
       same = c.file_taken.ensures.same ∙ held.same;
@@ -20,7 +20,7 @@ pub returns-in-Err-clause-told : goal.returns-in-Err-clause-told
 returns-in-Err-clause-told g c =
     let held = c.loop-flag.invariant in
     let took = rw (held.same, c.as_str.ensures.same, c.as_str-in-Some.ensures.same) at c.in-Err.ensures.told in
-    ends_with (g.F.Files.told c.args.files.now) c.args.gate.now.setting c.loop-flag.gate.setting c.args.at c.args.words.now c.loop-flag.rest.now c.in-Some.behind.now c.in-Some.flag.now c.in-Some.name.now
+    ends_with (g.F.Files.told c.args.files.now) c.args.gate.now.setting c.loop-flag.gate.setting c.args.at c.args.words.now c.loop-flag.rest.now c.in-Some.after.now c.in-Some.flag.now c.in-Some.name.now
     c.loop-flag.gate c.file_taken.new.gate c.loop-flag.so_far c.in-Err.end held.setting c.in-Some.ensures held.arrived took
 
 pub returns-clause-told : goal.returns-clause-told

@@ -1,4 +1,4 @@
--- After each piece the sink holds a longer front of the bytes.
+-- After each piece the sink holds a longer prefix of the bytes.
 use Rattle.std.proofs.Common.{arith, ◌∙◌}
 use Rattle.gw_base.proofs.ToldLemmas.{with_bytes-take}
 use Rattle.gw_base.proofs.sink.put_all.Goals as goal

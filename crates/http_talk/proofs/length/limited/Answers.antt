@@ -18,4 +18,4 @@ over : (n : ℕ) (rest : List ℕ) (whole : ℕ) → digits_value_after 10 n res
 over n rest whole same above = too_large whole (omega (arith, grows n rest))
 
 pub returns-then-size-gt-BODY_LIMIT : goal.returns-then-size-gt-BODY_LIMIT
-returns-then-size-gt-BODY_LIMIT c = over c.with_digit-size.result c.in-Some.behind.now _ (search rules) c.if-size-gt-BODY_LIMIT.true
+returns-then-size-gt-BODY_LIMIT c = over c.with_digit-size.result c.in-Some.after.now _ (search rules) c.if-size-gt-BODY_LIMIT.true

@@ -1,4 +1,4 @@
--- The number so far, with the digits that are left behind it, is the whole number.
+-- The number so far, with the digits that are left after it, is the whole number.
 use Rattle.std.proofs.Common.{◌≡◌, ◌≤◌, IsTrue, length}
 use Rattle.std.specs.List.{list_all}
 use Rattle.std.specs.Char.{is_ascii_digit}

@@ -1,4 +1,4 @@
--- The first front that ends a head is the shortest.
+-- The first prefix that ends a head is the shortest.
 use Rattle.std.proofs.Common.{◌≡◌, true, sym, ◌∙◌, subst, arith}
 use Rattle.http_talk.specs.Ends.{ends_head}
 use Rattle.http_talk.proofs.whole.head_len.Goals as goal

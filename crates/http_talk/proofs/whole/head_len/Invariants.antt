@@ -1,4 +1,4 @@
--- No shorter front ends a head.
+-- No shorter prefix ends a head.
 use Rattle.std.proofs.Common.{◌≡◌, ℕ, ◌<◌, false, take}
 use Rattle.http_talk.specs.Ends.{ends_head}
 use Rattle.http_talk.proofs.whole.head_len.Given as goal

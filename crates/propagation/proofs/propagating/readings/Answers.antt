@@ -18,18 +18,18 @@ loop-place-preserved c = λ ids updates rising same.
     elim c.if-is_some.branch [
       | then-is_some w ↦ let yes : is_some c.first_at-said.result ≡ true =
           sym c.is_some.ensures ∙ w.if-is_some.true in
-          rw yes (ap (λ rest. rest.now) w.rest-is ∙ w.behind_first-rest.ensures)
+          rw yes (ap (λ rest. rest.now) w.rest-is ∙ w.after_first-rest.ensures)
       | else-is_some w ↦ let none : is_some c.first_at-said.result ≡ false =
           sym c.is_some.ensures ∙ w.if-is_some.false in rw none (ap (λ rest. rest.now) w.rest-is)
     ] in
     spread_more (run_of ids c.args.dated.now) updates c.loop-place.place c.loop-place.delay
-    c.delay_behind-delay.result c.loop-place.rest.now c.if-is_some.rest.now
+    c.delay_after-delay.result c.loop-place.rest.now c.if-is_some.rest.now
     c.loop-place.all c.push.new.self c.first_at-said.result c.planned_times.result c.reading_at.result
     (c.loop-place.invariant ids updates rising same)
     c.first_at-said.ensures
     (c.planned_times.ensures.value
     ∙ planned_row c.args.dated.now.start c.args.dated.now.stops.now c.loop-place.place _ c.loop-place-test.true)
-    c.reading_at.ensures c.in_ok-push.ensures.added c.delay_behind-delay.ensures left
+    c.reading_at.ensures c.in_ok-push.ensures.added c.delay_after-delay.ensures left
 
 pub returns : goal.returns
 returns c = λ ids updates rising same.

@@ -5,7 +5,7 @@ use Rattle.journey_model.specs.declared.readings.DatedReading.{DatedReading}
 use Rattle.journey_model.specs.declared.readings.JourneyReading.{JourneyReading}
 use Rattle.sample_maker.specs.Pieces.{all_below}
 use Rattle.sample_run.specs.Steps.{AreSaid, plus, stops_said, tally}
-use Rattle.sample_run.proofs.Merging.{behind_said, next_said}
+use Rattle.sample_run.proofs.Merging.{after_said, next_said}
 use Rattle.sample_run.proofs.TallyLemmas.{tally_more, tally_none}
 use Rattle.sample_run.proofs.counting.sum_of.Goals as goal
 
@@ -23,7 +23,7 @@ loop-trip-preserved c = record {
         tally_more (λ trip. stops_said c.args.context.now trip (said trip)) c.loop-trip.trip c.loop-trip.sum c.add_trip-rest.new.sum held.0
             (subst (λ (o : Option JourneyReading). c.add_trip-rest.new.sum ≡ plus c.loop-trip.sum (tally (stops_said c.args.context.now c.loop-trip.trip o)))
             (sym (next_said said c.loop-trip.trip c.loop-trip.rest.now held.1)) c.add_trip-rest.ensures.sum),
-        subst (λ (rest : List DatedReading). AreSaid said (c.loop-trip.trip + 1) rest) (sym c.add_trip-rest.ensures.rest) (behind_said said c.loop-trip.trip c.loop-trip.rest.now held.1),
+        subst (λ (rest : List DatedReading). AreSaid said (c.loop-trip.trip + 1) rest) (sym c.add_trip-rest.ensures.rest) (after_said said c.loop-trip.trip c.loop-trip.rest.now held.1),
       );
   servable = c.add_trip-rest.ensures.servable;
   few = c.add_trip-rest.ensures.few;

@@ -3,7 +3,7 @@ use Rattle.std.proofs.Common.{◌≡◌, ◌∙◌, ◌+◌, ◌<◌, ◌∷◌,
 use Rattle.siri_calls.specs.Judged as spec
 use Rattle.siri_calls.specs.MatchedCalls.{placed_call}
 use Rattle.siri_calls.specs.TripRuns.{run_over}
-use Rattle.siri_calls.proofs.DenseLemmas.{one-call, one-none, rise-behind, rise-on}
+use Rattle.siri_calls.proofs.DenseLemmas.{one-call, one-none, rise-after, rise-on}
 use Rattle.siri_calls.proofs.dense.dense_readings.Goals as goal
 use Rattle.siri_calls.proofs.dense.dense_readings.Goals.{in-Some, in-None}
 
@@ -22,7 +22,7 @@ loop-place-preserved c =
           let is : list ≡ one ∷ others = ap (map placed_call) w.in-Some.ensures.first in
           rw w.next-is (record {
             whole = one-call run all c.loop-place.readings c.push.new.self list others one place stops c.match-call_at.reading is w.in-Some.ensures.here less c.in_ok-push.ensures.added (w.reading-is ∙ w.call_reading-reading.ensures) c.loop-place.invariant.whole;
-            rising = rise-behind place list others one is w.in-Some.ensures.here c.loop-place.invariant.rising;
+            rising = rise-after place list others one is w.in-Some.ensures.here c.loop-place.invariant.rising;
           })
       | in-None w ↦
           rw w.next-is (record {

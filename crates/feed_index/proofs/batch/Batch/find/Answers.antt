@@ -21,9 +21,9 @@ returns-in-Some g c =
     let rows = c.self.inside.rows.items in
     let front = c.self.inside.front in
     let entries = entries_of spans rows in
-    let behind : Some c.in-Some.value.now ≡ value_at g.K.Ord.cmp (entries_of spans (drop front rows)) c.args.key.now =
+    let after : Some c.in-Some.value.now ≡ value_at g.K.Ord.cmp (entries_of spans (drop front rows)) c.args.key.now =
     rw (c.split_at.ensures.back, c.deref.ensures.value) at c.in-Some.ensures.value spans in
-    let there : Some c.in-Some.value.now ≡ value_at g.K.Ord.cmp (drop front entries) c.args.key.now = behind ∙ ap (λ (all : List (Entry _ _)). value_at g.K.Ord.cmp all c.args.key.now) (sym (drop-map (entry_of spans) front rows)) in
+    let there : Some c.in-Some.value.now ≡ value_at g.K.Ord.cmp (drop front entries) c.args.key.now = after ∙ ap (λ (all : List (Entry _ _)). value_at g.K.Ord.cmp all c.args.key.now) (sym (drop-map (entry_of spans) front rows)) in
     record {
       value = rw (← c.self.view_is)
           (ap (λ (it : Option _). option_or it (value_at g.K.Ord.cmp (take front entries) c.args.key.now)) there
@@ -36,9 +36,9 @@ returns-in-None g c =
     let rows = c.self.inside.rows.items in
     let front = c.self.inside.front in
     let entries = entries_of spans rows in
-    let behind : None ≡ value_at g.K.Ord.cmp (entries_of spans (drop front rows)) c.args.key.now =
+    let after : None ≡ value_at g.K.Ord.cmp (entries_of spans (drop front rows)) c.args.key.now =
     rw (c.split_at.ensures.back, c.deref.ensures.value) at c.in-None.ensures.value spans in
-    let there : None ≡ value_at g.K.Ord.cmp (drop front entries) c.args.key.now = behind ∙ ap (λ (all : List (Entry _ _)). value_at g.K.Ord.cmp all c.args.key.now) (sym (drop-map (entry_of spans) front rows)) in
+    let there : None ≡ value_at g.K.Ord.cmp (drop front entries) c.args.key.now = after ∙ ap (λ (all : List (Entry _ _)). value_at g.K.Ord.cmp all c.args.key.now) (sym (drop-map (entry_of spans) front rows)) in
     let before = rw (c.split_at.ensures.front, c.deref.ensures.value) at c.value_in-in-None.ensures.value spans in
     record {
       value = rw (← c.self.view_is)

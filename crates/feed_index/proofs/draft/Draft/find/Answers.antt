@@ -19,7 +19,7 @@ returns-in-None g c =
     let kept = drop c.self.inside.gone c.self.inside.index.now.entries in
     record {
       value = rw (← c.self.view_is)
-          (c.find_behind.ensures.value
+          (c.find_after.ensures.value
           ∙ ap (λ (it : Option _). option_or it (value_at g.K.Ord.cmp kept c.args.key.now)) c.in-None.ensures.value
           ∙ sym (value_after g.met.K.Ord.total kept c.self.inside.batch c.args.key.now c.self.invariant.2));
     }

@@ -21,7 +21,7 @@ invariant_of-self-2 g c =
     let len_is : c.self.inside.len ≡ whole = c.self.invariant.3 in
     let more_is : c.in-Some.more ≡ whole + 1 = c.in-Some.ensures.1 ∙ ap (λ n. n + 1) len_is in
     let stays : Bool = c.is_some-stays.result in
-    let stays_is : stays ≡ is_some (value_at g.K.Ord.cmp kept c.args.key) = c.is_some-stays.ensures ∙ shown _ c.find_behind.result ∙ ap is_some c.find_behind.ensures.value in
+    let stays_is : stays ≡ is_some (value_at g.K.Ord.cmp kept c.args.key) = c.is_some-stays.ensures ∙ shown _ c.find_after.result ∙ ap is_some c.find_after.ensures.value in
     let grew : Bool = nat_lt c.len-before.result c.len.result in
     let grew_is : grew ≡ nat_lt (length items) (length (put g.K.Ord.cmp items one)) =
     ap (λ n. nat_lt n c.len.result) c.len-before.ensures.value ∙ ap (nat_lt (length items)) (c.len.ensures.value ∙ ap length now) in

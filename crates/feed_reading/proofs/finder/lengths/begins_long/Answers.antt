@@ -15,11 +15,11 @@ returns-in-Some-first_number c =
     let rest = c.in-Some.rest.now in
     let tag = c.in-Some.tag in
     let len = c.in-Some-first_number.len in
-    let behind = c.in-Some-first_number._behind.now in
+    let after = c.in-Some-first_number._after.now in
     match_lt entity_limit len (IsLongHere bytes) (¬ IsLongHere bytes)
-    (long_size bytes rest behind tag len c.in-Some.ensures.found c.in-Some-first_number.ensures.found
+    (long_size bytes rest after tag len c.in-Some.ensures.found c.in-Some-first_number.ensures.found
     c.if-tag-ne-ENTITY_TAG.false)
-    (short_size bytes rest behind tag len c.in-Some.ensures.found c.in-Some-first_number.ensures.found)
+    (short_size bytes rest after tag len c.in-Some.ensures.found c.in-Some-first_number.ensures.found)
 
 pub returns-in-None-first_number : goal.returns-in-None-first_number
 returns-in-None-first_number c =

@@ -4,7 +4,7 @@ use Rattle.std.proofs.lemmas.Option.{gets, same_Some}
 use Rattle.gateway_top.specs.Rows.{row_of}
 use Rattle.gateway_top.specs.Tables.{IsSatisfiable, with_name}
 use Rattle.gateway_top.proofs.FormLemmas.{satisfiable}
-use Rattle.gateway_top.proofs.TableLemmas.{found_has, no_name, behind_name}
+use Rattle.gateway_top.proofs.TableLemmas.{found_has, no_name, after_name}
 use Rattle.gateway_top.proofs.words.table.check.Goals as goal
 
 pub returns-in_default-clause-refused : goal.returns-in_default-clause-refused
@@ -25,5 +25,5 @@ wrong_word-requires c =
 pub returns-in-Some-wrong_word-clause-refused : goal.returns-in-Some-wrong_word-clause-refused
 returns-in-Some-wrong_word-clause-refused c =
     rw c.in-Some.ensures.cases.0
-    (behind_name (map row_of c.args.commands.now) (row_of c.in-Some-named.command.now) c.in-Some.name.now c.in-Some.behind.now c.in-Some-wrong_word.at
+    (after_name (map row_of c.args.commands.now) (row_of c.in-Some-named.command.now) c.in-Some.name.now c.in-Some.after.now c.in-Some-wrong_word.at
     (sym c.in-Some-named.ensures) c.in-Some-wrong_word.ensures)

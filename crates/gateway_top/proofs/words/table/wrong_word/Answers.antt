@@ -24,7 +24,7 @@ returns-in-Err c =
 
 pub loop-number-preserved : goal.loop-number-preserved
 loop-number-preserved c =
-    leads_on (row_of c.args.command.now) c.args.name.now c.args.words.now c.loop-number.number _ _ c.in-Ok.value.now c.in-Ok.behind.now
+    leads_on (row_of c.args.command.now) c.args.name.now c.args.words.now c.loop-number.number _ _ c.in-Ok.value.now c.in-Ok.after.now
     c.loop-number.invariant
     (subst (λ pair. IfSome (slice_get c.loop-number.rest.now 0) (λ flag. IsTrue (is_flag pair flag))) c.pair_at.ensures c.in-Ok.ensures.flag)
     (subst (λ pair. IsTrue (pair.form c.loop-number.before.now c.in-Ok.value.now)) c.pair_at.ensures c.in-Ok.ensures.value)

@@ -1,4 +1,4 @@
--- A read takes a front of what is left of the present connection's input.
+-- A read takes a prefix of what is left of the present connection's input.
 use Rattle.std.proofs.Common.{rules, min, length, take}
 use Rattle.gw_base.specs.contracts.memory_door.MemoryDoor.{the_view}
 use Rattle.gw_base.proofs.DoorLemmas.{takes-front}

@@ -1,6 +1,6 @@
 use Rattle.std.proofs.Common.{◌≡◌, sym, refl, true, false}
 use Rattle.stop_schedule.specs.Ids.{has_id}
-use Rattle.stop_schedule.proofs.IdLemmas.{id-of-place, id-behind}
+use Rattle.stop_schedule.proofs.IdLemmas.{id-of-place, id-after}
 use Rattle.stop_schedule.proofs.ids.Ids.number_of.Goals as goal
 
 pub returns-in-Some-clause-ids : goal.returns-in-Some-clause-ids
@@ -23,4 +23,4 @@ returns-in_ok-add-in-None-clause-number c =
     let added : c.in_ok-add-in-None.field-0 ≡ true =
     rw (c.as_bytes.ensures.value, c.requires.id, lacks) at c.in_ok-add-in-None.ensures.added in
     rw (c.in_ok-add-in-None.ensures.ids, added, c.as_bytes.ensures.value, c.len-number.ensures.value)
-    (id-behind c.args.self.now c.args.id.now)
+    (id-after c.args.self.now c.args.id.now)

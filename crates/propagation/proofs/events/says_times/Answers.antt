@@ -1,6 +1,6 @@
 use Rattle.std.proofs.Common.{◌∙◌, sym}
 use Rattle.propagation.proofs.TimeLemmas.{times_in, times_near}
-use Rattle.propagation.proofs.events.said_times.Goals as goal
+use Rattle.propagation.proofs.events.says_times.Goals as goal
 
 pub timed_by-requires-clause-near : goal.timed_by-requires-clause-near
 timed_by-requires-clause-near c =

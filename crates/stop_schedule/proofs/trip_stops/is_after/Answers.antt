@@ -2,7 +2,7 @@ use Rattle.std.proofs.Common.{◌≡◌, ◌-◌, ◌<◌, suc, length, get_or, 
 use Rattle.std.proofs.lemmas.Bool.Decides.{nat_tests}
 use Rattle.stop_schedule.specs.declared.trip_stops.BriefStop.{BriefStop}
 use Rattle.stop_schedule.proofs.TripStopLemmas.{less-all}
-use Rattle.stop_schedule.proofs.trip_stops.is_behind.Goals as goal
+use Rattle.stop_schedule.proofs.trip_stops.is_after.Goals as goal
 
 pub returns-in-len1-up : goal.returns-in-len1-up
 returns-in-len1-up c = λ last row minute rising.

@@ -4,7 +4,7 @@ use Rattle.feed_index.specs.declared.entry.Entry.{Entry}
 use Rattle.feed_index.specs.Rows.{IsGapAt, StandsAt, entries_of, entry_of}
 use Rattle.feed_index.proofs.StageLemmas.{list_insert, list_set}
 use Rattle.feed_index.proofs.TakeLemmas.{back_found, back_gap, back_sorted, new_entries}
-use Rattle.feed_index.proofs.merge.take_behind.Goals as goal
+use Rattle.feed_index.proofs.merge.take_after.Goals as goal
 
 pub place-requires : goal.place-requires
 place-requires g c = record { sorted = rw (c.split_at.ensures.back, c.deref.ensures.value) (back_sorted g.met.K.Ord.total c.args.pool.now.spans c.args.rows.now.items c.args.front c.requires.staged.back_rises) }
