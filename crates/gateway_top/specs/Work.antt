@@ -19,6 +19,8 @@ use Rattle.reverse_calls.specs.Siri.{HasTooMany, IsSiri}
 use Rattle.service_day.specs.Windows.{IsWindow}
 use Rattle.service_day.specs.Zones.{IsRuleZone, IsBadRule, IsTableZone, IsBadTable}
 use Rattle.service_day.specs.declared.zones.Rules.{Rules}
+use Rattle.service_day.specs.declared.zones.ZoneFault.{ZoneFault}
+use Rattle.service_day.specs.declared.zones.ZoneFault.TheVariants as zones
 use Rattle.stop_schedule.specs.Seen.{seen}
 use Rattle.stop_schedule.specs.Table.{Table}
 use Rattle.stop_schedule.specs.Timetable.{timetable}
@@ -48,7 +50,7 @@ use Rattle.gateway_top.specs.Done.{Done}
 use Rattle.gateway_top.specs.Samples.{sample_end}
 use Rattle.gateway_top.specs.Words.{Make, NamedZone, Scope, Show, Task, ToGtfsrt, ToSiri, by_rule, by_file, gtfsrt_task, make_task, show_task, siri_task, sx_task}
 use Rattle.gateway_top.specs.declared.exit.Exit.{Exit}
-use Rattle.gateway_top.specs.declared.exit.Exit.TheVariants.{Refused}
+use Rattle.gateway_top.specs.declared.exit.Exit.TheVariants.{Memory, Refused}
 
 -- files by name, of which the first with a name counts
 abbrev pub Directory : Type 0
@@ -79,15 +81,20 @@ further limit name (Some bytes) = if nat_le (length bytes) limit then Ok bytes e
 abbrev pub IsFurtherFile : ℕ → List ℕ → Directory → Result (List ℕ) Exit → Type 0
 IsFurtherFile limit name files answer = answer ≡ further limit name (bytes_of files name)
 
+-- the end that a fault of a zone is
+abbrev pub zone_end : ZoneFault → Exit
+zone_end zones.Refused = Refused (codes "zone refused")
+zone_end zones.Memory = Memory
+
 -- the zone of a POSIX rule
 abbrev pub IsZoneOfRule : List ℕ → Result Rules Exit → Type 0
 IsZoneOfRule text (Ok zone) = IsRuleZone text zone
-IsZoneOfRule text (Err end) = IsBadRule text × (end ≡ Refused (codes "zone refused"))
+IsZoneOfRule text (Err end) = IsBadRule text × (end ≡ zone_end zones.Refused)
 
 -- the zone of the bytes of a TZif file
 abbrev pub IsZoneOfTable : List ℕ → Result Rules Exit → Type 0
 IsZoneOfTable bytes (Ok zone) = IsTableZone bytes zone
-IsZoneOfTable bytes (Err end) = IsBadTable bytes × (end ≡ Refused (codes "zone refused"))
+IsZoneOfTable bytes (Err end) = IsBadTable bytes × (end ≡ zone_end zones.Refused)
 
 -- the zone that is named
 abbrev pub IsNamedZone : NamedZone → Directory → Result Rules Exit → Type 0

@@ -1,5 +1,5 @@
 //! The work of the commands, step by step in the order of `specs/Work.antt`. Nothing is written here.
-ghost use Rattle.std.specs.Prelude.{◌≡◌, ◌<◌, false, IfSome, IsErrOf, None, Ok, Err};
+ghost use Rattle.std.specs.Prelude.{◌≡◌, ◌<◌, false, IfOk, IfSome, IsErrOf, None, Ok, Err};
 ghost use Rattle.gw_base.specs.Answers.{UnlessFree};
 ghost use Rattle.gw_base.specs.Count.{Counts};
 ghost use Rattle.gateway_top.specs.Exits.{is_free};
@@ -19,7 +19,7 @@ use crate::words::{Scope, Task, ZoneWord};
 use gateway_core::{Gateway, Setting};
 use gw_base::{Files, Moment, Text};
 use service_day::{Window, Zone, ZoneFault};
-use std::alloc::Global;
+use std::alloc::{AllocError, Global};
 use stop_schedule::{Timetable, read_timetable};
 
 // The timetable of a folder.
@@ -34,6 +34,16 @@ fn folder<F: Files>(alloc: Global, files: &mut F, dir: &str) -> Result<Timetable
     }
 }
 
+// The end that a fault of a zone is.
+fn zone_end(alloc: Global, fault: ZoneFault) -> Result<Exit, AllocError>
+    ensures { IfOk result (λ end. end ≡ steps.zone_end fault) }
+{
+    match fault {
+        ZoneFault::Refused => Ok(Exit::Refused(Text::copied(alloc, "zone refused")?)),
+        ZoneFault::Memory => Ok(Exit::Memory),
+    }
+}
+
 // The zone of a POSIX rule.
 fn rule_zone(alloc: Global, rule: &str) -> Result<Zone, Exit>
     ensures told { UnlessFree is_free result (steps.IsZoneOfRule rule.now) }
@@ -41,8 +51,7 @@ fn rule_zone(alloc: Global, rule: &str) -> Result<Zone, Exit>
 {
     match Zone::from_rule(rule) {
         Ok(zone) => Ok(zone),
-        Err(ZoneFault::Refused) => Err(Exit::Refused(Text::copied(alloc, "zone refused")?)),
-        Err(ZoneFault::Memory) => Err(Exit::Memory),
+        Err(fault) => Err(zone_end(alloc, fault)?),
     }
 }
 
@@ -53,8 +62,7 @@ fn table_zone(alloc: Global, bytes: &[u8]) -> Result<Zone, Exit>
 {
     match Zone::from_file(alloc, bytes) {
         Ok(zone) => Ok(zone),
-        Err(ZoneFault::Refused) => Err(Exit::Refused(Text::copied(alloc, "zone refused")?)),
-        Err(ZoneFault::Memory) => Err(Exit::Memory),
+        Err(fault) => Err(zone_end(alloc, fault)?),
     }
 }
 

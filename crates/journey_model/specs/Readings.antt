@@ -1,5 +1,6 @@
 -- Readings that can be served over a trip.
 use Rattle.std.specs.Prelude.{◌&&◌, ℤ, ◌-ℤ◌, Bool, true, false, List, [], ◌∷◌}
+use Rattle.gw_base.specs.Moments.{IsMoment}
 use Rattle.journey_model.specs.Times.{is_delay}
 use Rattle.stop_schedule.specs.Planned.{planned}
 use Rattle.stop_schedule.specs.declared.stop_times.StopRow.{StopRow}
@@ -13,6 +14,12 @@ abbrev pub is_near : ℤ × ℤ → StopReading → Bool
 is_near planned Absent = true
 is_near planned Skipped = true
 is_near planned (Timed arrival departure) = is_delay (arrival -ℤ planned.0) && is_delay (departure -ℤ planned.1)
+
+-- the times that a stop reads are moments
+abbrev pub AreMoments : StopReading → Type 0
+AreMoments Absent = Unit {0}
+AreMoments Skipped = Unit {0}
+AreMoments (Timed arrival departure) = IsMoment arrival × IsMoment departure
 
 -- one reading for each of the stops, at most a week from their planned times
 abbrev pub are_near : ℤ → List StopRow → List StopReading → Bool

@@ -1,32 +1,30 @@
 -- The times of the stops of a journey are moments; and its readings are one for each stop.
-use Rattle.std.proofs.Common.{◌≡◌, ◌==◌, ◌&&◌, ◌<◌, ◌≤◌, ◌∷◌, [], ℕ, suc, ℤ, pos, ◌+ℤ◌, ◌-ℤ◌, Bool, true, false, List, length, take, drop, get_or, Option, Some, None, option_map, refl, sym, subst, ap, arith}
+use Rattle.std.proofs.Common.{◌≡◌, ◌==◌, ◌&&◌, ◌<◌, ◌∷◌, [], ℕ, suc, ℤ, Bool, true, false, List, length, take, drop, get_or, Option, Some, None, option_map, refl, sym, subst, ap, arith}
 use Rattle.std.specs.Prelude.{All, nat_le, nat_lt, slice_get}
 use Rattle.std.proofs.lemmas.Bool.{and_parts, false≢true}
-use Rattle.std.proofs.lemmas.Int.{ints}
 use Rattle.std.proofs.lemmas.Option.{none-some}
 use Rattle.std.proofs.lemmas.List.Elements.{All-get_or, All-from_recursion}
 use Rattle.std.specs.List.{AllByRecursion, list_all}
 use Rattle.service_day.specs.Starts.{IsDayStart}
-use Rattle.gw_base.specs.Moments.{IsMoment}
 use Rattle.service_day.specs.Windows.{start_in}
 use Rattle.stop_schedule.proofs.StopStep.{all-at}
+use Rattle.stop_schedule.specs.Limits.{row_limit, stop_limit}
+use Rattle.stop_schedule.specs.declared.table_file.TableFile.TheVariants.{Trips}
 use Rattle.stop_schedule.specs.Held.{are_in_range, is_in_range, stops_held}
 use Rattle.stop_schedule.specs.Planned.{planned}
 use Rattle.stop_schedule.specs.Stops.{are_known, are_rising, are_stops_of, are_timed, is_timed}
 use Rattle.stop_schedule.specs.declared.carried.CarriedTrip.{CarriedTrip}
 use Rattle.stop_schedule.specs.declared.stop_times.StopRow.{StopRow}
 use Rattle.journey_model.specs.Dated.{run_of}
-use Rattle.journey_model.specs.Readings.{are_near, fits_trip, is_near}
+use Rattle.journey_model.specs.Readings.{AreMoments, are_near, fits_trip, is_near}
 use Rattle.journey_model.specs.Runs.{Run}
 use Rattle.journey_model.specs.Schedules.{FitsSchedule, Schedule, run_from, run_on}
 use Rattle.journey_model.specs.declared.context.DatedTrip.{DatedTrip}
 use Rattle.journey_model.specs.declared.readings.JourneyReading.{JourneyReading}
-use Rattle.journey_model.specs.Times.{is_delay}
 use Rattle.journey_model.specs.declared.readings.DatedReading.{DatedReading}
 use Rattle.journey_model.specs.declared.readings.StopReading.{StopReading}
-use Rattle.journey_model.specs.declared.readings.StopReading.TheVariants.{Absent, Skipped, Timed}
 use Rattle.propagation.specs.Feeds.{IsServable}
-use Rattle.show_command.specs.Lines.{AreMoments}
+use Rattle.journey_model.proofs.Moments.{reading_moments}
 
 -- what is read of a feed fits its schedule
 pub servable_fits : (schedule : Schedule) (journeys : List DatedReading) → All (IsServable schedule) journeys
@@ -36,23 +34,6 @@ servable_fits schedule journeys servable = λ place one within. (servable place 
 -- what holds of all holds of the one at a place
 pub at_place : {X : Type 0} (P : X → Type 0) (xs : List X) (place : ℕ) (x : X) → All P xs → place < length xs → x ≡ get_or xs place x → P x
 at_place P xs place x all within is = subst P (sym is) (All-get_or P xs place x within all)
-
--- a time within a week of a planned one is a moment
-near_moment : (start : ℤ) (second : ℕ) (time : ℤ) → IsDayStart start → second ≤ 359999 → is_delay (time -ℤ (start +ℤ pos second)) ≡ true → IsMoment time
-near_moment start second time begins timed near = grind (arith, ints)
-
-second_in : (second : ℕ) → nat_le second 359999 ≡ true → second ≤ 359999
-second_in second h = grind arith
-
-stop_moments : (start : ℤ) (row : StopRow) (reading : StopReading) → IsDayStart start → is_timed row ≡ true → is_near (planned start row) reading ≡ true → AreMoments reading
-stop_moments start row Absent begins timed near = tt
-stop_moments start row Skipped begins timed near = tt
-stop_moments start row (Timed arrival departure) begins timed near =
-    let seconds = and_parts (nat_le row.arrival 359999) (nat_le row.departure 359999) timed in
-    let delays = and_parts (is_delay (arrival -ℤ (start +ℤ pos row.arrival))) (is_delay (departure -ℤ (start +ℤ pos row.departure))) near in (
-      near_moment start row.arrival arrival begins (second_in row.arrival seconds.0) delays.0,
-      near_moment start row.departure departure begins (second_in row.departure seconds.1) delays.1,
-    )
 
 -- a reading that fits a schedule fits the trip on its day
 pub fits_dated : (schedule : Schedule) (trip : ℕ) (day : ℤ) (reading : JourneyReading) (ids : List (List ℕ)) (dated : DatedTrip) → FitsSchedule schedule trip day reading
@@ -78,7 +59,7 @@ stops_dated schedule trip day reading ids dated fits on_day = by (start_in sched
 -- the stops of a trip are stops of the timetable
 known_stops : (stops : ℕ) (rows : List StopRow) → are_stops_of stops rows ≡ true → are_known stops rows ≡ true
 known_stops stops rows h =
-    let after_few = and_parts (nat_le (length rows) 250) (are_rising rows && (are_known stops rows && are_timed rows)) h in
+    let after_few = and_parts (nat_le (length rows) stop_limit) (are_rising rows && (are_known stops rows && are_timed rows)) h in
     let after_rising = and_parts (are_rising rows) (are_known stops rows && are_timed rows) after_few.1 in
     (and_parts (are_known stops rows) (are_timed rows) after_rising.1).0
 
@@ -93,8 +74,8 @@ all_in : (trips routes stops : List (List ℕ)) (carried : List CarriedTrip) (ro
     → list_all (is_in_range (length routes) (length stops) rows) carried ≡ true
 all_in trips routes stops carried rows h =
     let all : Bool = list_all (is_in_range (length routes) (length stops) rows) carried in
-    let after_same = and_parts (length carried == length trips) (nat_le (length trips) 200000 && all) h in
-    (and_parts (nat_le (length trips) 200000) all after_same.1).1
+    let after_same = and_parts (length carried == length trips) (nat_le (length trips) (row_limit Trips) && all) h in
+    (and_parts (nat_le (length trips) (row_limit Trips)) all after_same.1).1
 
 known_at : (routes stops : ℕ) (carried : List CarriedTrip) (rows : List StopRow) (trip : ℕ) (found : Option CarriedTrip) → list_all (is_in_range routes stops rows) carried ≡ true
     → slice_get carried trip ≡ found → are_known stops (stops_held rows found) ≡ true
@@ -125,7 +106,7 @@ all_moments start (row ∷ rows) [] begins timed near = tt
 all_moments start (row ∷ rows) (reading ∷ readings) begins timed near =
     let here = and_parts (is_near (planned start row) reading) (are_near start rows readings) near in
     let times = and_parts (is_timed row) (are_timed rows) timed in
-    (stop_moments start row reading begins times.0 here.0, all_moments start rows readings begins times.1 here.1)
+    (reading_moments start row reading begins times.0 here.0, all_moments start rows readings begins times.1 here.1)
 
 pub moments : (start : ℤ) (rows : List StopRow) (readings : List StopReading) → IsDayStart start → are_timed rows ≡ true → are_near start rows readings ≡ true
     → All AreMoments readings

@@ -3,7 +3,6 @@
 use Rattle.std.specs.Prelude.{ℕ, ℤ, List, ◌++◌, codes, decimal, length}
 use Rattle.std.specs.List.{enumerate_from, flat_map, zip}
 use Rattle.service_day.specs.DayTexts.{dashed_text}
-use Rattle.gw_base.specs.Moments.{IsMoment}
 use Rattle.service_day.specs.Utc.{moment_text}
 use Rattle.stop_schedule.specs.Table.{Table}
 use Rattle.stop_schedule.specs.declared.stop_times.StopRow.{StopRow}
@@ -31,12 +30,6 @@ abbrev pub reading_text : StopReading → List ℕ
 reading_text Absent = codes "absent"
 reading_text Skipped = codes "skipped"
 reading_text (Timed arrival departure) = times_text arrival departure
-
--- the times of a stop are moments, so that they have such texts
-abbrev pub AreMoments : StopReading → Type 0
-AreMoments Absent = Unit {0}
-AreMoments Skipped = Unit {0}
-AreMoments (Timed arrival departure) = IsMoment arrival × IsMoment departure
 
 -- `DAY TRIP cancelled`
 abbrev pub cancelled_line : List ℕ → List ℕ

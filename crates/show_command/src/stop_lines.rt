@@ -3,6 +3,7 @@ ghost use Rattle.std.specs.Prelude.{◌≡◌, ◌++◌, ◌<◌, OnOk, IfOk, Al
 ghost use Rattle.std.specs.List.{zip};
 ghost use Rattle.gw_base.specs.Moments.{IsMoment};
 ghost use Rattle.stop_schedule.specs.Stops.{are_known};
+ghost use Rattle.journey_model.specs.Readings.{AreMoments};
 ghost use Rattle.show_command.specs.Lines as spec;
 
 use gw_base::Bytes;
@@ -44,7 +45,7 @@ fn add_times(lines: &mut Bytes, arrival: &i64, departure: &i64) -> Result<(), Al
 
 // Adds the words for how a stop reads.
 fn add_reading(lines: &mut Bytes, reading: &StopReading) -> Result<(), AllocError>
-    requires { spec.AreMoments reading.now }
+    requires { AreMoments reading.now }
     ensures { OnOk result (lines.new ≡ lines.old ++ spec.reading_text reading.now) }
 {
     match reading {
@@ -62,7 +63,7 @@ fn add_stop(
     stop_id: &str,
     reading: &StopReading,
 ) -> Result<(), AllocError>
-    requires { spec.AreMoments reading.now }
+    requires { AreMoments reading.now }
     ensures { OnOk result
         (lines.new ≡ lines.old ++ spec.stop_line name.now number stop_id.now reading.now) }
 {
@@ -87,7 +88,7 @@ pub(crate) fn add_stops(
 ) -> Result<(), AllocError>
     requires each { length readings.now ≡ length stops.now }
     requires known { are_known (length table.now.stops) stops.now ≡ true }
-    requires moments { All spec.AreMoments readings.now }
+    requires moments { All AreMoments readings.now }
     ensures { OnOk result
         (lines.new ≡ lines.old
         ++ spec.stop_lines table.now.stops name.now (zip stops.now readings.now)) }

@@ -18,11 +18,12 @@ use Rattle.journey_model.specs.declared.readings.JourneyReading.{JourneyReading}
 use Rattle.journey_model.specs.declared.readings.JourneyReading.TheVariants.{Cancelled, Stops}
 use Rattle.journey_model.specs.declared.readings.StopReading.{StopReading}
 use Rattle.journey_model.specs.declared.readings.StopReading.TheVariants.{Absent, Skipped, Timed}
+use Rattle.journey_model.proofs.Moments.{planned_moments, reading_moments}
 use Rattle.siri_calls.specs.DeliveryTree.{call_tree, call_trees_from, delivery_tree, frame_tree, items_of, journey_of_run, journey_on, journey_tree, service_tree, skipped_at, stop_readings, timetable_tree}
 use Rattle.siri_calls.specs.Sayable.{IsSayable}
 use Rattle.siri_calls.proofs.SaidAgainIds.{id-at, IsUtf8-id}
 use Rattle.service_day.proofs.MomentTextLemmas.{IsUtf8-dashed_text, IsUtf8-moment_text}
-use Rattle.siri_calls.proofs.SaidAgainRuns.{IsSoundRun, planned-moments, read-moments, sound-run}
+use Rattle.siri_calls.proofs.SaidAgainRuns.{IsSoundRun, sound-run}
 use Rattle.siri_calls.proofs.SaidAgainTrees.{ArePlain, IsPlain}
 
 -- a name of ASCII letters
@@ -33,7 +34,7 @@ name letters h = IsUtf8-are_ascii letters h
 plain-call : (run : Run) (order : ℕ) (row : StopRow) (reading : StopReading) → IsSoundRun run → order < 2 ^ 64 → IsUtf8 (id_of run.ids row.stop.0) → is_timed row ≡ true
     → is_near (planned run.start row) reading ≡ true → IsPlain 1 (call_tree run order row reading)
 plain-call run order row Absent sound small id timed near =
-    let plan = planned-moments run.start row sound.start timed in (
+    let plan = planned_moments run.start row sound.start timed in (
       refl,
       name (codes "AimedArrivalTime") refl,
       IsUtf8-moment_text (planned run.start row).0 plan.0,
@@ -50,7 +51,7 @@ plain-call run order row Absent sound small id timed near =
       ),
     )
 plain-call run order row Skipped sound small id timed near =
-    let plan = planned-moments run.start row sound.start timed in (
+    let plan = planned_moments run.start row sound.start timed in (
       refl,
       name (codes "AimedArrivalTime") refl,
       IsUtf8-moment_text (planned run.start row).0 plan.0,
@@ -72,8 +73,8 @@ plain-call run order row Skipped sound small id timed near =
       ),
     )
 plain-call run order row (Timed arrival departure) sound small id timed near =
-    let plan = planned-moments run.start row sound.start timed in
-    let said = read-moments run.start row arrival departure sound.start timed near in (
+    let plan = planned_moments run.start row sound.start timed in
+    let said = reading_moments run.start row (Timed arrival departure) sound.start timed near in (
       refl,
       name (codes "AimedArrivalTime") refl,
       IsUtf8-moment_text (planned run.start row).0 plan.0,

@@ -1,22 +1,15 @@
 -- The run of a journey that a delivery says: its ids, its stops and its times.
-use Rattle.std.proofs.Common.{◌≡◌, ℕ, ◌<◌, ◌≤◌, length, true, nat_lt, nat_le, Option, Some, None, IfSome, option_map, arith, refl, subst, ℤ, pos, ◌+ℤ◌, ◌-ℤ◌}
+use Rattle.std.proofs.Common.{◌≡◌, ℕ, ◌<◌, ◌≤◌, length, true, nat_lt, Option, Some, None, IfSome, option_map, arith, subst, ℤ}
 use Rattle.std.specs.List.{list_all}
 use Rattle.std.proofs.lemmas.Bool.{and_parts, leb-true}
-use Rattle.std.proofs.lemmas.Int.{ints}
 use Rattle.service_day.specs.Starts.{IsDayStart}
-use Rattle.gw_base.specs.Moments.{IsMoment}
 use Rattle.service_day.specs.Windows.{start_in}
 use Rattle.stop_schedule.specs.Ids.{are_ids}
-use Rattle.stop_schedule.specs.Planned.{planned}
 use Rattle.stop_schedule.specs.Sound.{IsSound}
 use Rattle.stop_schedule.specs.Stops.{is_timed}
-use Rattle.stop_schedule.specs.declared.stop_times.StopRow.{StopRow}
-use Rattle.journey_model.specs.Readings.{is_near}
 use Rattle.journey_model.specs.Runs.{Run}
 use Rattle.journey_model.specs.Schedules.{Schedule, run_from}
-use Rattle.journey_model.specs.Times.{is_delay}
 use Rattle.journey_model.specs.declared.readings.DatedReading.{DatedReading}
-use Rattle.journey_model.specs.declared.readings.StopReading.TheVariants.{Timed}
 use Rattle.siri_calls.specs.Sayable.{IsSayable}
 
 -- the ids by which the stops of a run are numbered are ids, its stops are of them, and its day has a start
@@ -46,24 +39,3 @@ pub sound-run : (schedule : Schedule) (one : DatedReading) → IsSound schedule.
 sound-run schedule one sound h =
     let found = started schedule one.trip.0 (start_in schedule.window one.day) h.servable.run h.is_start h.servable.on_day in
     subst IsSoundRun found.2 (sound-run-from schedule one.trip.0 found.0 sound h.servable.trip_in found.1)
-
--- ---- the planned times of a stop, and the times of its reading, are moments
-
-pub planned-moments : (start : ℤ) (row : StopRow) → IsDayStart start → is_timed row ≡ true → IsMoment (planned start row).0 × IsMoment (planned start row).1
-planned-moments start row h timed =
-    let both = and_parts (nat_le row.arrival 359999) (nat_le row.departure 359999) timed in
-    let arrival : row.arrival ≤ 359999 = leb-true _ _ both.0 in
-    let departure : row.departure ≤ 359999 = leb-true _ _ both.1 in
-    (omega (arith, ints, h.0, h.1, arrival), omega (arith, ints, h.0, h.1, departure))
-
-near-moment : (plan time : ℤ) (start : ℤ) (second : ℕ) → plan ≡ start +ℤ pos second → second ≤ 359999 → IsDayStart start → is_delay (time -ℤ plan) ≡ true → IsMoment time
-near-moment plan time start second is few h near = grind (arith, ints)
-
-pub read-moments : (start : ℤ) (row : StopRow) (arrival departure : ℤ) → IsDayStart start → is_timed row ≡ true → is_near (planned start row) (Timed arrival departure) ≡ true
-    → IsMoment arrival × IsMoment departure
-read-moments start row arrival departure h timed near =
-    let both = and_parts (nat_le row.arrival 359999) (nat_le row.departure 359999) timed in
-    let nears = and_parts (is_delay (arrival -ℤ (planned start row).0)) (is_delay (departure -ℤ (planned start row).1)) near in (
-      near-moment (planned start row).0 arrival start row.arrival refl (leb-true _ _ both.0) h nears.0,
-      near-moment (planned start row).1 departure start row.departure refl (leb-true _ _ both.1) h nears.1,
-    )

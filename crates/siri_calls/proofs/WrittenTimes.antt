@@ -1,44 +1,16 @@
--- The times that a journey says are moments.
-use Rattle.std.proofs.Common.{◌≡◌, ℕ, ℤ, pos, map, ap, ◌+ℤ◌, ◌-ℤ◌, ◌≤◌, ◌<◌, true, List, [], ◌∷◌, length, slice_get, Some, nat_le, refl, arith, suc, zero}
+-- The readings of a journey, one near each stop of its trip.
+use Rattle.std.proofs.Common.{◌≡◌, ℕ, ℤ, map, ap, ◌<◌, true, List, [], ◌∷◌, length, slice_get, Some, refl, arith, suc, zero}
 use Rattle.std.proofs.lemmas.Bool.{and_parts}
 use Rattle.std.proofs.lemmas.Bool.Decides.{nat_tests}
-use Rattle.std.proofs.lemmas.Int.{ints}
-use Rattle.service_day.specs.Starts.{IsDayStart}
-use Rattle.gw_base.specs.Moments.{IsMoment}
 use Rattle.stop_schedule.specs.Planned.{planned}
-use Rattle.stop_schedule.specs.Stops.{is_timed}
 use Rattle.stop_schedule.specs.declared.stop_times.StopRow.{StopRow}
-use Rattle.journey_model.proofs.Delays.{delay-range}
 use Rattle.journey_model.specs.Readings.{are_near, fits_trip, is_near}
 use Rattle.journey_model.specs.Runs.{Run}
-use Rattle.journey_model.specs.Times.{is_delay}
 use Rattle.journey_model.specs.declared.readings.JourneyReading.{JourneyReading}
 use Rattle.journey_model.specs.declared.readings.JourneyReading.TheVariants.{Cancelled, Stops}
 use Rattle.journey_model.specs.declared.readings.StopReading.{StopReading}
-use Rattle.journey_model.specs.declared.readings.StopReading.TheVariants.{Absent, Skipped, Timed}
+use Rattle.journey_model.specs.declared.readings.StopReading.TheVariants.{Skipped}
 use Rattle.siri_calls.specs.DeliveryTree.{skipped_at, stop_readings}
-use Rattle.siri_calls.specs.DeliveryTexts.{SaysMoments}
-
--- the times of a stop, as facts
-few : (row : StopRow) → is_timed row ≡ true → (row.arrival ≤ 359999) × (row.departure ≤ 359999)
-few row timed =
-    let h = and_parts (nat_le row.arrival 359999) (nat_le row.departure 359999) timed in
-    (grind (arith, nat_tests, h.0), grind (arith, nat_tests, h.1))
-
--- a time at most a week from a planned one
-near_moment : (start : ℤ) (seconds : ℕ) (time : ℤ) → IsDayStart start → seconds ≤ 359999 → is_delay (time -ℤ (start +ℤ pos seconds)) ≡ true → IsMoment time
-near_moment start seconds time day few near =
-    let bounds = delay-range (time -ℤ (start +ℤ pos seconds)) near in
-    omega (arith, ints, day, bounds.0, bounds.1)
-
-pub says_moments : (start : ℤ) (row : StopRow) (reading : StopReading) → IsDayStart start → is_timed row ≡ true
-    → is_near (planned start row) reading ≡ true → SaysMoments reading
-says_moments start row Absent day timed near = tt
-says_moments start row Skipped day timed near = tt
-says_moments start row (Timed arrival departure) day timed near =
-    let h = and_parts (is_delay (arrival -ℤ (planned start row).0)) (is_delay (departure -ℤ (planned start row).1)) near in
-    let seconds = few row timed in
-    (near_moment start row.arrival arrival day seconds.0 h.0, near_moment start row.departure departure day seconds.1 h.1)
 
 -- each reading of a trip is near the planned times of its stop
 pub near_at : (start : ℤ) (rows : List StopRow) (readings : List StopReading) (place : ℕ) (row : StopRow) (reading : StopReading)

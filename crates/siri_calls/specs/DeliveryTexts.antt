@@ -4,7 +4,6 @@ use Rattle.std.specs.Prelude.{ℕ, ℤ, ◌+◌, Bool, true, false, List, [], �
 use Rattle.json.specs.Print.{quoted}
 use Rattle.serde_json.specs.Written.{comma_if}
 use Rattle.service_day.specs.DayTexts.{dashed_text}
-use Rattle.gw_base.specs.Moments.{IsMoment}
 use Rattle.service_day.specs.Utc.{moment_text}
 use Rattle.stop_schedule.specs.Planned.{planned}
 use Rattle.stop_schedule.specs.Table.{Table}
@@ -41,12 +40,6 @@ said_text Absent = []
 said_text Skipped = codes ",\"Cancellation\":true"
 said_text (Timed arrival departure) =
     times_text (codes ",\"ExpectedArrivalTime\":") (codes ",\"ExpectedDepartureTime\":") (arrival, departure)
-
--- the times of a reading, where it has any, are moments
-abbrev pub SaysMoments : StopReading → Type 0
-SaysMoments Absent = Unit {0}
-SaysMoments Skipped = Unit {0}
-SaysMoments (Timed arrival departure) = IsMoment arrival × IsMoment departure
 
 -- which stop of the trip it is, counted from 1, and its id, with which its call ends
 abbrev pub stop_text : ℕ → List ℕ → List ℕ

@@ -4,9 +4,9 @@ ghost use Rattle.serde_json.specs.Written.{comma_if};
 ghost use Rattle.gw_base.specs.Moments.{IsMoment};
 ghost use Rattle.stop_schedule.specs.Planned.{planned};
 ghost use Rattle.stop_schedule.specs.Stops.{are_known, is_timed};
-ghost use Rattle.journey_model.specs.Readings.{fits_trip, is_near};
+ghost use Rattle.journey_model.specs.Readings.{AreMoments, fits_trip, is_near};
 ghost use Rattle.siri_calls.specs.DeliveryTree.{stop_readings};
-ghost use Rattle.siri_calls.specs.DeliveryTexts.{SaysMoments, aimed_text, call_text, calls_text, said_text, stop_text};
+ghost use Rattle.siri_calls.specs.DeliveryTexts.{aimed_text, call_text, calls_text, said_text, stop_text};
 ghost use Rattle.siri_calls.specs.TripRuns.{run_over};
 
 use crate::trip_run::TripRun;
@@ -31,7 +31,7 @@ fn put_aimed(out: &mut Bytes, times: &(i64, i64)) -> Result<(), AllocError>
 
 // Adds how a stop reads.
 fn put_said(out: &mut Bytes, reading: &StopReading) -> Result<(), AllocError>
-    requires { SaysMoments reading.now }
+    requires { AreMoments reading.now }
     ensures { OnOk result (out.new ≡ out.old ++ said_text reading.now) }
 {
     match reading {
@@ -56,7 +56,7 @@ fn put_stop(out: &mut Bytes, order: u64, id: &str) -> Result<(), AllocError>
 }
 
 // Adds the call at a stop, counted from 1.
-#[tactic(auto, using(crate::proofs::WrittenTimes::says_moments), unfolding(crate::specs::DeliveryTexts::call_text))]
+#[tactic(auto, using(journey_model::proofs::Moments::reading_moments), unfolding(crate::specs::DeliveryTexts::call_text))]
 fn put_call(
     out: &mut Bytes,
     run: &TripRun<'_>,

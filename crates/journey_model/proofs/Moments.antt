@@ -1,0 +1,46 @@
+-- The planned times of a stop, and the times that it reads near them, are moments.
+use Rattle.std.proofs.Common.{◌≡◌, ◌≤◌, ◌+ℤ◌, ◌-ℤ◌, ℕ, ℤ, pos, true, nat_le, arith}
+use Rattle.std.proofs.lemmas.Bool.{and_parts, leb-true}
+use Rattle.std.proofs.lemmas.Int.{ints}
+use Rattle.gw_base.specs.Moments.{IsMoment}
+use Rattle.service_day.specs.Starts.{IsDayStart}
+use Rattle.stop_schedule.specs.Limits.{time_limit}
+use Rattle.stop_schedule.specs.Planned.{planned}
+use Rattle.stop_schedule.specs.Stops.{is_timed}
+use Rattle.stop_schedule.specs.declared.stop_times.StopRow.{StopRow}
+use Rattle.journey_model.specs.Readings.{AreMoments, is_near}
+use Rattle.journey_model.specs.Times.{is_delay}
+use Rattle.journey_model.specs.declared.readings.StopReading.{StopReading}
+use Rattle.journey_model.specs.declared.readings.StopReading.TheVariants.{Absent, Skipped, Timed}
+use Rattle.journey_model.proofs.Delays.{delay-range}
+
+-- the seconds of a stop's times from the start of the day
+timed_by : (row : StopRow) → is_timed row ≡ true → (row.arrival ≤ time_limit) × (row.departure ≤ time_limit)
+timed_by row timed =
+    let both = and_parts (nat_le row.arrival time_limit) (nat_le row.departure time_limit) timed in
+    (leb-true row.arrival time_limit both.0, leb-true row.departure time_limit both.1)
+
+pub planned_moments : (start : ℤ) (row : StopRow) → IsDayStart start → is_timed row ≡ true
+    → IsMoment (planned start row).0 × IsMoment (planned start row).1
+planned_moments start row day timed =
+    let seconds = timed_by row timed in
+    (omega (arith, ints, day, seconds.0), omega (arith, ints, day, seconds.1))
+
+-- a time at most a week from a planned one
+near_moment : (start : ℤ) (second : ℕ) (time : ℤ) → IsDayStart start → second ≤ time_limit
+    → is_delay (time -ℤ (start +ℤ pos second)) ≡ true → IsMoment time
+near_moment start second time day timed near =
+    let bounds = delay-range (time -ℤ (start +ℤ pos second)) near in
+    omega (arith, ints, day, timed, bounds.0, bounds.1)
+
+pub reading_moments : (start : ℤ) (row : StopRow) (reading : StopReading) → IsDayStart start → is_timed row ≡ true
+    → is_near (planned start row) reading ≡ true → AreMoments reading
+reading_moments start row Absent day timed near = tt
+reading_moments start row Skipped day timed near = tt
+reading_moments start row (Timed arrival departure) day timed near =
+    let seconds = timed_by row timed in
+    let delays = and_parts (is_delay (arrival -ℤ (planned start row).0)) (is_delay (departure -ℤ (planned start row).1))
+        near in (
+      near_moment start row.arrival arrival day seconds.0 delays.0,
+      near_moment start row.departure departure day seconds.1 delays.1,
+    )
