@@ -1,6 +1,6 @@
 -- How long the bodies of entities are.
-use Rattle.std.proofs.Common.{◌≡◌, ◌∙◌, ◌<◌, ◌≤◌, ◌-◌, ◌^◌, ◌++◌, ◌∷◌, ◌&&◌, Bool, true, false, ℕ, List, [], length, length-append, take, drop, Result, Ok, Err, refl, ap, arith}
-use Rattle.std.proofs.lemmas.Bool.{false≢true, ltb-true}
+use Rattle.std.proofs.Common.{◌≡◌, ◌∙◌, ◌<◌, ◌≤◌, ◌-◌, ◌^◌, ◌++◌, ◌∷◌, true, ℕ, List, [], length, length-append, take, drop, Result, Ok, Err, refl, ap, arith}
+use Rattle.std.proofs.lemmas.Bool.{ltb-true}
 use Rattle.std.proofs.lemmas.List.{take_all}
 use Rattle.std.proofs.lemmas.List.Elements.{All-from_recursion}
 use Rattle.std.specs.List.{AllByRecursion, list_all}
@@ -8,6 +8,7 @@ use Rattle.std.specs.Prelude.{IfOk}
 use Rattle.gw_base.specs.declared.messages.Entity.{Entity}
 use Rattle.gw_base.specs.declared.messages.Feed.{Feed}
 use Rattle.stop_schedule.specs.Table.{Table}
+use Rattle.stop_schedule.proofs.IdLemmas.{and-left, and-right}
 use Rattle.journey_model.specs.Situations.{AreKnown, is_known}
 use Rattle.journey_model.specs.declared.situation.Ref.{Ref}
 use Rattle.journey_model.specs.declared.situation.Ref.TheVariants.{Route, Stop, Journey}
@@ -78,14 +79,6 @@ meant (Ok bytes) entity message same means = λ before feed h. rw (← same) (me
 meant (Err fault) entity message same means = tt
 
 -- ---- what a situation refers to
-
-and-left : (a b : Bool) → (a && b) ≡ true → a ≡ true
-and-left true b h = refl
-and-left false b h = h
-
-and-right : (a b : Bool) → (a && b) ≡ true → b ≡ true
-and-right true b h = h
-and-right false b h = absurd (false≢true h)
 
 is_there : (table : Table) (one : Ref) → is_known table one ≡ true → IsKnown table one
 is_there table (Route route) h = ltb-true route.0 (length table.routes) h

@@ -12,9 +12,10 @@ use Rattle.std.specs.Option.{option_or}
 use Rattle.std.specs.Ordering.{is_eq, is_gt, is_lt, ordering_reverse}
 use Rattle.std.specs.declared.cmp.Ordering.{Ordering}
 use Rattle.std.specs.declared.cmp.Ordering.TheVariants.{Less, Equal, Greater}
+use Rattle.gw_base.proofs.Elements.{all_append, all_filter, or_none}
 use Rattle.feed_index.specs.Order.{AreRising, above, below, with_all, with_one}
 use Rattle.feed_index.specs.Staged.{AreStaged, IsNew}
-use Rattle.feed_index.proofs.OrderLemmas.{AreAbove, each_filter, each_joined, each_weaker, either_order, filter_all, filter_none, greater_trans, later_counts, turned_greater, turned_less}
+use Rattle.feed_index.proofs.OrderLemmas.{AreAbove, each_weaker, either_order, filter_all, filter_none, greater_trans, later_counts, turned_greater, turned_less}
 use Rattle.feed_index.proofs.RisingLemmas.{Parts, parts_at, parts_between, rising_one, rising_parts}
 
 module _ {X : Type 0} where
@@ -42,10 +43,6 @@ module _ {X : Type 0} where
           passes : (b : Bool) → q x ≡ b → cond b (Some x) (find q (filter p xs)) ≡ None
           passes true g = absurd (true≢false (sym e ∙ f x g))
           passes false g = h
-
-  pub or_none : (o : Option X) → option_or o None ≡ o
-  or_none None = refl
-  or_none (Some x) = refl
 
 is_equal : (a : Ordering) → is_eq a ≡ true → a ≡ Equal
 is_equal Less e = absurd (true≢false (sym e))
@@ -181,7 +178,7 @@ module _ {K X : Type 0} (key_of : X → K) {cmp : K → K → Ordering} (o : IsT
 
   pub new_to_put : (front : List X) (one : X) (k : K) → is_eq (cmp (key_of one) k) ≡ false → IsNew key_of cmp front k → IsNew key_of cmp (with_one key_of cmp front one) k
   new_to_put front one k apart new =
-      each_joined (λ x. is_eq (cmp (key_of x) k) ≡ false) _ (one ∷ above key_of cmp (key_of one) front) (each_filter _ _ front new) (apart, each_filter _ _ front new)
+      all_append (λ x. is_eq (cmp (key_of x) k) ≡ false) _ (one ∷ above key_of cmp (key_of one) front) (all_filter _ _ front new) (apart, all_filter _ _ front new)
 
   -- an element of the back comes to the front
   staged_rest : (front : List X) (x : X) (back : List X) → AreStaged key_of cmp front (x ∷ back) → AreStaged key_of cmp (with_one key_of cmp front x) back

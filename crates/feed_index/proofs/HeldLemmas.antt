@@ -5,11 +5,12 @@ use Rattle.std.proofs.lemmas.List.Sums.{sum_by-append, sum_by-cons}
 use Rattle.std.proofs.lemmas.List.Sorted.{IsPermutation-map, sum_by-IsPermutation}
 use Rattle.std.specs.Prelude.{◌==◌, count_by, IsPermutation}
 use Rattle.span_pool.specs.Spans.{bytes_of, without, live_bytes}
+use Rattle.span_pool.proofs.SpanLemmas.{bytes_of_put}
 use Rattle.feed_index.specs.declared.entry.Entry.{Entry}
 use Rattle.feed_index.specs.declared.row.Row.{Row}
 use Rattle.feed_index.specs.Entries.{AreSpansOf, total}
 use Rattle.feed_index.specs.Rows.{AreHeld, entries_of, entry_of, lives}
-use Rattle.feed_index.proofs.SpanLemmas.{added_new, added_other, lives-added, lives-without, same_number, without_gone, without_other}
+use Rattle.feed_index.proofs.SpanLemmas.{added_other, lives-added, lives-without, same_number, without_gone, without_other}
 use borrow.Author.Tests.{eqb-true}
 
 module _ {K R : Type 0} where
@@ -72,7 +73,7 @@ module _ {K R : Type 0} where
       rw is (added_other spans row.slot bytes slot live.0 live.1 ∙ sym live.1) in
       let front = same_entries spans now before (λ slot h. kept slot (omega (arith, count-append before after slot))) in
       let back = same_entries spans now after (λ slot h. kept slot (omega (arith, count-append before after slot))) in
-      let own : bytes_of now row.slot ≡ Some bytes = rw is (added_new spans row.slot bytes none) in
+      let own : bytes_of now row.slot ≡ Some bytes = rw is (bytes_of_put spans row.slot bytes none) in
       record {
         held = record {
           once = λ slot.

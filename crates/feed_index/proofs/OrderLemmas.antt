@@ -67,18 +67,6 @@ module _ {X : Type 0} where
   each_back P [] ys h = h
   each_back P (x ∷ xs) ys h = each_back P xs ys h.1
 
-  pub each_joined : (P : X → Type 0) (xs ys : List X) → AllByRecursion P xs → AllByRecursion P ys → AllByRecursion P (xs ++ ys)
-  each_joined P [] ys h k = k
-  each_joined P (x ∷ xs) ys h k = (h.0, each_joined P xs ys h.1 k)
-
-  pub each_filter : (P : X → Type 0) (p : X → Bool) (xs : List X) → AllByRecursion P xs → AllByRecursion P (filter p xs)
-  each_filter P p [] h = tt
-  each_filter P p (x ∷ xs) h = by (p x) (each_filter P p xs h.1)
-    where
-      by : (b : Bool) → AllByRecursion P (filter p xs) → AllByRecursion P (cond b (x ∷ filter p xs) (filter p xs))
-      by true k = (h.0, k)
-      by false k = k
-
   pub each_passes : (p : X → Bool) (xs : List X) → AllByRecursion (λ x. p x ≡ true) (filter p xs)
   each_passes p [] = tt
   each_passes p (x ∷ xs) = by (p x) refl (each_passes p xs)

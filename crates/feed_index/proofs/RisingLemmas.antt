@@ -13,8 +13,9 @@ use Rattle.std.specs.List.Sorted.{IsStrictlySortedBy, IsNonDecreasingBy, IsParti
 use Rattle.std.specs.Ordering.{is_lt, is_gt, is_eq, ordering_index}
 use Rattle.std.specs.declared.cmp.Ordering.{Ordering}
 use Rattle.std.specs.declared.cmp.Ordering.TheVariants.{Less, Equal, Greater}
+use Rattle.gw_base.proofs.Elements.{all_append}
 use Rattle.feed_index.specs.Order.{AreRising, below, above, with_one, with_all}
-use Rattle.feed_index.proofs.OrderLemmas.{AreBelow, AreAbove, each_weaker, each_front, each_back, each_joined, each_passes, filter_all, filter_none, is_less, is_greater, turned_less, turned_greater}
+use Rattle.feed_index.proofs.OrderLemmas.{AreBelow, AreAbove, each_weaker, each_front, each_back, each_passes, filter_all, filter_none, is_less, is_greater, turned_less, turned_greater}
 
 -- a list at an index
 pub split_at : {X : Type 0} (xs : List X) (i : ℕ) → i < length xs → (x : X) × (xs ≡ take i xs ++ x ∷ drop (suc i) xs) × ((d : X) → get_or xs i d ≡ x)
@@ -31,7 +32,7 @@ module _ {K X : Type 0} (key_of : X → K) {cmp : K → K → Ordering} (o : IsT
   unfolding IsStrictlySortedBy
   rising_joined k [] ys h e low high = e
   rising_joined k (x ∷ xs) ys h e low high = (
-    each_joined (λ y. cmp (key_of x) (key_of y) ≡ Less) xs ys h.0 (each_weaker _ _ (λ y g. o.trans (key_of x) k (key_of y) low.0 (turned_greater o (key_of y) k g)) ys high),
+    all_append (λ y. cmp (key_of x) (key_of y) ≡ Less) xs ys h.0 (each_weaker _ _ (λ y g. o.trans (key_of x) k (key_of y) low.0 (turned_greater o (key_of y) k g)) ys high),
     rising_joined k xs ys h.1 e low.1 high,
   )
 
@@ -39,7 +40,7 @@ module _ {K X : Type 0} (key_of : X → K) {cmp : K → K → Ordering} (o : IsT
   unfolding IsStrictlySortedBy
   rising_round [] x ys h e low high = (each_weaker _ _ (λ y g. turned_greater o (key_of y) (key_of x) g) ys high, e)
   rising_round (w ∷ xs) x ys h e low high = (
-    each_joined (λ y. cmp (key_of w) (key_of y) ≡ Less) xs (x ∷ ys) h.0 (low.0, each_weaker _ _ (λ y g. o.trans (key_of w) (key_of x) (key_of y) low.0 (turned_greater o (key_of y) (key_of x) g)) ys high),
+    all_append (λ y. cmp (key_of w) (key_of y) ≡ Less) xs (x ∷ ys) h.0 (low.0, each_weaker _ _ (λ y g. o.trans (key_of w) (key_of x) (key_of y) low.0 (turned_greater o (key_of y) (key_of x) g)) ys high),
     rising_round xs x ys h.1 e low.1 high,
   )
 

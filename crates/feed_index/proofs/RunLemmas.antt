@@ -5,9 +5,10 @@ use Rattle.std.specs.Cmp.{IsTotalOrder}
 use Rattle.std.specs.List.{AllByRecursion}
 use Rattle.std.specs.Ordering.{is_eq, is_lt}
 use Rattle.std.specs.declared.cmp.Ordering.{Ordering}
+use Rattle.gw_base.proofs.Elements.{all_filter}
 use Rattle.feed_index.specs.Order.{AreRising, above, below, with_all}
 use Rattle.feed_index.specs.Staged.{IsNew}
-use Rattle.feed_index.proofs.OrderLemmas.{AreBelow, all_round, each_filter, each_front, each_weaker}
+use Rattle.feed_index.proofs.OrderLemmas.{AreBelow, all_round, each_front, each_weaker}
 use Rattle.feed_index.proofs.RisingLemmas.{rising_parts, rising_take}
 use Rattle.feed_index.proofs.TurnLemmas.{last_of}
 
@@ -28,7 +29,7 @@ module _ {K X : Type 0} (key_of : X → K) (cmp : K → K → Ordering) where
 module _ {K X : Type 0} (key_of : X → K) {cmp : K → K → Ordering} (o : IsTotalOrder cmp) where
   -- a key that is new to a list is new to its part below another one
   new_below : (b k : K) (xs : List X) → IsNew key_of cmp xs k → IsNew key_of cmp (below key_of cmp b xs) k
-  new_below b k xs h = each_filter (λ (x : X). is_eq (cmp (key_of x) k) ≡ false) (λ (x : X). is_lt (cmp (key_of x) b)) xs h
+  new_below b k xs h = all_filter (λ (x : X). is_eq (cmp (key_of x) k) ≡ false) (λ (x : X). is_lt (cmp (key_of x) b)) xs h
 
   pub runs_begin : (rows : List X) (front : ℕ) → front ≤ length rows → AreRising key_of cmp (take front rows) → AreRising key_of cmp (drop front rows) → AllByRecursion (λ x. IsNew key_of cmp (take front rows) (key_of x)) (drop front rows) →
       Runs key_of cmp rows (take front rows) (drop front rows) front (length rows)

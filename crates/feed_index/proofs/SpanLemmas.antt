@@ -3,20 +3,12 @@ use Rattle.std.proofs.Common.{◌≡◌, ◌++◌, ◌∷◌, [], ◌+◌, ℕ, 
 use Rattle.std.proofs.lemmas.Bool.{true≢false}
 use Rattle.std.specs.Prelude.{◌==◌}
 use Rattle.span_pool.specs.Spans.{bytes_of, without}
+use Rattle.span_pool.proofs.SpanLemmas.{bytes_of_put}
 use Rattle.feed_index.specs.Rows.{lives}
 use borrow.Author.Tests.{eqb-true}
 
 pub same_number : (s : ℕ) → (s == s) ≡ true
 same_number s = eq-eqb s s refl
-
--- one more, at its slot and at another
-pub added_new : (spans : List (ℕ × List ℕ)) (s : ℕ) (b : List ℕ) → bytes_of spans s ≡ None → bytes_of (spans ++ (s, b) ∷ []) s ≡ Some b
-added_new [] s b h = rw (same_number s) refl
-added_new (one ∷ spans) s b h = by (one.0 == s) h (λ e. added_new spans s b e)
-  where
-    by : (c : Bool) → cond c (Some one.1) (bytes_of spans s) ≡ None → (bytes_of spans s ≡ None → bytes_of (spans ++ (s, b) ∷ []) s ≡ Some b) → cond c (Some one.1) (bytes_of (spans ++ (s, b) ∷ []) s) ≡ Some b
-    by true e more = cc
-    by false e more = more e
 
 pub added_other : (spans : List (ℕ × List ℕ)) (s : ℕ) (b : List ℕ) (t : ℕ) (x : List ℕ) → bytes_of spans t ≡ Some x → bytes_of (spans ++ (s, b) ∷ []) t ≡ Some x
 added_other [] s b t x h = cc
@@ -42,7 +34,7 @@ lives-added spans s b h t = by (s == t) refl
     by_found (Some x) e g = rw (added_other spans s b t x e, e) refl
 
     by : (c : Bool) → (s == t) ≡ c → lives (spans ++ (s, b) ∷ []) t ≡ lives spans t + cond c 1 0
-    by true e = let same : s ≡ t = eqb-true s t e in rw (← same, added_new spans s b h, h) refl
+    by true e = let same : s ≡ t = eqb-true s t e in rw (← same, bytes_of_put spans s b h, h) refl
     by false e = by_found (bytes_of spans t) refl e
 
 -- one given back, at its slot and at another

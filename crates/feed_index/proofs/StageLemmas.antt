@@ -9,10 +9,11 @@ use Rattle.std.specs.List.{AllByRecursion}
 use Rattle.std.specs.Ordering.{is_eq}
 use Rattle.std.specs.declared.cmp.Ordering.{Ordering}
 use Rattle.std.specs.declared.cmp.Ordering.TheVariants.{Equal}
+use Rattle.gw_base.proofs.Elements.{all_append, all_filter}
 use Rattle.feed_index.specs.Order.{above, below, with_one}
 use Rattle.feed_index.specs.Staged.{AreStaged, IsNew, Stages}
 use Rattle.feed_index.proofs.AllLemmas.{all_one, eq_turned, new_to_put, one_apart}
-use Rattle.feed_index.proofs.OrderLemmas.{each_filter, each_joined, each_weaker}
+use Rattle.feed_index.proofs.OrderLemmas.{each_weaker}
 use Rattle.feed_index.proofs.RisingLemmas.{high_parts, low_parts, rising_one}
 
 module _ {K X : Type 0} (key_of : X → K) {cmp : K → K → Ordering} (o : IsTotalOrder cmp) where
@@ -37,7 +38,7 @@ module _ {K X : Type 0} (key_of : X → K) {cmp : K → K → Ordering} (o : IsT
     staged = record {
       front_rises = h.front_rises;
       back_rises = rising_one key_of o back one h.back_rises;
-      apart = each_joined (λ x. IsNew key_of cmp front (key_of x)) _ (one ∷ above key_of cmp (key_of one) back) (each_filter _ _ back h.apart) (new, each_filter _ _ back h.apart);
+      apart = all_append (λ x. IsNew key_of cmp front (key_of x)) _ (one ∷ above key_of cmp (key_of one) back) (all_filter _ _ back h.apart) (new, all_filter _ _ back h.apart);
     };
     merged = all_one key_of o front back one h.back_rises;
   }
@@ -46,7 +47,7 @@ module _ {K X : Type 0} (key_of : X → K) {cmp : K → K → Ordering} (o : IsT
   pub new_at_gap : (k : K) (front : List X) → below key_of cmp k front ++ above key_of cmp k front ≡ front → IsNew key_of cmp front k
   new_at_gap k front h =
       let P : List X → Type 0 = λ xs. IsNew key_of cmp xs k in
-      subst P h (each_joined (λ x. is_eq (cmp (key_of x) k) ≡ false) _ _ (each_weaker _ _ (λ x g. ap is_eq g) _ (low_parts key_of o k front)) (each_weaker _ _ (λ x g. ap is_eq g) _ (high_parts key_of o k front)))
+      subst P h (all_append (λ x. is_eq (cmp (key_of x) k) ≡ false) _ _ (each_weaker _ _ (λ x g. ap is_eq g) _ (low_parts key_of o k front)) (each_weaker _ _ (λ x g. ap is_eq g) _ (high_parts key_of o k front)))
 
   -- an element of the front has the key: it is new to the back
   pub new_after : (front back : List X) (at : ℕ) (k : K) → at < length front → ((d : X) → cmp (key_of (get_or front at d)) k ≡ Equal) → AllByRecursion (λ x. IsNew key_of cmp front (key_of x)) back → IsNew key_of cmp back k

@@ -1,12 +1,9 @@
 -- One body without a fault is read.
-use Rattle.std.proofs.Common.{ℕ, ◌+◌, List, [], ◌∷◌, refl, inl, inr}
+use Rattle.std.proofs.Common.{ℕ, List, [], ◌∷◌, refl, inl, inr}
 use Rattle.std.specs.Prelude.{Option, None}
 use Rattle.std.specs.List.{last_or}
 use Rattle.gw_base.specs.declared.messages.Entity.{Entity}
-use Rattle.wire_fields.specs.Grammar.{WireField, AreFields}
-use Rattle.wire_fields.proofs.Existence.{decided}
 use Rattle.feed_reading.specs.declared.fault.FeedFault.{FeedFault}
-use Rattle.feed_reading.specs.declared.fault.FeedFault.TheVariants.{Wire}
 use Rattle.feed_reading.specs.declared.feed_reader.state.HeadSoFar.{HeadSoFar}
 use Rattle.feed_reading.specs.Known.{entity_known}
 use Rattle.feed_reading.specs.Meaning.{numbers, bodies, Means}
@@ -19,16 +16,7 @@ use Rattle.feed_reading.specs.Pieces.{InEach}
 use Rattle.feed_reading.proofs.FaultLaw.{read_entity}
 use Rattle.feed_reading.proofs.FaultOrder.{least_either, least_same}
 use Rattle.feed_reading.proofs.PieceSets.{same_turned, same_joined, same_inside, one_listed, in_same, faults_same}
-use Rattle.feed_reading.proofs.WholeMessages.{one_whole, texts_read}
-
-unbroken : (piece : Piece) → ((f : FeedFault) → ¬ IsTorn piece f)
-    → (fields : List WireField) × AreFields piece.bytes fields
-unbroken piece none =
-    elim (decided piece.bytes) [
-      | inl read ↦ read
-      | inr broken ↦ absurd
-          (none (Wire (record { at = piece.start + broken.0; kind = broken.1 })) (broken.0, broken.2, refl))
-    ]
+use Rattle.feed_reading.proofs.WholeMessages.{one_whole, texts_read, unbroken}
 
 pub entity_meant : (end : ℕ) (piece : Piece) → ((f : FeedFault) → ¬ InEach entity_known end piece f)
     → (entity : Entity) × Means OfFeedEntity piece.bytes entity

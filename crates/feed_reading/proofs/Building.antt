@@ -56,7 +56,7 @@ AllZip-push R [] (b ∷ ys) x y h r = absurd h
 AllZip-push R (a ∷ xs) [] x y h r = absurd h
 AllZip-push R (a ∷ xs) (b ∷ ys) x y h r = (h.0, AllZip-push R xs ys x y h.1 r)
 
-bodies-more : (number : ℕ) (fields more : List WireField)
+pub bodies-more : (number : ℕ) (fields more : List WireField)
     → bodies number (fields ++ more) ≡ bodies number fields ++ bodies number more
 bodies-more number fields more = filter_map-append _ fields more
 

@@ -1,6 +1,6 @@
 -- What a reader of a feed in pieces answers at the end of the bytes that it stands for.
 use Rattle.std.proofs.Common.{◌≡◌, ◌≢◌, ℕ, pos, suc, ◌+◌, ◌*◌, ◌%◌, ◌^◌, ◌<◌, ◌≤◌, List, [], ◌∷◌, ◌++◌, length, length-append, append_assoc, refl, sym, ap, subst, ◌∙◌, inl, inr, arith}
-use Rattle.std.proofs.lemmas.List.{append-nil}
+use Rattle.std.proofs.lemmas.List.{append-nil, nil_from_length}
 use Rattle.std.specs.Prelude.{Option, Some, None, option_map, unwrap_or, Result, Ok, Err, IfOk, IfErr}
 use Rattle.std.specs.Int.{w32, cast_signed}
 use Rattle.std.specs.List.{AllByRecursion, concat, last_or}
@@ -30,7 +30,7 @@ use Rattle.feed_reading.specs.Meaning.{bodies as bodies_of, Means, IsJoined, IsM
 use Rattle.feed_reading.specs.Tables.{OfFeedEntity, OfFeedHeader, header_of, MeansFeed}
 use Rattle.feed_reading.proofs.FieldFaults.{Clear, broken_at_end, missing_header, missing_version, nothing_missing}
 use Rattle.feed_reading.proofs.FeedReading.{same_parts, between_at, in_field_once}
-use Rattle.feed_reading.proofs.LongEntities.{number_once}
+use Rattle.feed_reading.proofs.LongEntities.{number_once, tag_of_long}
 use Rattle.feed_reading.proofs.Told.{told}
 use Rattle.feed_reading.proofs.WholeMessages.{last_there, text_there}
 
@@ -59,12 +59,9 @@ varint_some : (bytes : List ℕ) (value : ℕ) → IsVarint bytes value → 1 �
 varint_some [] value h = absurd h.chain
 varint_some (byte ∷ bytes) value h = omega arith
 
-long_begins : (begun : List ℕ) → (l : IsLongHere begun) → BeginsNumber begun 18 (l.size ++ l.rest)
-long_begins begun l = (l.tag, l.joined, l.tagged)
-
 other_tag : (begun : List ℕ) (l : IsLongHere begun) (value : ℕ) (rest : List ℕ) → BeginsNumber begun value rest
     → (18 ≡ value) × (l.size ++ l.rest ≡ rest)
-other_tag begun l value rest b = number_once begun 18 value (l.size ++ l.rest) rest (long_begins begun l) b
+other_tag begun l value rest b = number_once begun 18 value (l.size ++ l.rest) rest (tag_of_long begun l) b
 
 part_long : (part : Part) (begun : List ℕ) → tops.IsPart part begun → (l : IsLongHere begun)
     → (left : ℕ) × (tops.place_in [] part ≡ InField 2 l.len left)
@@ -243,10 +240,6 @@ whole_by bytes given fields None taken read none entities known len =
 whole_by bytes given fields (Some head) taken read none entities known len =
     version_by bytes given fields head taken head.version refl read none entities known len
 
-nil_of : (xs : List ℕ) → length xs ≡ 0 → xs ≡ []
-nil_of [] e = refl
-nil_of (x ∷ xs) e = absurd (omega (arith, e))
-
 pub finishes : (s : Seen) (bytes : List ℕ) (given : List Entity) → s.fault ≡ None → tops.place_of s.top ≡ Between
     → StandsFor s bytes given → Finishes bytes given (whole_head s.head s.taken)
 finishes s bytes given none at_end h =
@@ -256,7 +249,7 @@ finishes s bytes given none at_end h =
           let empty : length r.begun ≡ 0 =
           omega (arith, place, r.place, ap length r.joined, length-append r.front r.begun) in
           let whole : r.front ≡ bytes = sym (append-nil r.front)
-          ∙ ap (λ (l : List ℕ). r.front ++ l) (sym (nil_of r.begun empty)) ∙ sym r.joined in
+          ∙ ap (λ (l : List ℕ). r.front ++ l) (sym (nil_from_length r.begun empty)) ∙ sym r.joined in
           whole_by bytes given r.fields s.head s.taken (subst (λ (b : List ℕ). AreFields b r.fields) whole r.read)
           (subst (λ (b : List ℕ). Faultless b) whole r.faultless) r.entities r.head h.taken
       | inr stop ↦ (let d = sym none ∙ stop.found in absurd cc)

@@ -2,7 +2,7 @@
 use Rattle.std.proofs.Common.{◌≡◌, ◌≢◌, ◌==◌, ◌&&◌, ℕ, ◌+◌, ◌-◌, ◌*◌, ◌<◌, ◌≤◌, Bool, true, false, List, [], ◌∷◌, ◌++◌, length, take, drop, nat_lt, length-append, append_assoc, refl, sym, ap, subst, ◌∙◌, inl, inr, arith, eqb-true, eq-eqb}
 use Rattle.std.proofs.Math.Seq.{take-append_seam, drop-append_seam}
 use Rattle.std.proofs.lemmas.Bool.{cases_lt, ltb-true, ltb-false, ne_eqb}
-use Rattle.std.proofs.lemmas.List.{append-nil}
+use Rattle.std.proofs.lemmas.List.{append-nil, nil_from_length}
 use Rattle.std.specs.Prelude.{◌⊎◌, Option, Some, None, is_some, MatchBool, if◌then◌else◌}
 use Rattle.gw_base.specs.declared.messages.Entity.{Entity}
 use Rattle.gw_base.specs.declared.wire_kind.WireKind.TheVariants.{Truncated}
@@ -15,7 +15,7 @@ use Rattle.wire_fields.specs.OpenGroups.{IsOpen}
 use Rattle.wire_fields.specs.TopReading as tops
 use Rattle.wire_fields.specs.TopReading.{Top, Between, InField, Elsewhere, IsInNoField, EndsWith, EndsWithBytes, HasMore, HasBegun, HasPart, HasOther, place_left}
 use Rattle.wire_fields.proofs.Lists.{Concatenates-push}
-use Rattle.wire_fields.proofs.Stays.{broken_stays}
+use Rattle.wire_fields.proofs.Stays.{broken_stays, further}
 use Rattle.feed_reading.specs.declared.fault.FeedFault.{FeedFault}
 use Rattle.feed_reading.specs.declared.fault.FeedFault.TheVariants.{EntityTooLong, Wire}
 use Rattle.feed_reading.specs.declared.feed_reader.state.Body.{Body}
@@ -50,10 +50,6 @@ same_ends a b c d e len =
     let sum = ap length e in
     let same : length a ≡ length c = omega (arith, sum, length-append a b, length-append c d) in
     (same_parts a b c d e same).1
-
--- what came of a field, with the bytes after it
-further : (front begun taken bytes : List ℕ) → bytes ≡ front ++ begun → bytes ++ taken ≡ front ++ (begun ++ taken)
-further front begun taken bytes joined = ap (λ (l : List ℕ). l ++ taken) joined ∙ append_assoc front begun taken
 
 -- ---- where the top level stands
 
@@ -806,13 +802,9 @@ passed_steps old bytes taken given count h some len = record {
 
 -- ---- the body that ends
 
-nil_of : (xs : List ℕ) → length xs ≡ 0 → xs ≡ []
-nil_of [] e = refl
-nil_of (x ∷ xs) e = absurd (omega (arith, e))
-
 -- what is the whole body where nothing is held
 pub alone : (held bytes : List ℕ) → true ≡ (length held == 0) → bytes ≡ held ++ bytes
-alone held bytes e = ap (λ (h : List ℕ). h ++ bytes) (sym (nil_of held (eqb-true (length held) 0 (sym e))))
+alone held bytes e = ap (λ (h : List ℕ). h ++ bytes) (sym (nil_from_length held (eqb-true (length held) 0 (sym e))))
 
 -- ---- nothing came yet
 

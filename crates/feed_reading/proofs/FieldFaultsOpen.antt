@@ -11,11 +11,12 @@ use Rattle.wire_fields.proofs.Broken.{broken_once}
 use Rattle.wire_fields.proofs.Fronts.{first_fault, first_whole}
 use Rattle.wire_fields.proofs.Items.{FailsAtItem, item_found, item_fault}
 use Rattle.wire_fields.proofs.Numbers.{varint_again, varint_long}
+use Rattle.wire_fields.proofs.Stays.{long_stays}
 use Rattle.feed_reading.specs.declared.fault.FeedFault.{FeedFault}
 use Rattle.feed_reading.specs.declared.fault.FeedFault.TheVariants.{EntityTooLong, Wire}
 use Rattle.feed_reading.specs.Faults.{IsTorn, IsLeast, order}
 use Rattle.feed_reading.specs.Found.{IsLongHere}
-use Rattle.feed_reading.proofs.LongEntities.{number_once}
+use Rattle.feed_reading.proofs.LongEntities.{number_once, tag_of_long}
 use Rattle.feed_reading.proofs.PieceWalks.{torn_there}
 use Rattle.feed_reading.proofs.Walking.{from, broken_here, stands_nowhere, long_here, long_only_here}
 use Rattle.feed_reading.proofs.FieldFaultsOwn.{Own, too_long, torn, torn_header, header_text, in_entity, own_from}
@@ -63,10 +64,6 @@ least_break far rest kind b short =
 
 -- ---- more bytes after a break make no entity that is too long
 
-long_more : (rest more : List ℕ) → BeginsLong rest → BeginsLong (rest ++ more)
-long_more rest more h =
-    (h.0, h.1 ++ more, ap (λ (l : List ℕ). l ++ more) h.2 ∙ append_assoc h.0 h.1 more, h.3, h.4)
-
 begins_more : (bytes rest more : List ℕ) (value : ℕ) → BeginsNumber bytes value rest
     → BeginsNumber (bytes ++ more) value (rest ++ more)
 begins_more bytes rest more value h =
@@ -75,9 +72,6 @@ begins_more bytes rest more value h =
 long_or_number : (bytes rest : List ℕ) (value : ℕ) → BeginsLong bytes → BeginsNumber bytes value rest → ⊥
 long_or_number bytes rest value long h =
     let d = sym (varint_long bytes long) ∙ ap varint_at h.1 ∙ varint_again h.0 rest value h.2 in absurd cc
-
-tag_of_long : (bytes : List ℕ) → (h : IsLongHere bytes) → BeginsNumber bytes 18 (h.size ++ h.rest)
-tag_of_long bytes h = (h.tag, h.joined, h.tagged)
 
 -- an entity that is too long in more bytes has the tag that stands there, and after it its length
 long_tag : (rest more later : List ℕ) (value : ℕ) → BeginsNumber rest value later → (h : IsLongHere (rest ++ more))
@@ -93,10 +87,10 @@ sound_tag = record { bits = omega arith; number = omega arith; type = omega arit
 by_fault : (rest more : List ℕ) (kind : WireKind) → kind ≢ Truncated → FailsAtItem rest kind → IsLongHere (rest ++ more)
     → ⊥
 by_fault rest more kind ne (inl (is, inl long)) h =
-    long_or_number (rest ++ more) (h.size ++ h.rest) 18 (long_more rest more long) (tag_of_long (rest ++ more) h)
+    long_or_number (rest ++ more) (h.size ++ h.rest) 18 (long_stays rest more long) (tag_of_long (rest ++ more) h)
 by_fault rest more kind ne (inl (is, inr x)) h =
     let later = long_tag rest more x.1 x.2 (x.0, x.3, x.4) h in
-    long_or_number (x.1 ++ more) h.rest h.len (long_more x.1 more x.7) later.1
+    long_or_number (x.1 ++ more) h.rest h.len (long_stays x.1 more x.7) later.1
 by_fault rest more kind ne (inr (inl (is, x))) h =
     let later = long_tag rest more x.1 x.2 (x.0, x.3, x.4) h in
     x.5 (subst (λ (n : ℕ). IsSoundTag n) (sym later.0) sound_tag)

@@ -4,6 +4,7 @@ use Rattle.std.proofs.lemmas.List.Elements.{filter_map-append}
 use Rattle.std.specs.Prelude.{Option, Some, None, IsUtf8}
 use Rattle.std.specs.Option.{option_or}
 use Rattle.std.specs.List.{last_or, concat, AllByRecursion}
+use Rattle.gw_base.proofs.Elements.{all_append}
 use Rattle.wire_fields.specs.Grammar.{Payload, Bytes, WireField, IsSpelling}
 use Rattle.wire_fields.proofs.Lists.{Concatenates-append}
 use Rattle.feed_reading.specs.declared.feed_reader.state.HeadSoFar.{HeadSoFar}
@@ -11,7 +12,6 @@ use Rattle.feed_reading.specs.FeedPieces.{OfHeadSoFar}
 use Rattle.feed_reading.specs.FeedSteps.{head_after}
 use Rattle.feed_reading.specs.Meaning.{number_in, body_in, payloads, bodies, Means, AreBodies, IsJoined, IsMessage}
 use Rattle.feed_reading.proofs.OneMore.{held_new, found_more, means_one, means_joined}
-use Rattle.wire_fields.proofs.Everywhere.{all_append}
 
 held-append : {X : Type 0} (what : Payload → Option X) (number : ℕ) (fields more : List WireField)
     → payloads what number (fields ++ more) ≡ payloads what number fields ++ payloads what number more

@@ -24,19 +24,19 @@ number_once bytes value other rest left h k =
     let pair = ok_is (value, rest) (other, left) (sym first ∙ second) in
     (ap (λ (p : ℕ × List ℕ). p.0) pair, ap (λ (p : ℕ × List ℕ). p.1) pair)
 
-tag_of : (bytes : List ℕ) → (h : IsLongHere bytes) → BeginsNumber bytes 18 (h.size ++ h.rest)
-tag_of bytes h = (h.tag, h.joined, h.tagged)
+pub tag_of_long : (bytes : List ℕ) → (h : IsLongHere bytes) → BeginsNumber bytes 18 (h.size ++ h.rest)
+tag_of_long bytes h = (h.tag, h.joined, h.tagged)
 
 pub other_tag : (bytes rest : List ℕ) (tag : ℕ) → BeginsNumber bytes tag rest → (tag ≡ 18 → ⊥) → ¬ IsLongHere bytes
-other_tag bytes rest tag b ne h = ne (number_once bytes tag 18 rest (h.size ++ h.rest) b (tag_of bytes h)).0
+other_tag bytes rest tag b ne h = ne (number_once bytes tag 18 rest (h.size ++ h.rest) b (tag_of_long bytes h)).0
 
 pub no_tag : (bytes : List ℕ) → ((value : ℕ) (rest : List ℕ) → ¬ BeginsNumber bytes value rest) → ¬ IsLongHere bytes
-no_tag bytes none h = none 18 (h.size ++ h.rest) (tag_of bytes h)
+no_tag bytes none h = none 18 (h.size ++ h.rest) (tag_of_long bytes h)
 
 -- after the tag stands the length
 size_of : (bytes rest : List ℕ) (tag : ℕ) → BeginsNumber bytes tag rest → (h : IsLongHere bytes)
     → BeginsNumber rest h.len h.rest
-size_of bytes rest tag b h = (h.size, (number_once bytes tag 18 rest (h.size ++ h.rest) b (tag_of bytes h)).1, h.sized)
+size_of bytes rest tag b h = (h.size, (number_once bytes tag 18 rest (h.size ++ h.rest) b (tag_of_long bytes h)).1, h.sized)
 
 pub no_size : (bytes rest : List ℕ) (tag : ℕ) → BeginsNumber bytes tag rest
     → ((value : ℕ) (left : List ℕ) → ¬ BeginsNumber rest value left) → ¬ IsLongHere bytes

@@ -13,7 +13,7 @@ use Rattle.feed_reading.specs.Limits.{entity_limit}
 use Rattle.feed_reading.specs.Partly.{AreShort, IsFoundIn, IsFound, AreShortEntities}
 use Rattle.feed_reading.specs.Tables.{OfFeedEntity}
 use Rattle.gw_base.specs.declared.messages.Entity.{Entity}
-use Rattle.wire_fields.proofs.Everywhere.{all_append}
+use Rattle.gw_base.proofs.Elements.{all_append}
 use Rattle.feed_reading.proofs.Building.{AllZip-push, one_body}
 
 -- what a field holds that has the number

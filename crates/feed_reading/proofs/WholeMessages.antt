@@ -1,7 +1,6 @@
 -- Messages of which all pieces are lists of fields: what stands in them, and where nothing is wrong with it.
 use Rattle.std.proofs.Common.{◌≡◌, ◌≢◌, ℕ, ◌+◌, ◌≤◌, Bool, true, false, List, [], ◌∷◌, ◌++◌, refl, sym, ap, subst, ◌∙◌, inl, inr, arith}
 use Rattle.std.proofs.lemmas.List.{append-nil, map-append}
-use Rattle.std.proofs.lemmas.List.Elements.{filter_map-append}
 use Rattle.std.proofs.lemmas.Bool.{cases_lt}
 use Rattle.std.proofs.lemmas.Str.{IsUtf8-from_is_utf8, is_utf8-from_IsUtf8}
 use Rattle.std.specs.Prelude.{◌⊎◌, Option, Some, None, IsUtf8}
@@ -22,6 +21,7 @@ use Rattle.feed_reading.specs.Pieces.{InMessage, InEach}
 use Rattle.feed_reading.proofs.FaultOrder.{among_append, among_front, among_back}
 use Rattle.feed_reading.proofs.PieceSets.{same_turned, one_listed, in_same, faults_same, faults_some}
 use Rattle.feed_reading.proofs.WholePieces.{bytes_of, IsList, list_piece}
+use Rattle.feed_reading.proofs.Building.{bodies-more}
 
 -- each piece is a list of fields, and together they are these
 abbrev pub AreWhole : List Piece → List WireField → Type 0
@@ -29,10 +29,6 @@ AreWhole [] fields = fields ≡ []
 AreWhole (piece ∷ pieces) fields =
     (first : List WireField) × (others : List WireField) × AreFields piece.bytes first × AreWhole pieces others
     × (fields ≡ first ++ others)
-
-bodies-append : (number : ℕ) (fields more : List WireField)
-    → bodies number (fields ++ more) ≡ bodies number fields ++ bodies number more
-bodies-append number fields more = filter_map-append _ fields more
 
 pub one_whole : (piece : Piece) (fields : List WireField) → AreFields piece.bytes fields → AreWhole (piece ∷ []) fields
 one_whole piece fields read = (fields, [], read, refl, sym (append-nil fields))
@@ -53,7 +49,7 @@ inside_whole number (piece ∷ pieces) fields w =
           map-append (λ (p : Piece). p.bytes) l.inner k.inner
           ∙ ap (λ (bs : List (List ℕ)). bs ++ bytes_of k.inner) l.same_bytes
           ∙ ap (λ (bs : List (List ℕ)). bodies number w.0 ++ bs) k.same_bytes
-          ∙ sym (bodies-append number w.0 w.1) ∙ ap (bodies number) (sym w.4);
+          ∙ sym (bodies-more number w.0 w.1) ∙ ap (bodies number) (sym w.4);
       set = record {
         to = λ q x. elim x.1 [
           | inl e ↦ among_front l.inner k.inner q (l.set.to q (subst (λ (p : Piece). Stands p number q) e x.2))
@@ -85,9 +81,9 @@ whole_from [] h = ([], refl)
 whole_from (piece ∷ pieces) h = let rest = whole_from pieces h.1 in
     (h.0.0 ++ rest.0, (h.0.0, rest.0, h.0.1, rest.1, refl))
 
-not_torn_fields : (piece : Piece) → ((f : FeedFault) → ¬ IsTorn piece f)
+pub unbroken : (piece : Piece) → ((f : FeedFault) → ¬ IsTorn piece f)
     → (fields : List WireField) × AreFields piece.bytes fields
-not_torn_fields piece none =
+unbroken piece none =
     elim (decided piece.bytes) [
       | inl read ↦ read
       | inr broken ↦ absurd
@@ -98,7 +94,7 @@ pub whole_unbroken : (pieces : List Piece) → ((f : FeedFault) → ¬ InSome (A
     → (fields : List WireField) × AreWhole pieces fields
 whole_unbroken [] none = ([], refl)
 whole_unbroken (piece ∷ pieces) none =
-    let first = not_torn_fields piece (λ f t. none f (piece, inl refl, t)) in
+    let first = unbroken piece (λ f t. none f (piece, inl refl, t)) in
     let rest = whole_unbroken pieces (λ f x. none f (x.0, inr x.1, x.2)) in
     (first.0 ++ rest.0, (first.0, rest.0, first.1, rest.1, refl))
 
@@ -128,7 +124,7 @@ pub all_lack : (number : ℕ) (pieces : List Piece) (fields : List WireField) �
 all_lack number [] fields w none p a = absurd a
 all_lack number (piece ∷ pieces) fields w none p a =
     let parts = nil_parts (bodies number w.0) (bodies number w.1)
-    (sym (bodies-append number w.0 w.1) ∙ ap (bodies number) (sym w.4) ∙ none) in
+    (sym (bodies-more number w.0 w.1) ∙ ap (bodies number) (sym w.4) ∙ none) in
     elim a [
       | inl e ↦ subst (λ (q : Piece). Lacks number q) (sym e) (w.0, w.2, parts.0)
       | inr b ↦ all_lack number pieces w.1 w.3 parts.1 p b
@@ -141,7 +137,7 @@ lack_bodies number (piece ∷ pieces) fields w lack =
     let here = lack piece (inl refl) in
     let first : bodies number w.0 ≡ [] = ap (bodies number) (fields_once piece.bytes w.0 here.0 w.2 here.1) ∙ here.2 in
     let rest : bodies number w.1 ≡ [] = lack_bodies number pieces w.1 w.3 (λ p a. lack p (inr a)) in
-    ap (bodies number) w.4 ∙ bodies-append number w.0 w.1 ∙ ap (λ (bs : List (List ℕ)). bs ++ bodies number w.1) first
+    ap (bodies number) w.4 ∙ bodies-more number w.0 w.1 ∙ ap (λ (bs : List (List ℕ)). bs ++ bodies number w.1) first
     ∙ rest
 
 -- the first tag of a message
@@ -329,7 +325,7 @@ read_each : {M : Type 0} (known : Known) (Table : List WireField → M → Type 
     → (messages : List M) × AllZip (Means Table) (bytes_of inner) messages
 read_each known Table reads end [] none = ([], tt)
 read_each known Table reads end (piece ∷ inner) none =
-    let read = not_torn_fields piece (λ f t. none f (piece, inl refl, inl t)) in
+    let read = unbroken piece (λ f t. none f (piece, inl refl, inl t)) in
     let m = reads end piece [] read.0 (one_whole piece read.0 read.1)
     (λ f x. none f (piece, inl refl, inr (faults_same known end (same_turned (one_listed piece)) f x))) in
     let rest = read_each known Table reads end inner (λ f x. none f (x.0, inr x.1, x.2)) in

@@ -1,17 +1,12 @@
 -- The bytes of a header, cell by cell.
 use Rattle.std.proofs.Common.{◌≡◌, ℕ, ◌+◌, ◌<◌, ◌≤◌, ◌^◌, List, [], ◌∷◌, ◌++◌, length, length-append, arith, refl, ap, ◌∙◌}
 use Rattle.wire_fields.specs.Spelling.{seven_bits_each, varint, bytes_field}
-use Rattle.wire_fields.proofs.Varints.{last_byte, length-varint_6}
+use Rattle.wire_fields.proofs.Varints.{length-varint_6, varint-small}
 use Rattle.feed_writing.specs.Written.{feed_header}
 
 -- the fields up to the timestamp's value
 abbrev pub fields : List ℕ
 fields = 10 ∷ 3 ∷ 50 ∷ 46 ∷ 48 ∷ 16 ∷ 0 ∷ 24 ∷ []
-
--- a number below 128 is one byte
-varint-small : (number : ℕ) → number < 128 → varint number ≡ number ∷ []
-unfolding varint
-varint-small number small = last_byte 9 number small
 
 pub feed_header-is : (timestamp : ℕ) → feed_header timestamp ≡ fields ++ varint timestamp
 unfolding varint seven_bits_each

@@ -12,6 +12,7 @@ use Rattle.std.proofs.lemmas.List.{append-nil}
 use Rattle.alert_map.specs.Alerts.{alert_message}
 use Rattle.gw_base.specs.declared.messages.Entity.{Entity}
 use Rattle.gw_base.specs.declared.messages.Feed.{Feed}
+use Rattle.gw_base.proofs.Elements.{or_assoc, or_none}
 use Rattle.feed_reading.specs.Tables.{full_dataset}
 use Rattle.stop_schedule.specs.Table.{Table}
 use Rattle.stop_schedule.specs.declared.stop_times.StopRow.{StopRow}
@@ -59,19 +60,10 @@ given_is schedule feed (one ∷ others) says =
     ∙ ap (λ front. front ++ filter_map given (map (entity_said schedule feed) rest)) (ap (filter_map given) (says.0 feed) ∙ given_each (dated_reading one) own)
     ∙ ap (λ end. dated schedule one ++ end) (given_is schedule feed others says.1)
 
--- the last of the readings of two lists
-or_none : {X : Type 0} (o : Option X) → option_or o None ≡ o
-or_none None = refl
-or_none (Some x) = refl
-
-or_or : {X : Type 0} (a b c : Option X) → option_or (option_or a b) c ≡ option_or a (option_or b c)
-or_or None b c = refl
-or_or (Some x) b c = refl
-
 last_append : (trip : ℕ) (day : ℤ) (front end : List DatedReading) → last_reading trip day (front ++ end) ≡ option_or (last_reading trip day end) (last_reading trip day front)
 last_append trip day [] end = sym (or_none (last_reading trip day end))
 last_append trip day (one ∷ front) end =
-    rw (last_append trip day front end) (or_or (last_reading trip day end) (last_reading trip day front) _)
+    rw (last_append trip day front end) (or_assoc (last_reading trip day end) (last_reading trip day front) _)
 
 -- a record of another journey gives no reading
 none_of : (trip : ℕ) (day : ℤ) (one : Recorded) (entities : List Entity) → is_of trip day one ≡ false → last_reading trip day (map (λ (entity : Entity). dated_reading one) entities) ≡ None

@@ -1,10 +1,11 @@
 -- The latest of a key, when one more arrives.
-use Rattle.std.proofs.Common.{◌≡◌, ◌∙◌, ◌++◌, ◌∷◌, [], ℕ, suc, Bool, true, false, cond, not, ◌||◌, List, Option, Some, None, sym, ap, refl, subst}
+use Rattle.std.proofs.Common.{◌≡◌, ◌∙◌, ◌++◌, ◌∷◌, [], ℕ, suc, Bool, true, false, not, ◌||◌, List, Option, Some, None, sym, ap, refl, subst}
 use Rattle.std.proofs.lemmas.Bool.{or_left, or_right, true≢false}
 use Rattle.std.proofs.lemmas.List.{append_assoc}
 use Rattle.std.proofs.lemmas.List.Folds.{list_any-append}
-use Rattle.std.specs.Prelude.{filter, slice_get}
+use Rattle.std.specs.Prelude.{slice_get}
 use Rattle.std.specs.List.{AllByRecursion, list_any}
+use Rattle.gw_base.proofs.Elements.{all_append}
 use Rattle.latest_store.specs.Latest.{HasLatestOf, IsLatestOf}
 use Rattle.gateway_core.specs.Winners.{counts_by}
 
@@ -43,19 +44,6 @@ pub all_weaker : {X : Type 0} (P Q : X → Type 0) → ((x : X) → P x → Q x)
 all_weaker P Q f [] h = tt
 all_weaker P Q f (x ∷ xs) h = (f x h.0, all_weaker P Q f xs h.1)
 
--- what holds of all holds of those that pass a test
-pub all_filtered : {X : Type 0} (P : X → Type 0) (p : X → Bool) (xs : List X) → AllByRecursion P xs → AllByRecursion P (filter p xs)
-all_filtered P p [] h = tt
-all_filtered {X} P p (x ∷ xs) h = by (p x) (all_filtered P p xs h.1)
-  where
-    by : (b : Bool) → AllByRecursion P (filter p xs) → AllByRecursion P (cond b (x ∷ filter p xs) (filter p xs))
-    by true rest = (h.0, rest)
-    by false rest = rest
-
-pub all_joined : {X : Type 0} (P : X → Type 0) (xs ys : List X) → AllByRecursion P xs → AllByRecursion P ys → AllByRecursion P (xs ++ ys)
-all_joined P [] ys h k = k
-all_joined P (x ∷ xs) ys h k = (h.0, all_joined P xs ys h.1 k)
-
 -- ---- the one that counts, when one more arrives
 
 module _ {A : Type 0} (is_its : A → Bool) (is_later : A → A → Bool) where
@@ -85,7 +73,7 @@ module _ {A : Type 0} (is_its : A → Bool) (is_later : A → A → Bool) where
     among = ap (λ (front : List A). front ++ one ∷ []) h.among ∙ append_assoc h.before (old ∷ h.after) (one ∷ []);
     its = h.its;
     none_later = h.none_later;
-    all_earlier = all_joined (IsEarlier old) h.after (one ∷ []) h.all_earlier (never_its one lost, tt);
+    all_earlier = all_append (IsEarlier old) h.after (one ∷ []) h.all_earlier (never_its one lost, tt);
   }
 
   -- one that isn't as late
@@ -96,7 +84,7 @@ module _ {A : Type 0} (is_its : A → Bool) (is_later : A → A → Bool) where
     among = ap (λ (front : List A). front ++ one ∷ []) h.among ∙ append_assoc h.before (old ∷ h.after) (one ∷ []);
     its = h.its;
     none_later = h.none_later;
-    all_earlier = all_joined (IsEarlier old) h.after (one ∷ []) h.all_earlier (λ its. late, tt);
+    all_earlier = all_append (IsEarlier old) h.after (one ∷ []) h.all_earlier (λ its. late, tt);
   }
 
   -- the first of its key
@@ -124,7 +112,7 @@ module _ {A : Type 0} (is_its : A → Bool) (is_later : A → A → Bool) where
           all_weaker (IsNoLater old) (IsNoLater one) (λ other late_not its. gap other old one (late_not its) late) h.before h.none_later in
           let back : AllByRecursion (IsNoLater one) h.after =
           all_weaker (IsEarlier old) (IsNoLater one) (λ other earlier its. later_after old other one (earlier its) late) h.after h.all_earlier in
-          subst (AllByRecursion (IsNoLater one)) (sym h.among) (all_joined (IsNoLater one) h.before (old ∷ h.after) front (λ its. late, back));
+          subst (AllByRecursion (IsNoLater one)) (sym h.among) (all_append (IsNoLater one) h.before (old ∷ h.after) front (λ its. late, back));
       all_earlier = tt;
     }
 

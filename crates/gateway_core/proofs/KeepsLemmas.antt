@@ -10,6 +10,7 @@ use Rattle.std.specs.List.{AllByRecursion, list_all, list_any}
 use Rattle.std.specs.Ordering.{is_eq, is_gt, is_lt}
 use Rattle.std.specs.Result.{result_ok}
 use Rattle.std.specs.declared.cmp.Ordering.{Ordering}
+use Rattle.gw_base.proofs.Elements.{all_append, all_filter}
 use Rattle.journey_model.specs.declared.fault.Fault.{Fault}
 use Rattle.journey_model.specs.declared.fault.Fault.TheVariants.{Full}
 use Rattle.latest_store.specs.Latest.{HasLatestOf}
@@ -19,7 +20,7 @@ use Rattle.gateway_core.specs.Feeds.{are_ordered_by}
 use Rattle.gateway_core.specs.Keeping.{AreLatest, Keeps, above, at_key, below, with_one}
 use Rattle.gateway_core.specs.Taking.{with_room}
 use Rattle.gateway_core.specs.Winners.{IsKeyed, counts_by}
-use Rattle.gateway_core.proofs.HeldLemmas.{all_among, all_filtered, all_joined}
+use Rattle.gateway_core.proofs.HeldLemmas.{all_among}
 use Rattle.gateway_core.proofs.LatestLemmas.{key_is, latest_put, latest_same, none_after, own, room_is}
 use Rattle.gateway_core.proofs.OrderedLemmas.{map-put, some_found}
 use Rattle.gateway_core.proofs.RollLemmas.{all_with_room, filter_all}
@@ -124,9 +125,9 @@ module _ {A Q E : Type 0} (cmp : Q → Q → Ordering) (key_of : A → Q) (is_it
           ap (λ (es : List E). with_one key_in cmp es (entry one)) h.entries_are
           ∙ sym (map-put cmp key_of is_its is_later keyed comes_before by_key entry key_in its_key h.ordered one);
       all_good =
-          all_joined good (below key_of cmp (key_of one) h.ordered) (one ∷ above key_of cmp (key_of one) h.ordered)
-          (all_filtered good (λ x. is_lt (cmp (key_of x) (key_of one))) h.ordered h.all_good)
-          (its_good, all_filtered good (λ x. is_gt (cmp (key_of x) (key_of one))) h.ordered h.all_good);
+          all_append good (below key_of cmp (key_of one) h.ordered) (one ∷ above key_of cmp (key_of one) h.ordered)
+          (all_filter good (λ x. is_lt (cmp (key_of x) (key_of one))) h.ordered h.all_good)
+          (its_good, all_filter good (λ x. is_gt (cmp (key_of x) (key_of one))) h.ordered h.all_good);
     }
 
     -- one more that doesn't count changes nothing

@@ -9,12 +9,13 @@ use Rattle.std.specs.List.{list_all, list_any}
 use Rattle.std.specs.Ordering.{is_eq, is_lt}
 use Rattle.std.specs.declared.cmp.Ordering.{Ordering}
 use Rattle.std.specs.declared.cmp.Ordering.TheVariants.{Less, Equal, Greater}
+use Rattle.gw_base.proofs.Elements.{all_filter}
 use Rattle.gateway_core.specs.Keeping.{AreLatest, with_one}
 use Rattle.latest_store.specs.Latest.{HasLatestOf}
 use Rattle.gateway_core.specs.Winners.{IsKeyed, counts_by}
 use Rattle.gateway_core.specs.Feeds.{are_ordered_by}
 use Rattle.gateway_core.specs.Arrivals.{firsts, has_room}
-use Rattle.gateway_core.proofs.HeldLemmas.{IsEarlier, IsNoLater, all_filtered, latest_at, latest_other, latest_stays, passes_among}
+use Rattle.gateway_core.proofs.HeldLemmas.{IsEarlier, IsNoLater, latest_at, latest_other, latest_stays, passes_among}
 use Rattle.gateway_core.proofs.OrderedLemmas.{find_filter, find_put, none_found, of_key, ordered_filter, put_ordered, some_found}
 
 all_stay : {X : Type 0} (p : X → Bool) (xs : List X) → list_any p xs ≡ false → filter (λ x. not (p x)) xs ≡ xs
@@ -81,8 +82,8 @@ module _ {A Q : Type 0} (cmp : Q → Q → Ordering) (key_of : A → Q) (is_its 
               ap (filter p) l.among ∙ filter-append p l.before (one ∷ l.after)
               ∙ ap (λ (b : Bool). filter p l.before ++ cond b (one ∷ filter p l.after) (filter p l.after)) (at_key q one l.its ∙ e);
           its = l.its;
-          none_later = all_filtered (IsNoLater (is_its q) is_later one) p l.before l.none_later;
-          all_earlier = all_filtered (IsEarlier (is_its q) is_later one) p l.after l.all_earlier;
+          none_later = all_filter (IsNoLater (is_its q) is_later one) p l.before l.none_later;
+          all_earlier = all_filter (IsEarlier (is_its q) is_later one) p l.after l.all_earlier;
         }
 
         by : (q : Q) (b : Bool) → passes q ≡ b → HasLatestOf (is_its q) is_later (filter p all) (cond b (find (is_its q) xs) None)

@@ -10,10 +10,11 @@ use Rattle.std.specs.List.{AllByRecursion, Contains, list_any}
 use Rattle.std.specs.List.Sorted.{IsPermutation}
 use Rattle.std.specs.Ordering.{is_lt}
 use Rattle.std.specs.declared.cmp.Ordering.{Ordering}
+use Rattle.gw_base.proofs.Elements.{all_append}
 use Rattle.latest_store.specs.Latest.{HasLatestOf, IsLatestOf}
 use Rattle.gateway_core.specs.Winners.{IsKeyed}
 use Rattle.gateway_core.specs.Arrivals.{admit, firsts, has_room}
-use Rattle.gateway_core.proofs.HeldLemmas.{IsEarlier, IsNoLater, all_joined, all_weaker}
+use Rattle.gateway_core.proofs.HeldLemmas.{IsEarlier, IsNoLater, all_weaker, passes_among}
 use Rattle.gateway_core.proofs.LatestLemmas.{AreDistinct, any_firsts, distinct_firsts, fewer, key_is, no_other, own}
 
 -- ---- elements
@@ -76,10 +77,6 @@ none_pass {X} t (x ∷ xs) h = by (t x) refl (none_pass t xs) h
     by true e rest f = absurd (true≢false f)
     by false e rest f = (e, rest f)
 
-any_passes : {X : Type 0} (t : X → Bool) (before after : List X) (one : X) → t one ≡ true → list_any t (before ++ one ∷ after) ≡ true
-any_passes t [] after one e = or_left (t one) (list_any t after) e
-any_passes t (first ∷ before) after one e = or_right (t first) (list_any t (before ++ one ∷ after)) (any_passes t before after one e)
-
 -- what passes a test, in any order
 
 any_filter : {X : Type 0} (t p : X → Bool) (xs : List X) → list_any t (filter p xs) ≡ list_any (λ x. p x && t x) xs
@@ -141,7 +138,7 @@ module _ {A : Type 0} (is_its : A → Bool) (is_later : A → A → Bool) (never
       no_later : AllByRecursion (IsNoLater is_its is_later one) xs
       no_later =
           subst (AllByRecursion (IsNoLater is_its is_later one)) (sym h.among)
-          (all_joined (IsNoLater is_its is_later one) h.before (one ∷ h.after) h.none_later
+          (all_append (IsNoLater is_its is_later one) h.before (one ∷ h.after) h.none_later
           ((λ its. no_self one), all_weaker (IsEarlier is_its is_later one) (IsNoLater is_its is_later one) (λ other earlier its. never_both one other (earlier its)) h.after h.all_earlier))
 
       tested : (other : A) → (is_its other && not (is_later one other)) ≡ true → (is_its other ≡ true) × (is_later one other ≡ false)
@@ -157,7 +154,7 @@ module _ {A : Type 0} (is_its : A → Bool) (is_later : A → A → Bool) (never
       last =
           last_of (λ other. is_its other && not (is_later one other)) ys
           (sym (any (λ other. is_its other && not (is_later one other))) ∙ ap (list_any (λ other. is_its other && not (is_later one other))) h.among
-          ∙ any_passes (λ other. is_its other && not (is_later one other)) h.before h.after one (rw (h.its, no_self one) refl))
+          ∙ passes_among (λ other. is_its other && not (is_later one other)) h.before h.after one (rw (h.its, no_self one) refl))
 
       same : last.one ≡ one
       same =
@@ -257,7 +254,7 @@ module _ {A Q : Type 0} (cmp : Q → Q → Ordering) (key_of : A → Q) (is_its 
             more q false e f = absurd (both_ways (list_any (is_its q) (filter counts before)) (fewer cmp key_of is_its is_later keyed comes_before by_key (is_its q) counts before e) f)
 
             by : (q : Q) (b : Bool) → is_its q one ≡ b → (b || list_any (is_its q) (firsts alike (filter counts before))) ≡ true → list_any (is_its q) (before ++ one ∷ others) ≡ true
-            by q true its e = any_passes (is_its q) before others one its
+            by q true its e = passes_among (is_its q) before others one its
             by q false its e =
                 list_any-append (is_its q) before (one ∷ others)
                 ∙ or_left (list_any (is_its q) before) (list_any (is_its q) (one ∷ others))

@@ -10,6 +10,7 @@ use Rattle.std.proofs.lemmas.List.FromFn.{length-map-range_with_len}
 use Rattle.std.specs.Prelude.{◌+ℤ◌, ◌≤ℤ◌, filter, int_le, int_lt, nat_lt, is_some, length, option_map, slice_index_or}
 use Rattle.std.specs.Int.{int_max}
 use Rattle.std.specs.List.{AllByRecursion, flat_map, list_all}
+use Rattle.gw_base.proofs.Elements.{all_more}
 use Rattle.service_day.specs.Starts.{start}
 use Rattle.service_day.specs.Windows.{DayStarts, start_in}
 use Rattle.feed_writing.specs.Written.{written}
@@ -29,10 +30,6 @@ use Rattle.gateway_core.proofs.RoomLemmas.{admits}
 use Rattle.gateway_core.proofs.WindowLemmas.{among, window_from-is}
 
 -- ---- tests over lists
-
-all_more : {X : Type 0} (P : X → Type 0) (xs : List X) (x : X) → AllByRecursion P xs → P x → AllByRecursion P (xs ++ x ∷ [])
-all_more P [] x h p = (p, tt)
-all_more P (first ∷ xs) x h p = (h.0, all_more P xs x h.1 p)
 
 -- what passes one test and not the other is in neither
 pub filter_twice : {X : Type 0} (p q : X → Bool) (xs : List X) → AllByRecursion (λ x. p x ≡ true → q x ≡ true) xs → filter p xs ≡ filter p (filter q xs)

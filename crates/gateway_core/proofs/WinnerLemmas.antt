@@ -1,5 +1,5 @@
 -- The keys of records and of situations, and their orders.
-use Rattle.std.proofs.Common.{◌≡◌, ◌∙◌, ℕ, ℤ, Bool, true, false, ◌&&◌, ap, refl, arith}
+use Rattle.std.proofs.Common.{◌≡◌, ◌∙◌, ℕ, ℤ, true, false, ◌&&◌, ap, refl, arith}
 use Rattle.std.proofs.lemmas.Cmp.{on_total, then_total, nat_cmp_total, int_cmp_total, eq_by_cmp_equiv}
 use Rattle.std.proofs.lemmas.Int.{ints}
 use Rattle.std.specs.Prelude.{nat_lt}
@@ -9,6 +9,7 @@ use Rattle.std.specs.FinMap.{int_cmp-IsAntisymmetric, nat_cmp-IsAntisymmetric, s
 use Rattle.std.specs.Ordering.{int_cmp, int_eq, is_eq, nat_cmp, on, ordering_then, then_cmp}
 use Rattle.std.specs.declared.cmp.Ordering.{Ordering}
 use Rattle.std.specs.declared.cmp.Ordering.TheVariants.{Less, Equal, Greater}
+use Rattle.std.proofs.Math.Bool.{and_comm}
 use Rattle.journey_model.specs.Records.{Recorded}
 use Rattle.journey_model.specs.declared.situation.Situation.{Situation}
 use Rattle.latest_store.specs.Latest.{has_number, is_later, is_newer, was_later}
@@ -32,17 +33,11 @@ same_key p q e =
     parts Equal b e = (refl, e)
     parts Greater b e = absurd cc
 
-and_turned : (a b : Bool) → (a && b) ≡ (b && a)
-and_turned true true = refl
-and_turned true false = refl
-and_turned false true = refl
-and_turned false false = refl
-
 -- a record is of the trip and day of its key
 has_own_key : (key : Key) (one : Recorded) → has_key key one ≡ is_eq (key_cmp (key_of one) key)
 has_own_key key one =
     ap (λ same. same && int_eq one.day key.0) (unsigned_ties one.trip key.1)
-    ∙ and_turned (is_eq (nat_cmp one.trip key.1)) (int_eq one.day key.0)
+    ∙ and_comm (is_eq (nat_cmp one.trip key.1)) (int_eq one.day key.0)
     ∙ tied_then (int_cmp one.day key.0) (nat_cmp one.trip key.1)
 
 pub journeys : IsKeyed key_cmp key_of has_key was_later

@@ -84,11 +84,7 @@ impl FeedTaking {
         ensures window { self.new.window ≡ self.old.window }
         ensures counted { OnOk result (self.new.reader.taken ≡ self.old.reader.taken + length piece.now) }
     {
-        let context = Context {
-            table: &gate.setting.table,
-            zone: &gate.setting.zone,
-            window: &self.window,
-        };
+        let context = gate.setting.context_over(&self.window);
         take_all(&context, &mut self.reader, &mut self.fold, piece)
     }
 }

@@ -85,10 +85,6 @@ impl Gateway {
             → result ≡ schedule_at self.now.setting (moments_of arrivals) }
         ensures own_window { IsWindowIn result.zone result.window }
     {
-        Context {
-            table: &self.setting.table,
-            zone: &self.setting.zone,
-            window: &self.window,
-        }
+        self.setting.context_over(&self.window)
     }
 }

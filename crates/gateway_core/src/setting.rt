@@ -22,6 +22,7 @@ pub struct Setting {
 
 impl Setting {
     ghost use Rattle.std.specs.Prelude.{◌≡◌};
+    ghost use Rattle.journey_model.specs.Schedules.{schedule_from};
     ghost use Rattle.gateway_core.specs.Deliveries.{schedule_in};
 
     /// The same, lent: the window is one of the context's zone.
@@ -29,10 +30,17 @@ impl Setting {
         ensures shows { result ≡ schedule_in self.now }
         ensures own_window { IsWindowIn result.zone result.window }
     {
+        self.context_over(&self.window)
+    }
+
+    // The same over another window, lent.
+    pub(crate) fn context_over<'a>(&'a self, window: &'a Window) -> Context<'a>
+        ensures { result ≡ schedule_from self.now.table self.now.zone window.now }
+    {
         Context {
             table: &self.table,
             zone: &self.zone,
-            window: &self.window,
+            window,
         }
     }
 }

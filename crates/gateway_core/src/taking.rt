@@ -12,7 +12,6 @@ use crate::estimated::{Made, made_of};
 use crate::gateway::Gateway;
 use crate::rolling::{Rolled, rolled_by};
 use gw_base::Moment;
-use journey_model::Context;
 use std::alloc::{AllocError, Global};
 
 impl Gateway {
@@ -33,12 +32,7 @@ impl Gateway {
         ensures refused { OnErr result (self.new ≡ self.old) }
     {
         let Rolled { window, gone } = rolled_by(self, moment);
-        let setting = &self.setting;
-        let context = Context {
-            table: &setting.table,
-            zone: &setting.zone,
-            window: &window,
-        };
+        let context = self.setting.context_over(&window);
         let Made { accepted, batch } = match made_of(alloc, &context, &self.journeys, gone, body) {
             Ok(made) => made,
             Err(fault) => return Err(fault),

@@ -1,4 +1,5 @@
 pub mod AnswerLemmas
 pub mod CountLemmas
 pub mod DoorLemmas
+pub mod Elements
 pub mod ToldLemmas

@@ -1,3 +1,3 @@
 pub mod Delays
-pub mod Moments
+pub mod Readings
 pub mod Suppliers

@@ -8,6 +8,8 @@ use Rattle.std.specs.List.{list_any}
 use Rattle.std.specs.List.Sorted.{IsPermutation}
 use Rattle.std.specs.Option.{option_or}
 use Rattle.std.specs.Ordering.{int_eq}
+use Rattle.std.proofs.Math.Bool.{and_comm}
+use Rattle.stop_schedule.proofs.IdLemmas.{and-left, and-right}
 use Rattle.gw_base.specs.declared.messages.Entity.{Entity}
 use Rattle.gw_base.specs.declared.messages.Feed.{Feed}
 use Rattle.journey_model.specs.FeedReadings.{aside_from, entity_said, given, given_all, is_of, last_of_each, last_reading, passed_count, readings}
@@ -127,14 +129,6 @@ last_none given left keys last same no_keys none = record {
   last_is = none;
 }
 
-and-left : (a b : Bool) → (a && b) ≡ true → a ≡ true
-and-left true b e = refl
-and-left false b e = e
-
-and-right : (a b : Bool) → (a && b) ≡ true → b ≡ true
-and-right true b e = e
-and-right false b e = absurd (false≢true e)
-
 -- a reading of a trip on a day has its numbers
 of-trip : (trip : ℕ) (day : ℤ) (one : DatedReading) → is_of trip day one ≡ true → one.trip.0 ≡ trip
 of-trip trip day one e = eqb-true one.trip.0 trip (and-left (one.trip.0 == trip) (int_eq one.day day) e)
@@ -147,15 +141,9 @@ pub same-after : (trip : ℕ) (day : ℤ) (one : DatedReading) (others : List Da
     → last_reading trip day others ≡ last_reading one.trip.0 one.day others
 same-after trip day one others e = rw (of-trip trip day one e, of-day trip day one e) refl
 
-and-turned : (a b : Bool) → (a && b) ≡ (b && a)
-and-turned true true = refl
-and-turned true false = refl
-and-turned false true = refl
-and-turned false false = refl
-
 key_is : (other one : DatedReading) → same_key (key_of other) (key_of one) ≡ is_of other.trip.0 other.day one
 key_is other one =
-    and-turned (int_eq other.day one.day) (other.trip.0 == one.trip.0)
+    and_comm (int_eq other.day one.day) (other.trip.0 == one.trip.0)
     ∙ ap (λ (trips : Bool). trips && int_eq other.day one.day) (nat_eq_equiv.symm other.trip.0 one.trip.0)
     ∙ ap (λ (days : Bool). (one.trip.0 == other.trip.0) && days) (int_eq_equiv.symm other.day one.day)
 

@@ -8,6 +8,7 @@ use Rattle.std.proofs.lemmas.List.Sums.{length-filter}
 use Rattle.std.specs.List.{AllByRecursion, filter}
 use Rattle.std.specs.List.Sorted.{IsPermutation}
 use Rattle.std.specs.Option.{option_or, option_to_list}
+use Rattle.gw_base.proofs.Elements.{or_none}
 use Rattle.journey_model.specs.FeedReadings.{is_last, is_of, last_of_each, last_reading}
 use Rattle.journey_model.specs.declared.readings.DatedReading.{DatedReading}
 use Rattle.journey_model.specs.declared.readings.JourneyReading.{JourneyReading}
@@ -71,10 +72,6 @@ filter_turned {X} p xs ys same few = by (filter p xs) refl few
 
 -- ---- the last reading
 
-or-none : {X : Type 0} (found : Option X) → option_or found None ≡ found
-or-none None = refl
-or-none (Some x) = refl
-
 last_kept : (trip : ℕ) (day : ℤ) (given : List DatedReading)
     → map (λ one. one.reading) (filter (is_of trip day) (last_of_each given))
     ≡ option_to_list (last_reading trip day given)
@@ -112,8 +109,8 @@ last_kept trip day (one ∷ others) =
     by true e false new h =
         rw (e, new, e) (alone (last_reading trip day others)
         (ap (λ (found : Option JourneyReading). is_some found) (same-after trip day one others e) ∙ new) h)
-    by false e true seen h = rw (e, seen, or-none (last_reading trip day others)) h
-    by false e false new h = rw (e, new, e, or-none (last_reading trip day others)) h
+    by false e true seen h = rw (e, seen, or_none (last_reading trip day others)) h
+    by false e false new h = rw (e, new, e, or_none (last_reading trip day others)) h
 
 at_most_one : {X : Type 0} (found : Option X) → length (option_to_list found) ≤ 1
 at_most_one None = omega arith

@@ -1,7 +1,7 @@
 -- The walk along the stops of a trip: what is carried from stop to stop is what the last update that isn't SKIPPED
 -- supplies.
 use Rattle.std.proofs.Common.{◌≡◌, ◌∙◌, ◌+◌, ◌==◌, ◌&&◌, ◌||◌, ◌++◌, ◌∷◌, ◌<◌, [], ℕ, zero, suc, ℤ, pos, ◌-ℤ◌, get_or, slice_get, nat_le, nat_lt, not, Bool, true, false, List, map, drop, length, Option, Some, None, option_map, is_some, if◌then◌else◌, refl, sym, ap, arith}
-use Rattle.std.proofs.lemmas.Bool.{eqb-true, false≢true, leb-true}
+use Rattle.std.proofs.lemmas.Bool.{eqb-true, leb-true}
 use Rattle.std.proofs.lemmas.Bool.Decides.{nat_tests}
 use Rattle.std.proofs.lemmas.List.{append_assoc}
 use Rattle.std.proofs.lemmas.List.Folds.{list_any-append}
@@ -10,7 +10,9 @@ use Rattle.std.specs.Option.{option_map_or, option_or}
 use Rattle.std.proofs.lemmas.List.FromFn.{map-range_with_len_more}
 use Rattle.stop_schedule.specs.Planned.{planned}
 use Rattle.stop_schedule.specs.declared.stop_times.StopRow.{StopRow}
+use Rattle.stop_schedule.proofs.IdLemmas.{and-left, and-right}
 use Rattle.gw_base.specs.declared.messages.StopUpdate.{StopUpdate}
+use Rattle.gw_base.proofs.Elements.{or_assoc, or_none}
 use Rattle.journey_model.proofs.Suppliers.{Rise, last_supplier, supplier-last}
 use Rattle.journey_model.specs.Propagation.{carried, prop, skips_at, supplied, supplier, supplies, timed}
 use Rattle.journey_model.specs.Runs.{Run, planned_at}
@@ -40,14 +42,6 @@ delay_of run (Some one) =
 
 abbrev pub all_before : ℕ → List (ℕ × StopUpdate) → Bool
 all_before place updates = list_all (λ one. nat_lt one.0 place) updates
-
-and-left : (a b : Bool) → (a && b) ≡ true → a ≡ true
-and-left true b e = refl
-and-left false b e = e
-
-and-right : (a b : Bool) → (a && b) ≡ true → b ≡ true
-and-right true b e = e
-and-right false b e = absurd (false≢true e)
 
 or_both : (a b : Bool) → a ≡ false → b ≡ false → (a || b) ≡ false
 or_both a b p q = rw (p, q) refl
@@ -123,27 +117,19 @@ supplier-after place (one ∷ others) e =
     let not_here : nat_le one.0 place ≡ false = grind (arith, nat_tests) in
     rw (supplier-after place others (rest-rising place one.0 others at more), not_here) refl
 
-option_or-assoc : {A : Type 0} (a b c : Option A) → option_or (option_or a b) c ≡ option_or a (option_or b c)
-option_or-assoc None b c = refl
-option_or-assoc (Some x) b c = refl
-
-option_or-none : {A : Type 0} (a : Option A) → option_or a None ≡ a
-option_or-none None = refl
-option_or-none (Some x) = refl
-
 supplier-append : (place : ℕ) (xs ys : List (ℕ × StopUpdate))
     → last_supplier place (xs ++ ys) ≡ option_or (last_supplier place ys) (last_supplier place xs)
-supplier-append place [] ys = sym (option_or-none (last_supplier place ys))
+supplier-append place [] ys = sym (or_none (last_supplier place ys))
 supplier-append place (one ∷ xs) ys =
     rw (supplier-append place xs ys)
-    (option_or-assoc (last_supplier place ys) (last_supplier place xs)
+    (or_assoc (last_supplier place ys) (last_supplier place xs)
     (if supplies place one then Some one else None))
 
 last_supply-push : (xs : List (ℕ × StopUpdate)) (one : ℕ × StopUpdate)
     → last_supply (xs ++ one ∷ []) ≡ option_or (unless_skipped one) (last_supply xs)
-last_supply-push [] one = sym (option_or-none (unless_skipped one))
+last_supply-push [] one = sym (or_none (unless_skipped one))
 last_supply-push (x ∷ xs) one =
-    rw (last_supply-push xs one) (option_or-assoc (unless_skipped one) (last_supply xs) (unless_skipped x))
+    rw (last_supply-push xs one) (or_assoc (unless_skipped one) (last_supply xs) (unless_skipped x))
 
 -- how a stop after the last update reads
 supplied-later : (run : Run) (place : ℕ) (before : List (ℕ × StopUpdate)) → all_before place before ≡ true

@@ -1,30 +1,16 @@
 -- Times without a fault are at most a week from the planned ones.
-use Rattle.std.proofs.Common.{◌≡◌, ℕ, ℤ, ◌+ℤ◌, ◌-ℤ◌, Bool, true, false, Option, Some, None, if◌then◌else◌, refl, sym, arith}
+use Rattle.std.proofs.Common.{◌≡◌, ℕ, ℤ, ◌+ℤ◌, ◌-ℤ◌, true, Option, Some, None, arith}
 use Rattle.std.proofs.lemmas.Int.{ints}
 use Rattle.std.proofs.lemmas.Option.{none-some}
-use Rattle.std.specs.Option.{ForSome, option_or}
-use Rattle.journey_model.proofs.Delays.{near_time}
+use Rattle.std.specs.Option.{ForSome}
+use Rattle.gw_base.proofs.Elements.{or_neither}
+use Rattle.journey_model.proofs.Delays.{event_near, near_time}
 use Rattle.journey_model.specs.Times.{ArePlanned, IsPlanned, IsTime, both_times, delay_fault, event_fault, is_delay}
-use Rattle.journey_model.specs.declared.fault.Fault.{Fault}
-use Rattle.journey_model.specs.declared.fault.Fault.TheVariants.{DelayRange}
 
 -- both times are a delay from the planned ones
 pub record AreNear (planned both : ℤ × ℤ) : Type 0 where
   pub arrival : is_delay (both.0 -ℤ planned.0) ≡ true
   pub departure : is_delay (both.1 -ℤ planned.1) ≡ true
-
-event_near : (number : ℕ) (planned time : ℤ) → event_fault number planned (Some time) ≡ None
-    → is_delay (time -ℤ planned) ≡ true
-event_near number planned time e = by (is_delay (time -ℤ planned)) e
-  where
-    by : (b : Bool) → ◌≡◌ {A = Option Fault} (if b then None else Some (DelayRange number (time -ℤ planned))) None
-        → b ≡ true
-    by true e = refl
-    by false e = absurd (none-some _ (sym e))
-
-or-none : (a b : Option Fault) → option_or a b ≡ None → (a ≡ None) × (b ≡ None)
-or-none None b e = (refl, e)
-or-none (Some x) b e = absurd (none-some _ (sym e))
 
 same_delay : (a b : ℤ) → a ≡ b → is_delay b ≡ true → is_delay a ≡ true
 same_delay a b e h = rw e h
@@ -34,11 +20,11 @@ pub times_near : (number : ℕ) (planned : ℤ × ℤ) (arrival departure : Opti
     → AreNear planned both
 times_near number planned (Some a) (Some d) both e same =
     let is : (a, d) ≡ both = cc in
-    let no = or-none (event_fault number planned.0 (Some a)) (event_fault number planned.1 (Some d)) e in
+    let no = or_neither (event_fault number planned.0 (Some a)) (event_fault number planned.1 (Some d)) e in
     rw (← is) (record { arrival = event_near number planned.0 a no.0; departure = event_near number planned.1 d no.1 })
 times_near number planned (Some a) None both e same =
     let is : (a, planned.1 +ℤ (a -ℤ planned.0)) ≡ both = cc in
-    let no = or-none (event_fault number planned.0 (Some a)) None e in
+    let no = or_neither (event_fault number planned.0 (Some a)) None e in
     let near = event_near number planned.0 a no.0 in
     rw (← is) (record {
       arrival = near;
@@ -47,7 +33,7 @@ times_near number planned (Some a) None both e same =
     })
 times_near number planned None (Some d) both e same =
     let is : (planned.0 +ℤ (d -ℤ planned.1), d) ≡ both = cc in
-    let no = or-none None (event_fault number planned.1 (Some d)) e in
+    let no = or_neither None (event_fault number planned.1 (Some d)) e in
     let near = event_near number planned.1 d no.1 in
     rw (← is) (record {
       arrival =
@@ -63,5 +49,5 @@ time_in number planned time range none = λ value is. near_time planned value ra
 pub times_in : (number : ℕ) (planned : ℤ × ℤ) (arrival departure : Option ℤ) → ArePlanned planned → delay_fault number planned arrival departure ≡ None
     → ForSome arrival IsTime × ForSome departure IsTime
 times_in number planned arrival departure range none =
-    let each = or-none (event_fault number planned.0 arrival) (event_fault number planned.1 departure) none in
+    let each = or_neither (event_fault number planned.0 arrival) (event_fault number planned.1 departure) none in
     (time_in number planned.0 arrival range.0 each.0, time_in number planned.1 departure range.1 each.1)

@@ -46,11 +46,6 @@ find-members name (one ∷ others) = by one.1 (find-members name others)
 pub found : (name : List ℕ) (parts : List (List ℕ × Option Data)) → get name (object_of (blocks parts)) ≡ found_in name parts
 found name parts = find-members name parts
 
--- where it stands last
-pub or-none : {A : Type 0} (o : Option A) → option_or o None ≡ o
-or-none None = refl
-or-none (Some value) = refl
-
 -- ---- plain objects
 
 -- a name stands after another

@@ -2,7 +2,7 @@
 use Rattle.std.proofs.Common.{◌≡◌, ℕ, ◌≤◌, List, Bool, true, false, if◌then◌else◌, option_and_then, Option, Some, None, refl, subst, ℤ, pos, arith, drop, take}
 use Rattle.std.proofs.lemmas.Bool.Decides.{nat_tests}
 use Rattle.std.proofs.lemmas.Option.{same_Some}
-use Rattle.jiff_core.specs.Calendar.{IsCivilDate, days_from_civil}
+use Rattle.jiff_core.specs.Calendar.{days_from_civil}
 use Rattle.jiff_core.specs.declared.civil.date.Date.{Date}
 use Rattle.jiff_core.proofs.SignedLemmas.{signed_arith}
 use Rattle.gw_base.specs.Moments.{is_moment}
@@ -13,19 +13,16 @@ use Rattle.service_day.specs.Moments.{fraction_part, instant_if, moment_of, offs
 use Rattle.service_day.specs.declared.days.DayForm.{DayForm}
 use Rattle.service_day.specs.declared.days.DayForm.TheVariants.{Dashed, Compact, Either}
 use Rattle.service_day.specs.declared.zones.Rules.{Rules}
-use Rattle.service_day.proofs.DayLemmas.{day_of_date}
+use Rattle.service_day.proofs.DayLemmas.{civil_of, day_of_date}
 
 -- ---- days
-
-civil-date : (y m d : ℕ) → is_date y m d ≡ true → IsCivilDate (pos y) m d
-civil-date y m d h = grind (arith, nat_tests, signed_arith)
 
 from-one : (y m d : ℕ) → is_date y m d ≡ true → 1 ≤ y
 from-one y m d h = grind (arith, nat_tests)
 
 IsDay-date : (y m d : ℕ) → is_date y m d ≡ true → IsDay (days_from_civil (pos y) m d)
 IsDay-date y m d h =
-    let civil = civil-date y m d h in
+    let civil = civil_of y m d h in
     let date : Date = record { year = pos y; month = m; day = d; year_in = civil.0; month_in = civil.1; day_in = civil.2 } in
     day_of_date date (omega (arith, signed_arith, from-one y m d h))
 

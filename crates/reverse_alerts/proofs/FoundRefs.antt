@@ -7,6 +7,7 @@ use Rattle.gw_base.specs.declared.member.Member.{Member}
 use Rattle.service_day.specs.Days.{IsDay}
 use Rattle.stop_schedule.specs.Table.{Table}
 use Rattle.gw_base.specs.Chains.{◌>>=◌}
+use Rattle.gw_base.proofs.Elements.{all_append}
 use Rattle.journey_model.specs.declared.fault.Fault.{Fault}
 use Rattle.journey_model.specs.declared.fault.Fault.TheVariants.{BadField}
 use Rattle.journey_model.specs.declared.situation.Ref.{Ref}
@@ -17,7 +18,7 @@ use Rattle.siri_situations.specs.Affected.{day_in_form}
 use Rattle.siri_situations.specs.Steps.{gather}
 use Rattle.reverse_alerts.specs.Kept.{is_journey, is_route, is_stop}
 use Rattle.reverse_alerts.proofs.FoundForms.{all-append, day-found, parts-of, same-ok}
-use Rattle.reverse_alerts.proofs.Grouped.{append-each, by_kinds, kinds-of}
+use Rattle.reverse_alerts.proofs.Grouped.{by_kinds, kinds-of}
 use Rattle.reverse_alerts.proofs.ReadAffects.{all_below, journeys_below, journeys_in, journeys_way, lines_below, lines_way, stops_below, stops_way}
 use Rattle.reverse_alerts.proofs.ReadForms.{down}
 use Rattle.reverse_alerts.proofs.ReadRefs.{journey_in, line_in, stop_in}
@@ -33,7 +34,7 @@ none-of table kind = record { each = tt; kinds = refl }
 
 append-of : (table : Table) (kind : Ref → Bool) (a b : List Ref) → AreOf table kind a → AreOf table kind b → AreOf table kind (a ++ b)
 append-of table kind a b first second = record {
-  each = append-each (CanSay table) a b first.each second.each;
+  each = all_append (CanSay table) a b first.each second.each;
   kinds = all-append kind a b first.kinds second.kinds;
 }
 
@@ -142,7 +143,7 @@ pub record AreThere (table : Table) (refs : List Ref) : Type 0 where
 
 three : (table : Table) (r s j : List Ref) → AreOf table is_route r → AreOf table is_stop s → AreOf table is_journey j → AreThere table (r ++ s ++ j)
 three table r s j a b c = record {
-  each = append-each (CanSay table) (r ++ s) j (append-each (CanSay table) r s a.each b.each) c.each;
+  each = all_append (CanSay table) (r ++ s) j (all_append (CanSay table) r s a.each b.each) c.each;
   kinds = kinds-of r s j (record { routes = a.kinds; stops = b.kinds; journeys = c.kinds });
 }
 

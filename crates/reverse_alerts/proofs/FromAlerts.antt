@@ -10,6 +10,7 @@ use Rattle.gw_base.specs.declared.messages.Alert.{Alert}
 use Rattle.gw_base.specs.declared.messages.Entity.{Entity}
 use Rattle.gw_base.specs.declared.messages.Period.{Period}
 use Rattle.gw_base.specs.declared.messages.Translation.{Translation}
+use Rattle.gw_base.proofs.Elements.{all_append, all_filter}
 use Rattle.stop_schedule.specs.Table.{Table}
 use Rattle.journey_model.specs.Updates.{filled_text}
 use Rattle.journey_model.specs.declared.fault.Fault.{Fault}
@@ -19,7 +20,7 @@ use Rattle.journey_model.specs.declared.situation.Situation.{Situation}
 use Rattle.reverse_alerts.specs.Kept.{all_named, is_journey, is_route, is_stop}
 use Rattle.reverse_alerts.specs.Senses.{first_text, holding, is_open, sense, valid_period}
 use Rattle.reverse_alerts.specs.Taken.{affects_fault, alert_in, bound_fault, entity_verdict, fault_of, given, number_fault, period_fault, periods_fault, situation_of, situations, unless_fault, verdict}
-use Rattle.reverse_alerts.proofs.Grouped.{append-each, by_kinds, filter-each, kinds-of, length-kinds, of-kinds}
+use Rattle.reverse_alerts.proofs.Grouped.{by_kinds, kinds-of, length-kinds, of-kinds}
 use Rattle.reverse_alerts.proofs.Names.{can-say-named}
 use Rattle.reverse_alerts.proofs.Sayable.{CanSay, IsCause-cause_of, IsEffect-effect_of, IsSayable, is_bound, is_filled, is_period}
 
@@ -75,9 +76,9 @@ some-affected (ref ∷ refs) e = omega (arith, length-kinds (ref ∷ refs))
 
 kinds-each : (table : Table) (refs : List Ref) → AllByRecursion (CanSay table) refs → AllByRecursion (CanSay table) (by_kinds refs)
 kinds-each table refs h =
-    append-each (CanSay table) (filter is_route refs ++ filter is_stop refs) (filter is_journey refs)
-    (append-each (CanSay table) (filter is_route refs) (filter is_stop refs) (filter-each (CanSay table) is_route refs h) (filter-each (CanSay table) is_stop refs h))
-    (filter-each (CanSay table) is_journey refs h)
+    all_append (CanSay table) (filter is_route refs ++ filter is_stop refs) (filter is_journey refs)
+    (all_append (CanSay table) (filter is_route refs) (filter is_stop refs) (all_filter (CanSay table) is_route refs h) (all_filter (CanSay table) is_stop refs h))
+    (all_filter (CanSay table) is_journey refs h)
 
 -- its texts
 filled-filled : (text : List ℕ) → is_filled (filled_text (Some text)) ≡ true

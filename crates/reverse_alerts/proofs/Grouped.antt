@@ -1,6 +1,6 @@
 -- References by their kinds: routes, then stops, then journeys.
 use Rattle.std.proofs.Common.{◌≡◌, ◌+◌, List, [], ◌∷◌, ◌++◌, length, Bool, true, false, cond, filter, length-append, arith, refl, ap, ◌∙◌}
-use Rattle.std.specs.List.{AllByRecursion, list_all}
+use Rattle.std.specs.List.{list_all}
 use Rattle.std.proofs.lemmas.Bool.{and_from, and_parts}
 use Rattle.std.proofs.lemmas.List.Elements.{filter-append}
 use Rattle.journey_model.specs.declared.situation.Ref.{Ref}
@@ -32,46 +32,34 @@ filter-none test other (x ∷ xs) apart h =
     let parts = and_parts (other x) (list_all other xs) h in
     ap (λ b. cond b (x ∷ filter test xs) (filter test xs)) (apart x parts.0) ∙ filter-none test other xs apart parts.1
 
-pub filter-each : {A : Type 0} (P : A → Type 0) (test : A → Bool) (xs : List A) → AllByRecursion P xs → AllByRecursion P (filter test xs)
-filter-each P test [] h = tt
-filter-each P test (x ∷ xs) h = by (test x) (filter-each P test xs h.1)
-  where
-    by : (b : Bool) → AllByRecursion P (filter test xs) → AllByRecursion P (cond b (x ∷ filter test xs) (filter test xs))
-    by true rest = (h.0, rest)
-    by false rest = rest
-
-pub append-each : {A : Type 0} (P : A → Type 0) (xs ys : List A) → AllByRecursion P xs → AllByRecursion P ys → AllByRecursion P (xs ++ ys)
-append-each P [] ys first second = second
-append-each P (x ∷ xs) ys first second = (first.0, append-each P xs ys first.1 second)
-
 -- ---- a kind is no other
 
-stop-no-route : (ref : Ref) → is_stop ref ≡ true → is_route ref ≡ false
+pub stop-no-route : (ref : Ref) → is_stop ref ≡ true → is_route ref ≡ false
 stop-no-route (Route route) h = cc
 stop-no-route (Stop stop) h = refl
 stop-no-route (Journey trip day) h = refl
 
-journey-no-route : (ref : Ref) → is_journey ref ≡ true → is_route ref ≡ false
+pub journey-no-route : (ref : Ref) → is_journey ref ≡ true → is_route ref ≡ false
 journey-no-route (Route route) h = cc
 journey-no-route (Stop stop) h = refl
 journey-no-route (Journey trip day) h = refl
 
-route-no-stop : (ref : Ref) → is_route ref ≡ true → is_stop ref ≡ false
+pub route-no-stop : (ref : Ref) → is_route ref ≡ true → is_stop ref ≡ false
 route-no-stop (Route route) h = refl
 route-no-stop (Stop stop) h = cc
 route-no-stop (Journey trip day) h = refl
 
-journey-no-stop : (ref : Ref) → is_journey ref ≡ true → is_stop ref ≡ false
+pub journey-no-stop : (ref : Ref) → is_journey ref ≡ true → is_stop ref ≡ false
 journey-no-stop (Route route) h = refl
 journey-no-stop (Stop stop) h = cc
 journey-no-stop (Journey trip day) h = refl
 
-route-no-journey : (ref : Ref) → is_route ref ≡ true → is_journey ref ≡ false
+pub route-no-journey : (ref : Ref) → is_route ref ≡ true → is_journey ref ≡ false
 route-no-journey (Route route) h = refl
 route-no-journey (Stop stop) h = refl
 route-no-journey (Journey trip day) h = cc
 
-stop-no-journey : (ref : Ref) → is_stop ref ≡ true → is_journey ref ≡ false
+pub stop-no-journey : (ref : Ref) → is_stop ref ≡ true → is_journey ref ≡ false
 stop-no-journey (Route route) h = refl
 stop-no-journey (Stop stop) h = refl
 stop-no-journey (Journey trip day) h = cc
@@ -132,7 +120,7 @@ of-kinds refs = record {
 }
 
 -- each reference is of a kind
-count-kinds : (refs : List Ref) → length (filter is_route refs) + length (filter is_stop refs) + length (filter is_journey refs) ≡ length refs
+pub count-kinds : (refs : List Ref) → length (filter is_route refs) + length (filter is_stop refs) + length (filter is_journey refs) ≡ length refs
 count-kinds [] = refl
 count-kinds (Route route ∷ refs) = omega (arith, count-kinds refs)
 count-kinds (Stop stop ∷ refs) = omega (arith, count-kinds refs)

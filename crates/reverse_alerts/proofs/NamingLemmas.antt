@@ -1,4 +1,4 @@
--- What selectors name, kind by kind: how many they are, and that the timetable has them.
+-- What selectors name, kind by kind: how count-kinds they are, and that the timetable has them.
 use Rattle.std.proofs.Common.{◌≡◌, ◌∙◌, ℕ, ◌+◌, ◌≤◌, ◌<◌, List, [], ◌∷◌, ◌++◌, length, Option, Some, None, refl, ap, subst, append_assoc, arith}
 use Rattle.std.specs.List.{AllByRecursion, cons_option, filter, position}
 use Rattle.std.specs.Prelude.{◌==◌, Bool, true, false, cond, option_map, option_and_then, ℤ}
@@ -21,6 +21,7 @@ use Rattle.reverse_alerts.specs.Naming.{AreKnown, count_of, refs_of, with_named}
 use Rattle.reverse_alerts.specs.Progress.{none_named}
 use Rattle.reverse_alerts.specs.Taken.{affects_fault}
 use Rattle.reverse_alerts.specs.declared.selectors.NamedRefs.{NamedRefs}
+use Rattle.reverse_alerts.proofs.Grouped.{count-kinds, journey-no-route, journey-no-stop, route-no-journey, route-no-stop, stop-no-journey, stop-no-route}
 
 -- ---- found one by one
 
@@ -43,16 +44,10 @@ one_joined found (Some (Journey trip day)) others = simp append_assoc
 pub joined_none : (found : NamedRefs) → joined found [] ≡ found
 joined_none found = simp append-nil
 
--- ---- how many
-
-many : (all : List Ref) → length (filter is_route all) + length (filter is_stop all) + length (filter is_journey all) ≡ length all
-many [] = refl
-many (Route route ∷ all) = omega (arith, many all)
-many (Stop stop ∷ all) = omega (arith, many all)
-many (Journey trip day ∷ all) = omega (arith, many all)
+-- ---- how count-kinds
 
 pub count_is : (found : NamedRefs) (all : List Ref) → found ≡ refs_of all → count_of found ≡ length all
-count_is found all is = rw is (many all)
+count_is found all is = rw is (count-kinds all)
 
 few : (table : Table) (selectors : List Selector) → length (all_named table selectors) ≤ length selectors
 few table [] = omega arith
@@ -164,46 +159,17 @@ kinds_again p a b c a' b' c' x y z = rw (filter-append p (a ++ b) c, filter-appe
 pub routes_again : (all : List Ref) → filter is_route (filter is_route all ++ filter is_stop all ++ filter is_journey all) ≡ filter is_route all
 routes_again all =
     kinds_again is_route (filter is_route all) (filter is_stop all) (filter is_journey all) (filter is_route all) [] []
-    (within is_route is_route (λ one h. h) all) (apart is_route is_stop stop_no_route all) (apart is_route is_journey journey_no_route all)
+    (within is_route is_route (λ one h. h) all) (apart is_route is_stop stop-no-route all) (apart is_route is_journey journey-no-route all)
     ∙ append-nil (filter is_route all ++ []) ∙ append-nil (filter is_route all)
   where
-    stop_no_route : (one : Ref) → is_stop one ≡ true → is_route one ≡ false
-    stop_no_route (Route route) h = absurd (cc)
-    stop_no_route (Stop stop) h = refl
-    stop_no_route (Journey trip day) h = refl
-
-    journey_no_route : (one : Ref) → is_journey one ≡ true → is_route one ≡ false
-    journey_no_route (Route route) h = absurd (cc)
-    journey_no_route (Stop stop) h = refl
-    journey_no_route (Journey trip day) h = refl
-
 pub stops_again : (all : List Ref) → filter is_stop (filter is_route all ++ filter is_stop all ++ filter is_journey all) ≡ filter is_stop all
 stops_again all =
     kinds_again is_stop (filter is_route all) (filter is_stop all) (filter is_journey all) [] (filter is_stop all) []
-    (apart is_stop is_route route_no_stop all) (within is_stop is_stop (λ one h. h) all) (apart is_stop is_journey journey_no_stop all)
+    (apart is_stop is_route route-no-stop all) (within is_stop is_stop (λ one h. h) all) (apart is_stop is_journey journey-no-stop all)
     ∙ append-nil (filter is_stop all)
   where
-    route_no_stop : (one : Ref) → is_route one ≡ true → is_stop one ≡ false
-    route_no_stop (Route route) h = refl
-    route_no_stop (Stop stop) h = absurd (cc)
-    route_no_stop (Journey trip day) h = refl
-
-    journey_no_stop : (one : Ref) → is_journey one ≡ true → is_stop one ≡ false
-    journey_no_stop (Route route) h = refl
-    journey_no_stop (Stop stop) h = absurd (cc)
-    journey_no_stop (Journey trip day) h = refl
-
 pub journeys_again : (all : List Ref) → filter is_journey (filter is_route all ++ filter is_stop all ++ filter is_journey all) ≡ filter is_journey all
 journeys_again all =
     kinds_again is_journey (filter is_route all) (filter is_stop all) (filter is_journey all) [] [] (filter is_journey all)
-    (apart is_journey is_route route_no_journey all) (apart is_journey is_stop stop_no_journey all) (within is_journey is_journey (λ one h. h) all)
+    (apart is_journey is_route route-no-journey all) (apart is_journey is_stop stop-no-journey all) (within is_journey is_journey (λ one h. h) all)
   where
-    route_no_journey : (one : Ref) → is_route one ≡ true → is_journey one ≡ false
-    route_no_journey (Route route) h = refl
-    route_no_journey (Stop stop) h = refl
-    route_no_journey (Journey trip day) h = absurd (cc)
-
-    stop_no_journey : (one : Ref) → is_stop one ≡ true → is_journey one ≡ false
-    stop_no_journey (Route route) h = refl
-    stop_no_journey (Stop stop) h = refl
-    stop_no_journey (Journey trip day) h = absurd (cc)

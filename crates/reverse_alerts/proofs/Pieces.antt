@@ -1,15 +1,9 @@
 -- Pieces that are written one after the other.
-use Rattle.std.proofs.Common.{◌≡◌, ◌∙◌, ◌==◌, ◌++◌, ◌∷◌, ℕ, Bool, false, List, [], length, map, codes, ap, append_assoc}
+use Rattle.std.proofs.Common.{◌≡◌, ◌==◌, ◌++◌, ◌∷◌, ℕ, Bool, false, List, [], length, map, codes}
+use Rattle.siri_calls.proofs.WrittenLemmas.{two_pieces}
 use Rattle.gw_base.specs.declared.messages.Period.{Period}
 use Rattle.reverse_alerts.specs.Senses.{valid_period}
 use Rattle.reverse_alerts.specs.SituationTexts.{periods_text, valid_text}
-
-two_pieces : (out one two a b : List ℕ) → one ≡ out ++ a → two ≡ one ++ b → two ≡ out ++ (a ++ b)
-two_pieces out one two a b first second = second ∙ ap (λ l. l ++ b) first ∙ append_assoc out a b
-
-pub three_pieces : (out one two three a b c : List ℕ) → one ≡ out ++ a → two ≡ one ++ b → three ≡ two ++ c → three ≡ out ++ (a ++ b ++ c)
-three_pieces out one two three a b c first second third =
-    two_pieces out two three (a ++ b) c (two_pieces out one two a b first second) third
 
 -- periods, of which there are some
 pub some_valid : (all : List Period) (out one two : List ℕ) (none : Bool) → none ≡ (length all == 0) → none ≡ false

@@ -4,6 +4,7 @@ use Rattle.std.specs.List.{AllByRecursion, list_all}
 use Rattle.std.proofs.lemmas.Bool.{and_parts}
 use Rattle.json.proofs.Printed.Utf8.{are_ascii, IsUtf8-are_ascii}
 use Rattle.gw_base.specs.Moments.{IsMoment}
+use Rattle.gw_base.proofs.Elements.{all_filter}
 use Rattle.service_day.specs.Utc.{moment_text}
 use Rattle.service_day.proofs.MomentTextLemmas.{IsUtf8-dashed_text, IsUtf8-moment_text}
 use Rattle.stop_schedule.specs.Ids.{are_ids}
@@ -23,7 +24,7 @@ use Rattle.reverse_alerts.specs.Sayable.{HasUtf8}
 use Rattle.reverse_alerts.specs.SituationTree.{affects_tree, bound_member, condition_of, delivery_tree, exchange_tree, period_tree, ref_tree, ref_trees, service_tree, situation_tree}
 use Rattle.reverse_alerts.proofs.Blocks.{ArePlainParts, IsPlainPart, plain-object}
 use Rattle.reverse_alerts.proofs.FromAlerts.{IsSaid}
-use Rattle.reverse_alerts.proofs.Grouped.{all-filter, filter-each}
+use Rattle.reverse_alerts.proofs.Grouped.{all-filter}
 use Rattle.reverse_alerts.proofs.ReadAffects.{affects-parts, affects_parts, networks_of, stop_points_of, vehicle_journeys_of}
 use Rattle.reverse_alerts.proofs.ReadForms.{IsMoment-is_moment, array_if_any}
 use Rattle.reverse_alerts.proofs.Sayable.{CanSay, is_bound, is_period}
@@ -95,9 +96,9 @@ plain-affects table refs sound h =
     let r = filter is_route refs in
     let s = filter is_stop refs in
     let j = filter is_journey refs in
-    let lines = plain-networks (ref_trees table r) (plain-lines table r sound (filter-each (CanSay table) is_route refs h) (all-filter is_route refs)) in
-    let stops = plain-stop-points (ref_trees table s) (plain-stops table s sound (filter-each (CanSay table) is_stop refs h) (all-filter is_stop refs)) in
-    let journeys = plain-vehicles (ref_trees table j) (plain-journeys table j sound (filter-each (CanSay table) is_journey refs h) (all-filter is_journey refs)) in
+    let lines = plain-networks (ref_trees table r) (plain-lines table r sound (all_filter (CanSay table) is_route refs h) (all-filter is_route refs)) in
+    let stops = plain-stop-points (ref_trees table s) (plain-stops table s sound (all_filter (CanSay table) is_stop refs h) (all-filter is_stop refs)) in
+    let journeys = plain-vehicles (ref_trees table j) (plain-journeys table j sound (all_filter (CanSay table) is_journey refs h) (all-filter is_journey refs)) in
     let plain : ArePlainParts 5 (affects_parts (ref_trees table r) (ref_trees table s) (ref_trees table j)) = (
       name (codes "Networks") refl,
       lines,

@@ -17,6 +17,7 @@ use Rattle.gw_base.specs.declared.member.Member.{Member}
 use Rattle.gw_base.specs.declared.messages.Alert.{Alert}
 use Rattle.gw_base.specs.declared.messages.Entity.{Entity}
 use Rattle.gw_base.specs.declared.messages.Period.{Period}
+use Rattle.gw_base.proofs.Elements.{or_neither}
 use Rattle.stop_schedule.specs.Table.{Table}
 use Rattle.journey_model.specs.declared.fault.Fault.{Fault}
 use Rattle.journey_model.specs.declared.fault.Fault.TheVariants.{BadField}
@@ -158,21 +159,17 @@ bound_told member (Some secs) h = by (is_moment (pos secs)) refl h
     by false e h = absurd (cc)
     by true e h = omega (arith, ints, (and_parts (int_le (pos 0) (pos secs)) (int_le (pos secs) (pos last_moment)) e).1)
 
-first_none : (a b : Option Fault) → option_or a b ≡ None → (a ≡ None) × (b ≡ None)
-first_none None b h = (refl, h)
-first_none (Some fault) b h = absurd (cc)
-
 all_told : (periods : List Period) → periods_fault periods ≡ None → AllByRecursion IsTold periods
 all_told [] h = tt
 all_told (period ∷ others) h =
-    let cut = first_none (period_fault period) (periods_fault others) h in
-    let ends = first_none (bound_fault Member.StartTime period.start) (bound_fault Member.EndTime period.end) cut.0 in
+    let cut = or_neither (period_fault period) (periods_fault others) h in
+    let ends = or_neither (bound_fault Member.StartTime period.start) (bound_fault Member.EndTime period.end) cut.0 in
     ((bound_told Member.StartTime period.start ends.0, bound_told Member.EndTime period.end ends.1), all_told others cut.1)
 
 pub told : (id : List ℕ) (alert : Alert) (named : ℕ) → None ≡ fault_by id alert named → All IsTold alert.periods
 told id alert named h =
-    let cut = first_none (number_fault id) (option_or (periods_fault alert.periods) (none_named named)) (sym h) in
-    All-from_recursion IsTold alert.periods (all_told alert.periods (first_none (periods_fault alert.periods) (none_named named) cut.1).0)
+    let cut = or_neither (number_fault id) (option_or (periods_fault alert.periods) (none_named named)) (sym h) in
+    All-from_recursion IsTold alert.periods (all_told alert.periods (or_neither (periods_fault alert.periods) (none_named named) cut.1).0)
 
 -- what an alert is, by its fault
 pub verdict_by : (table : Table) (id : List ℕ) (alert : Alert) (named : ℕ) (fault : Option Fault) → named ≡ length (all_named table alert.selectors)

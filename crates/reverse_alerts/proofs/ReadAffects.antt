@@ -6,6 +6,7 @@ use Rattle.gw_base.specs.declared.member.Member.{Member}
 use Rattle.stop_schedule.specs.Sound.{IsSound}
 use Rattle.stop_schedule.specs.Table.{Table}
 use Rattle.gw_base.specs.Chains.{◌>>=◌}
+use Rattle.gw_base.proofs.Elements.{all_filter, or_none}
 use Rattle.journey_model.specs.declared.fault.Fault.{Fault}
 use Rattle.journey_model.specs.declared.fault.Fault.TheVariants.{BadField}
 use Rattle.journey_model.specs.declared.situation.Ref.{Ref}
@@ -19,8 +20,8 @@ use Rattle.siri_situations.specs.Affected.{affected, day_in_form, journey_named,
 use Rattle.siri_situations.specs.Steps.{gather}
 use Rattle.reverse_alerts.specs.Kept.{is_journey, is_route, is_stop}
 use Rattle.reverse_alerts.specs.SituationTree.{affects_tree, journeys_member, lines_member, ref_trees, stops_member}
-use Rattle.reverse_alerts.proofs.Blocks.{block, blocks, found, or-none}
-use Rattle.reverse_alerts.proofs.Grouped.{all-filter, by_kinds, filter-each}
+use Rattle.reverse_alerts.proofs.Blocks.{block, blocks, found}
+use Rattle.reverse_alerts.proofs.Grouped.{all-filter, by_kinds}
 use Rattle.reverse_alerts.proofs.Names.{position-id_of}
 use Rattle.reverse_alerts.proofs.ReadForms.{bound, down, none-read, object-read, object_in, objects_in, repeated-read, step-from, step-on}
 use Rattle.reverse_alerts.proofs.ReadRefs.{days-said, frames-read, inner_tree, journey_in, journeys-read, line_in, lines-read, said, stop_in, stops-read}
@@ -87,13 +88,13 @@ affects-parts table refs =
 
 -- what each name finds
 networks-found : (lines stops journeys : List Data) → get (codes "Networks") (object_of (blocks (affects_parts lines stops journeys))) ≡ networks_of lines
-networks-found lines stops journeys = found (codes "Networks") (affects_parts lines stops journeys) ∙ or-none (networks_of lines)
+networks-found lines stops journeys = found (codes "Networks") (affects_parts lines stops journeys) ∙ or_none (networks_of lines)
 
 stops-found : (lines stops journeys : List Data) → get (codes "StopPoints") (object_of (blocks (affects_parts lines stops journeys))) ≡ stop_points_of stops
-stops-found lines stops journeys = found (codes "StopPoints") (affects_parts lines stops journeys) ∙ or-none (stop_points_of stops)
+stops-found lines stops journeys = found (codes "StopPoints") (affects_parts lines stops journeys) ∙ or_none (stop_points_of stops)
 
 journeys-found : (lines stops journeys : List Data) → get (codes "VehicleJourneys") (object_of (blocks (affects_parts lines stops journeys))) ≡ vehicle_journeys_of journeys
-journeys-found lines stops journeys = found (codes "VehicleJourneys") (affects_parts lines stops journeys) ∙ or-none (vehicle_journeys_of journeys)
+journeys-found lines stops journeys = found (codes "VehicleJourneys") (affects_parts lines stops journeys) ∙ or_none (vehicle_journeys_of journeys)
 
 -- ---- the ways down
 
@@ -213,8 +214,8 @@ affects-read line stop journey table refs sound h =
     let stops = ref_trees table s in
     let journeys = ref_trees table j in
     ap (λ affects. all_below line stop journey (affects ∷ [])) (affects-parts table refs)
-    ∙ below-read line stop journey table (object_of (blocks (affects_parts lines stops journeys))) r s j sound (filter-each (CanSay table) is_route refs h)
-    (filter-each (CanSay table) is_stop refs h) (filter-each (CanSay table) is_journey refs h) (all-filter is_route refs) (all-filter is_stop refs)
+    ∙ below-read line stop journey table (object_of (blocks (affects_parts lines stops journeys))) r s j sound (all_filter (CanSay table) is_route refs h)
+    (all_filter (CanSay table) is_stop refs h) (all_filter (CanSay table) is_journey refs h) (all-filter is_route refs) (all-filter is_stop refs)
     (all-filter is_journey refs) (networks-found lines stops journeys) (stops-found lines stops journeys) (journeys-found lines stops journeys)
 
 -- the references of a situation are these

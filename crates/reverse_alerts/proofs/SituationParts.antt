@@ -1,12 +1,13 @@
 -- The tree of a situation as an object whose members may be missing, and what each name finds there.
 use Rattle.std.proofs.Common.{◌≡◌, ℕ, List, [], ◌∷◌, ◌++◌, map, if◌then◌else◌, option_map, Option, Some, None, codes, append-nil, append_assoc, refl, sym, ap, subst, ◌∙◌, ℤ, pos, int_eq}
+use Rattle.gw_base.proofs.Elements.{or_none}
 use Rattle.stop_schedule.specs.Table.{Table}
 use Rattle.journey_model.specs.declared.situation.Situation.{Situation}
 use Rattle.serde_json.specs.Data.{Data, string}
 use Rattle.serde_json.specs.Find.{get}
 use Rattle.siri_calls.specs.DeliveryTree.{array_of, moment_tree, object_of}
 use Rattle.reverse_alerts.specs.SituationTree.{Named, affects_tree, condition_of, consequences_of, period_tree, periods_member, reason_member, reason_of, situation_tree, text_member}
-use Rattle.reverse_alerts.proofs.Blocks.{block, blocks, found, or-none}
+use Rattle.reverse_alerts.proofs.Blocks.{block, blocks, found}
 use Rattle.reverse_alerts.proofs.ReadForms.{array_if_any}
 use Rattle.reverse_alerts.proofs.Sayable.{IsCause, other, technical, unknown_cause, weather}
 
@@ -129,16 +130,16 @@ pub record HasParts (all : Trees) (tree : Data) : Type 0 where
 parts-found : (all : Trees) → HasParts all (object_of (blocks (parts all)))
 parts-found all = record {
   affects = found (codes "Affects") (parts all);
-  consequences = found (codes "Consequences") (parts all) ∙ or-none all.consequences;
-  description = found (codes "Description") (parts all) ∙ or-none all.description;
-  environment = found (codes "EnvironmentReason") (parts all) ∙ or-none all.environment;
-  equipment = found (codes "EquipmentReason") (parts all) ∙ or-none all.equipment;
-  miscellaneous = found (codes "MiscellaneousReason") (parts all) ∙ or-none all.miscellaneous;
+  consequences = found (codes "Consequences") (parts all) ∙ or_none all.consequences;
+  description = found (codes "Description") (parts all) ∙ or_none all.description;
+  environment = found (codes "EnvironmentReason") (parts all) ∙ or_none all.environment;
+  equipment = found (codes "EquipmentReason") (parts all) ∙ or_none all.equipment;
+  miscellaneous = found (codes "MiscellaneousReason") (parts all) ∙ or_none all.miscellaneous;
   personnel = found (codes "PersonnelReason") (parts all);
   progress = found (codes "Progress") (parts all);
   number = found (codes "SituationNumber") (parts all);
-  summary = found (codes "Summary") (parts all) ∙ or-none all.summary;
-  periods = found (codes "ValidityPeriod") (parts all) ∙ or-none all.periods;
+  summary = found (codes "Summary") (parts all) ∙ or_none all.summary;
+  periods = found (codes "ValidityPeriod") (parts all) ∙ or_none all.periods;
   version = found (codes "Version") (parts all);
 }
 

@@ -13,6 +13,7 @@ use Rattle.journey_model.specs.declared.situation.Situation.{Situation}
 use Rattle.journey_model.specs.declared.situation.ValidPeriod.{ValidPeriod}
 use Rattle.siri_calls.specs.DeliveryTree.{array_of, items_of, members, moment_tree, object_of}
 use Rattle.siri_calls.specs.DeliveryTexts.{led}
+use Rattle.siri_calls.proofs.WrittenLemmas.{in_front}
 use Rattle.reverse_alerts.specs.Kept.{is_journey, is_route, is_stop}
 use Rattle.reverse_alerts.specs.SituationTree.{Named, condition_of, consequences_of, delivery_text, journeys_member, lines_member, period_tree, periods_member, reason_member, reason_of, ref_tree, ref_trees, situation_tree, stops_member, text_member}
 use Rattle.reverse_alerts.specs.SituationTexts.{are_some, affects_text, condition_text, head_text, kind_text, kinds_text, led_if, period_text, periods_text, reason_text, ref_text, refs_text, situation_text, situations_text, tail_text, valid_text}
@@ -55,10 +56,6 @@ unfolding escape_byte led
 ref table (Route route) = simp append_assoc
 ref table (Stop stop) = simp append_assoc
 ref table (Journey trip day) = simp append_assoc
-
--- one more piece in front
-in_front : (comma one others one' others' : List ℕ) → one ≡ one' → others ≡ others' → comma ++ (one ++ others) ≡ comma ++ one' ++ others'
-in_front comma one others one' others' first rest = rw (first, rest) (sym (append_assoc comma one' others'))
 
 refs : (table : Table) (all : List Ref) (later : Bool) → items_text later (items_of (ref_trees table all)) ≡ refs_text later table all
 refs table [] later = refl

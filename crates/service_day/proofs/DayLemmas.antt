@@ -72,12 +72,12 @@ month_ends n h = elim (cases_order (month_of n) 12) [
   | inr (inr gt) ↦ absurd (omega (arith, month_high n))
 ]
 
-abs_forward : (z : ℤ) → pos 0 ≤ℤ z → z ≡ pos (unsigned_abs z)
+pub abs_forward : (z : ℤ) → pos 0 ≤ℤ z → z ≡ pos (unsigned_abs z)
 abs_forward (pos k) h = refl
 abs_forward (negsuc k) h = absurd (omega (arith, signed_arith))
 
 -- from a day to a later one
-forward : (from to : ℤ) → from ≤ℤ to → to ≡ from +ℤ pos (unsigned_abs (to -ℤ from))
+pub forward : (from to : ℤ) → from ≤ℤ to → to ≡ from +ℤ pos (unsigned_abs (to -ℤ from))
 forward from to h = omega (arith, signed_arith, abs_forward (to -ℤ from) (omega (arith, signed_arith)))
 
 pub day_high : (n : ℤ) → IsDay n → day_of_month n ≤ days_in_month (pos (year_of n)) (month_of n)
@@ -127,7 +127,7 @@ if_some : (found : Bool) (x n : ℤ) → (if found then Some x else None) ≡ So
 if_some true x n e = (refl, cc)
 if_some false x n e = cc
 
-civil_of : (y m d : ℕ) → is_date y m d ≡ true → IsCivilDate (pos y) m d
+pub civil_of : (y m d : ℕ) → is_date y m d ≡ true → IsCivilDate (pos y) m d
 civil_of y m d h = grind (arith, nat_tests, signed_arith)
 
 year_span : (y m d : ℕ) → 1970 ≤ y → y ≤ 9998 → IsCivilDate (pos y) m d → IsBetween (pos 0) (pos 2932531) (days_from_civil (pos y) m d)

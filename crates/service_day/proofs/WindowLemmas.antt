@@ -6,6 +6,7 @@ use Rattle.service_day.specs.Days.{IsDay}
 use Rattle.service_day.specs.Starts.{start}
 use Rattle.service_day.specs.Windows.{DayStarts, IsWindow, start_in}
 use Rattle.service_day.specs.declared.zones.Rules.{Rules}
+use Rattle.service_day.proofs.DayLemmas.{forward}
 
 pub start_in-none : (w : DayStarts) (day : ℤ) → (day <ℤ w.first) ⊎ ((w.first +ℤ pos (length w.starts)) ≤ℤ day) → start_in w day ≡ None
 start_in-none w day (inl before) = grind (arith, ints)
@@ -20,13 +21,6 @@ same_if false x y h = refl
 
 within : (first day end : ℤ) → (int_le first day && int_lt day end) ≡ true → (first ≤ℤ day) × (day <ℤ end)
 within first day end h = grind (arith, ints)
-
-abs_forward : (z : ℤ) → pos 0 ≤ℤ z → z ≡ pos (unsigned_abs z)
-abs_forward z h = omega (arith, ints)
-
--- a later day is so many days after an earlier one
-forward : (from to : ℤ) → from ≤ℤ to → to ≡ from +ℤ pos (unsigned_abs (to -ℤ from))
-forward from to h = omega (arith, ints, abs_forward (to -ℤ from) (omega (arith, ints)))
 
 -- the place of a day in a window
 pub place_in : (first day : ℤ) (days : ℕ) → first ≤ℤ day → day <ℤ (first +ℤ pos days) → unsigned_abs (day -ℤ first) < days

@@ -1,6 +1,6 @@
 -- The times of the stops of a journey are moments; and its readings are one for each stop.
-use Rattle.std.proofs.Common.{◌≡◌, ◌==◌, ◌&&◌, ◌<◌, ◌∷◌, [], ℕ, suc, ℤ, Bool, true, false, List, length, take, drop, get_or, Option, Some, None, option_map, refl, sym, subst, ap, arith}
-use Rattle.std.specs.Prelude.{All, nat_le, nat_lt, slice_get}
+use Rattle.std.proofs.Common.{◌≡◌, ◌&&◌, ◌<◌, ◌∷◌, [], ℕ, ℤ, true, false, List, length, take, drop, get_or, Option, Some, None, option_map, refl, sym, subst, ap, arith}
+use Rattle.std.specs.Prelude.{All, nat_le, slice_get}
 use Rattle.std.proofs.lemmas.Bool.{and_parts, false≢true}
 use Rattle.std.proofs.lemmas.Option.{none-some}
 use Rattle.std.proofs.lemmas.List.Elements.{All-get_or, All-from_recursion}
@@ -8,13 +8,13 @@ use Rattle.std.specs.List.{AllByRecursion, list_all}
 use Rattle.service_day.specs.Starts.{IsDayStart}
 use Rattle.service_day.specs.Windows.{start_in}
 use Rattle.stop_schedule.proofs.StopStep.{all-at}
-use Rattle.stop_schedule.specs.Limits.{row_limit, stop_limit}
-use Rattle.stop_schedule.specs.declared.table_file.TableFile.TheVariants.{Trips}
+use Rattle.stop_schedule.specs.Limits.{stop_limit}
 use Rattle.stop_schedule.specs.Held.{are_in_range, is_in_range, stops_held}
 use Rattle.stop_schedule.specs.Planned.{planned}
 use Rattle.stop_schedule.specs.Stops.{are_known, are_rising, are_stops_of, are_timed, is_timed}
 use Rattle.stop_schedule.specs.declared.carried.CarriedTrip.{CarriedTrip}
 use Rattle.stop_schedule.specs.declared.stop_times.StopRow.{StopRow}
+use Rattle.stop_schedule.proofs.SoundLemmas.{each-in, stops-in}
 use Rattle.journey_model.specs.Dated.{run_of}
 use Rattle.journey_model.specs.Readings.{AreMoments, are_near, fits_trip, is_near}
 use Rattle.journey_model.specs.Runs.{Run}
@@ -24,7 +24,7 @@ use Rattle.journey_model.specs.declared.readings.JourneyReading.{JourneyReading}
 use Rattle.journey_model.specs.declared.readings.DatedReading.{DatedReading}
 use Rattle.journey_model.specs.declared.readings.StopReading.{StopReading}
 use Rattle.propagation.specs.Feeds.{IsServable}
-use Rattle.journey_model.proofs.Moments.{reading_moments}
+use Rattle.journey_model.proofs.Readings.{reading_moments}
 
 -- what is read of a feed fits its schedule
 pub servable_fits : (schedule : Schedule) (journeys : List DatedReading) → All (IsServable schedule) journeys
@@ -63,39 +63,16 @@ known_stops stops rows h =
     let after_rising = and_parts (are_rising rows) (are_known stops rows && are_timed rows) after_few.1 in
     (and_parts (are_known stops rows) (are_timed rows) after_rising.1).0
 
-of_trip : (routes stops : ℕ) (rows : List StopRow) (one : CarriedTrip) → is_in_range routes stops rows one ≡ true → are_stops_of stops (drop one.first (take one.end rows)) ≡ true
-of_trip routes stops rows one h =
-    let its : Bool = are_stops_of stops (drop one.first (take one.end rows)) in
-    let after_route = and_parts (nat_lt one.route routes) (nat_le one.first one.end && (nat_le one.end (length rows) && its)) h in
-    let after_first = and_parts (nat_le one.first one.end) (nat_le one.end (length rows) && its) after_route.1 in
-    (and_parts (nat_le one.end (length rows)) its after_first.1).1
-
-all_in : (trips routes stops : List (List ℕ)) (carried : List CarriedTrip) (rows : List StopRow) → are_in_range trips routes stops carried rows ≡ true
-    → list_all (is_in_range (length routes) (length stops) rows) carried ≡ true
-all_in trips routes stops carried rows h =
-    let all : Bool = list_all (is_in_range (length routes) (length stops) rows) carried in
-    let after_same = and_parts (length carried == length trips) (nat_le (length trips) (row_limit Trips) && all) h in
-    (and_parts (nat_le (length trips) (row_limit Trips)) all after_same.1).1
-
 known_at : (routes stops : ℕ) (carried : List CarriedTrip) (rows : List StopRow) (trip : ℕ) (found : Option CarriedTrip) → list_all (is_in_range routes stops rows) carried ≡ true
     → slice_get carried trip ≡ found → are_known stops (stops_held rows found) ≡ true
 known_at routes stops carried rows trip None all is = refl
 known_at routes stops carried rows trip (Some one) all is =
-    known_stops stops (drop one.first (take one.end rows)) (of_trip routes stops rows one (all-at (is_in_range routes stops rows) carried trip one all is))
+    known_stops stops (drop one.first (take one.end rows)) (stops-in routes stops rows one (all-at (is_in_range routes stops rows) carried trip one all is))
 
 pub known_held : (trips routes stops : List (List ℕ)) (carried : List CarriedTrip) (rows : List StopRow) (trip : ℕ) → are_in_range trips routes stops carried rows ≡ true
     → are_known (length stops) (stops_held rows (slice_get carried trip)) ≡ true
 known_held trips routes stops carried rows trip in_range =
-    known_at (length routes) (length stops) carried rows trip (slice_get carried trip) (all_in trips routes stops carried rows in_range) refl
-
--- there is one reading for each stop
-pub one_each : (start : ℤ) (rows : List StopRow) (readings : List StopReading) → are_near start rows readings ≡ true → length readings ≡ length rows
-one_each start [] [] near = refl
-one_each start [] (reading ∷ readings) near = absurd (false≢true near)
-one_each start (row ∷ rows) [] near = absurd (false≢true near)
-one_each start (row ∷ rows) (reading ∷ readings) near =
-    let rest = one_each start rows readings (and_parts (is_near (planned start row) reading) (are_near start rows readings) near).1 in
-    ap suc rest
+    known_at (length routes) (length stops) carried rows trip (slice_get carried trip) (each-in trips routes stops carried rows in_range) refl
 
 -- and their times are moments
 all_moments : (start : ℤ) (rows : List StopRow) (readings : List StopReading) → IsDayStart start → are_timed rows ≡ true → are_near start rows readings ≡ true

@@ -1,8 +1,9 @@
 -- The dense reading of calls whose places rise, place by place.
-use Rattle.std.proofs.Common.{◌≡◌, ◌∙◌, ◌<◌, ◌≤◌, ◌+◌, ◌&&◌, ◌==◌, ◌-◌, ℕ, zero, suc, Bool, true, false, List, [], ◌∷◌, ◌++◌, map, find, Some, None, nat_le, refl, ap, sym, arith, append_assoc, subst}
+use Rattle.std.proofs.Common.{◌≡◌, ◌∙◌, ◌<◌, ◌≤◌, ◌+◌, ◌==◌, ◌-◌, ℕ, zero, suc, Bool, true, false, List, [], ◌∷◌, ◌++◌, map, find, Some, None, nat_le, refl, ap, sym, arith, append_assoc, subst}
 use Rattle.std.specs.List.{range_with_len}
 use Rattle.std.proofs.lemmas.Bool.{leb-true}
 use Rattle.std.proofs.lemmas.Bool.Decides.{nat_tests}
+use Rattle.stop_schedule.proofs.IdLemmas.{and-left, and-right}
 use Rattle.journey_model.specs.Runs.{Run, planned_at}
 use Rattle.journey_model.specs.declared.readings.StopReading.{StopReading}
 use Rattle.journey_model.specs.declared.readings.StopReading.TheVariants.{Absent}
@@ -10,19 +11,10 @@ use Rattle.siri_calls.specs.Journeys.{Call}
 use Rattle.siri_calls.specs.Judged.{call_reading, dense}
 use Rattle.siri_calls.specs.MatchedCalls.{rise_from}
 
--- two tests that both pass
-pub first-of : (a b : Bool) → (a && b) ≡ true → a ≡ true
-first-of true b h = refl
-first-of false b h = h
-
-pub second-of : (a b : Bool) → (a && b) ≡ true → b ≡ true
-second-of true b h = h
-second-of false b h = absurd (grind (arith, h))
-
 other : (n m : ℕ) → n < m → (m == n) ≡ false
 other n m less = grind (arith, nat_tests)
 
-other-above : (n m : ℕ) → n < m → (n == m) ≡ false
+pub other-above : (n m : ℕ) → n < m → (n == m) ≡ false
 other-above n m less = grind (arith, nat_tests)
 
 pub elsewhere : (n m : ℕ) → (n ≡ m → ⊥) → (n == m) ≡ false
@@ -33,8 +25,8 @@ pub none-before : (place from : ℕ) (placed : List (ℕ × (ℕ × Call))) → 
     → find (λ one. one.0 == place) placed ≡ None
 none-before place from [] less rising = refl
 none-before place from (one ∷ others) less rising =
-    let after : from ≤ one.0 = leb-true from one.0 (first-of (nat_le from one.0) _ rising) in
-    rw (other place one.0 (omega arith)) (none-before place (one.0 + 1) others (omega arith) (second-of (nat_le from one.0) _ rising))
+    let after : from ≤ one.0 = leb-true from one.0 (and-left (nat_le from one.0) _ rising) in
+    rw (other place one.0 (omega arith)) (none-before place (one.0 + 1) others (omega arith) (and-right (nat_le from one.0) _ rising))
 
 -- a call says nothing of the places after its own
 passed : (run : Run) (one : ℕ × (ℕ × Call)) (others : List (ℕ × (ℕ × Call))) (from n : ℕ) → one.0 < from
@@ -88,15 +80,15 @@ pub rise-after : (place : ℕ) (list others : List (ℕ × (ℕ × Call))) (one 
     → rise_from (place + 1) others ≡ true
 rise-after place list others one is here rising =
     let all : rise_from place (one ∷ others) ≡ true = rw is at rising in
-    subst (λ p. rise_from (p + 1) others ≡ true) here (second-of (nat_le place one.0) _ all)
+    subst (λ p. rise_from (p + 1) others ≡ true) here (and-right (nat_le place one.0) _ all)
 
 -- the first of calls that rise from a place on isn't at it
 pub none-here : (place : ℕ) (one : ℕ × (ℕ × Call)) (others : List (ℕ × (ℕ × Call))) → rise_from place (one ∷ others) ≡ true → (one.0 == place) ≡ false
     → find (λ other. other.0 == place) (one ∷ others) ≡ None
 none-here place one others rising elsewhere =
-    let after : place ≤ one.0 = leb-true place one.0 (first-of (nat_le place one.0) _ rising) in
+    let after : place ≤ one.0 = leb-true place one.0 (and-left (nat_le place one.0) _ rising) in
     let above : place < one.0 + 1 = omega arith in
-    rw elsewhere (none-before place (one.0 + 1) others above (second-of (nat_le place one.0) _ rising))
+    rw elsewhere (none-before place (one.0 + 1) others above (and-right (nat_le place one.0) _ rising))
 
 -- calls that rise from a place on at which none stands rise from the next one on
 pub rise-on : (place : ℕ) (placed : List (ℕ × (ℕ × Call))) → rise_from place placed ≡ true → find (λ one. one.0 == place) placed ≡ None
@@ -107,6 +99,6 @@ rise-on place (one ∷ others) rising none = by (one.0 == place) refl
     by : (b : Bool) → (one.0 == place) ≡ b → rise_from (place + 1) (one ∷ others) ≡ true
     by true e = let absent : Some one ≡ None = rw e at none in absurd (cc)
     by false e =
-        let after : place ≤ one.0 = leb-true place one.0 (first-of (nat_le place one.0) _ rising) in
+        let after : place ≤ one.0 = leb-true place one.0 (and-left (nat_le place one.0) _ rising) in
         let more : nat_le (place + 1) one.0 ≡ true = grind (arith, nat_tests) in
-        rw more (second-of (nat_le place one.0) _ rising)
+        rw more (and-right (nat_le place one.0) _ rising)

@@ -9,10 +9,10 @@ use Rattle.journey_model.specs.Runs.{Run}
 use Rattle.journey_model.specs.declared.fault.Fault.{Fault}
 use Rattle.journey_model.specs.declared.fault.Fault.TheVariants.{OutOfOrder}
 use Rattle.stop_schedule.specs.declared.stop_times.StopRow.{StopRow}
+use Rattle.stop_schedule.proofs.IdLemmas.{and-left, and-right}
 use Rattle.siri_calls.specs.Journeys.{Call}
 use Rattle.siri_calls.specs.Judged.{calls_placed, numbered, placed_calls, stops_named}
 use Rattle.siri_calls.specs.MatchedCalls.{rise_from}
-use Rattle.siri_calls.proofs.DenseLemmas.{first-of, second-of}
 
 -- the first place of a stop from a place on isn't before it
 first-after : (stop from : ℕ) (stops : List StopRow) (place : ℕ) → first_place stop from stops ≡ Some place → from ≤ place
@@ -34,7 +34,7 @@ call-after stops after stop (Some order) place at = by (fits_order stop (place_a
     by true e h =
         let same : order - 1 ≡ place = cc in
         let later : place_after after ≤ order - 1 =
-        leb-true _ _ (first-of (nat_le (place_after after) (order - 1)) (stands_at (is_of_stop stop) (order - 1) stops) (second-of (nat_le 1 order) _ e)) in
+        leb-true _ _ (and-left (nat_le (place_after after) (order - 1)) (stands_at (is_of_stop stop) (order - 1) stops) (and-right (nat_le 1 order) _ e)) in
         omega arith
 
 le-true : (n m : ℕ) → n ≤ m → nat_le n m ≡ true

@@ -16,7 +16,7 @@ use Rattle.siri_calls.specs.Judged.{numbered, placed_calls, stop_named, stop_of_
 use Rattle.siri_calls.specs.MatchedCalls.{is_unknown, place_named, unplaced}
 use Rattle.siri_json.specs.Shown.{ok_map}
 use Rattle.stop_schedule.specs.declared.stop_times.StopRow.{StopRow}
-use Rattle.siri_calls.proofs.DenseLemmas.{second-of}
+use Rattle.stop_schedule.proofs.IdLemmas.{and-right}
 use Rattle.siri_calls.proofs.PlaceLemmas.{any-split, is_some-position}
 
 -- ---- a stop that has a place is one of the trip
@@ -46,7 +46,7 @@ placed-any stops after stop (Some order) place at = by (fits_order stop (place_a
     by false e h = first-any stop (place_after after) stops place h
     by true e h =
         stands-any (is_of_stop stop) (order - 1) stops
-        (second-of (nat_le (place_after after) (order - 1)) (stands_at (is_of_stop stop) (order - 1) stops) (second-of (nat_le 1 order) _ e))
+        (and-right (nat_le (place_after after) (order - 1)) (stands_at (is_of_stop stop) (order - 1) stops) (and-right (nat_le 1 order) _ e))
 
 -- ---- the calls so far have these stops and these places, and the others follow
 

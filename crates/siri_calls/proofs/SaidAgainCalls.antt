@@ -19,7 +19,7 @@ use Rattle.journey_model.specs.Times.{delay_fault, is_delay}
 use Rattle.journey_model.specs.declared.readings.JourneyReading.TheVariants.{Stops}
 use Rattle.journey_model.specs.declared.readings.StopReading.{StopReading}
 use Rattle.journey_model.specs.declared.readings.StopReading.TheVariants.{Absent, Skipped, Timed}
-use Rattle.journey_model.proofs.Moments.{reading_moments}
+use Rattle.journey_model.proofs.Readings.{reading_moments}
 use Rattle.siri_calls.specs.Calls.{call, calls, event, statuses}
 use Rattle.siri_calls.specs.DeliveryTree.{call_tree, call_trees_from}
 use Rattle.siri_json.specs.Fields.{optional_member, required_member}
@@ -30,6 +30,7 @@ use Rattle.siri_json.specs.declared.forms.Form.TheVariants.{Found}
 use Rattle.siri_calls.proofs.SaidAgainIds.{id-at, position-id, some-id}
 use Rattle.service_day.proofs.MomentTextLemmas.{moment_of-moment_text, some-moment_text}
 use Rattle.siri_calls.proofs.SaidAgainRuns.{IsSoundRun}
+use Rattle.siri_calls.proofs.DenseLemmas.{other-above}
 
 -- ---- what each call is read as
 
@@ -243,9 +244,6 @@ reads-as plan run order row Absent = refl
 reads-as plan run order row Skipped = refl
 reads-as plan run order row (Timed arrival departure) = refl
 
-other-number : (n m : ℕ) → n < m → (n == m) ≡ false
-other-number n m h = grind (arith, nat_tests)
-
 dense-from : (run : Run) (placed : List (ℕ × (ℕ × Call))) (place : ℕ) (rows : List StopRow) (readings : List StopReading) → are_near run.start rows readings ≡ true
     → ((j : ℕ) → place ≤ j → finds placed j ≡ finds (placed_from run place rows readings) j)
     → map (dense run placed) (range_with_len place (length rows)) ≡ readings
@@ -257,7 +255,7 @@ dense-from run placed place (row ∷ rows) (reading ∷ readings) near same =
     let one : ℕ × (ℕ × Call) = (place, (place, said_call run (place + 1) row reading)) in
     let later = placed_from run (place + 1) rows readings in
     let here : finds placed place ≡ Some one = same place (omega arith) ∙ ap (λ b. cond b (Some one) (finds later place)) (same-number place) in
-    let there = λ (j : ℕ) (h : place + 1 ≤ j). same j (omega arith) ∙ ap (λ b. cond b (Some one) (finds later j)) (other-number place j (omega arith)) in
+    let there = λ (j : ℕ) (h : place + 1 ≤ j). same j (omega arith) ∙ ap (λ b. cond b (Some one) (finds later j)) (other-above place j (omega arith)) in
     let first : dense run placed place ≡ reading = ap (reading_at run place) here ∙ reads-as (planned_at run place) run (place + 1) row reading in
     let rest = dense-from run placed (place + 1) rows readings nears.1 there in
     ap₂ (λ (a : StopReading) (b : List StopReading). a ∷ b) first rest

@@ -10,21 +10,20 @@ use Rattle.stop_schedule.specs.Sound.{IsSound}
 use Rattle.stop_schedule.specs.Stops.{is_timed}
 use Rattle.stop_schedule.specs.declared.stop_times.StopRow.{StopRow}
 use Rattle.journey_model.specs.Ids.{id_of}
-use Rattle.journey_model.specs.Readings.{are_near, fits_trip, is_near}
+use Rattle.journey_model.specs.Readings.{are_near, is_near}
 use Rattle.journey_model.specs.Runs.{Run}
 use Rattle.journey_model.specs.Schedules.{Schedule}
 use Rattle.journey_model.specs.declared.readings.DatedReading.{DatedReading}
-use Rattle.journey_model.specs.declared.readings.JourneyReading.{JourneyReading}
-use Rattle.journey_model.specs.declared.readings.JourneyReading.TheVariants.{Cancelled, Stops}
 use Rattle.journey_model.specs.declared.readings.StopReading.{StopReading}
 use Rattle.journey_model.specs.declared.readings.StopReading.TheVariants.{Absent, Skipped, Timed}
-use Rattle.journey_model.proofs.Moments.{planned_moments, reading_moments}
-use Rattle.siri_calls.specs.DeliveryTree.{call_tree, call_trees_from, delivery_tree, frame_tree, items_of, journey_of_run, journey_on, journey_tree, service_tree, skipped_at, stop_readings, timetable_tree}
+use Rattle.journey_model.proofs.Readings.{planned_moments, reading_moments}
+use Rattle.siri_calls.specs.DeliveryTree.{call_tree, call_trees_from, delivery_tree, frame_tree, items_of, journey_of_run, journey_on, journey_tree, service_tree, stop_readings, timetable_tree}
 use Rattle.siri_calls.specs.Sayable.{IsSayable}
 use Rattle.siri_calls.proofs.SaidAgainIds.{id-at, IsUtf8-id}
 use Rattle.service_day.proofs.MomentTextLemmas.{IsUtf8-dashed_text, IsUtf8-moment_text}
 use Rattle.siri_calls.proofs.SaidAgainRuns.{IsSoundRun, sound-run}
 use Rattle.siri_calls.proofs.SaidAgainTrees.{ArePlain, IsPlain}
+use Rattle.siri_calls.proofs.WrittenTimes.{fits_near}
 
 -- a name of ASCII letters
 name : (letters : List ℕ) → are_ascii letters ≡ true → IsUtf8 letters
@@ -116,22 +115,13 @@ plain-calls run order (row ∷ rows) (reading ∷ readings) sound small known ti
       plain-calls run (order + 1) rows readings sound (omega arith) knowns.1 times.1 nears.1,
     )
 
--- skipping all stops fits
-near-skipped : (start : ℤ) (rows : List StopRow) → are_near start rows (map skipped_at rows) ≡ true
-near-skipped start [] = refl
-near-skipped start (row ∷ rows) = near-skipped start rows
-
-pub near-readings : (run : Run) (reading : JourneyReading) → fits_trip run.start run.stops reading ≡ true → are_near run.start run.stops (stop_readings run reading) ≡ true
-near-readings run Cancelled h = near-skipped run.start run.stops
-near-readings run (Stops readings) h = h
-
 -- a journey
 plain-journey : (schedule : Schedule) (recorded : ℤ) (one : DatedReading) → IsSound schedule.table → (h : IsSayable schedule one) → IsMoment recorded
     → IsPlain 4 (journey_of_run schedule recorded one h.servable.run)
 plain-journey schedule recorded one sound h at =
     let run = h.servable.run in
     let sound-one = sound-run schedule one sound h in
-    let calls = plain-calls run 1 run.stops (stop_readings run one.reading) sound-one (omega (arith, sound-one.few)) sound-one.known sound-one.timed (near-readings run one.reading h.servable.fits) in
+    let calls = plain-calls run 1 run.stops (stop_readings run one.reading) sound-one (omega (arith, sound-one.few)) sound-one.known sound-one.timed (fits_near run one.reading h.servable.fits) in
     let trip = IsUtf8-id _ (id-at schedule.table.trips one.trip.0 sound.trips h.servable.trip_in) in
     let line = IsUtf8-id _ (sound.route_of one.trip.0 h.servable.trip_in) in (
       refl,

@@ -1,14 +1,15 @@
 -- What is recorded of a journey can be served.
-use Rattle.std.proofs.Common.{◌≡◌, ◌∙◌, ◌<◌, ◌+◌, ◌==◌, ℕ, ℤ, pos, ◌+ℤ◌, ◌-ℤ◌, suc, Bool, true, false, cond, List, [], ◌∷◌, ◌++◌, length, map, find, position, slice_get, Option, Some, None, Result, Ok, Err, refl, ap, arith, subst, add-zero}
-use Rattle.std.specs.List.{AllByRecursion, range_with_len}
+use Rattle.std.proofs.Common.{◌≡◌, ◌∙◌, ◌<◌, ◌+◌, ◌==◌, ℕ, ℤ, pos, ◌+ℤ◌, ◌-ℤ◌, suc, Bool, true, false, cond, List, [], ◌∷◌, length, map, find, position, slice_get, Option, Some, None, Result, Ok, Err, refl, ap, arith, subst, add-zero}
+use Rattle.std.specs.List.{range_with_len}
 use Rattle.std.specs.Prelude.{IfOk}
-use Rattle.std.specs.Option.{ok_or, option_or, option_map_or}
+use Rattle.std.specs.Option.{ok_or, option_map_or}
 use Rattle.std.specs.Cmp.Derive.{both_true}
 use Rattle.std.specs.Str.{bytes_eq}
 use Rattle.std.proofs.lemmas.Bool.Decides.{nat_tests}
 use Rattle.std.proofs.lemmas.Int.{ints}
 use Rattle.std.proofs.lemmas.List.Quantifiers.{position-Some}
 use Rattle.gw_base.specs.Chains.{◌>>=◌}
+use Rattle.gw_base.proofs.Elements.{all_more, or_neither}
 use Rattle.journey_model.specs.Propagation.{timed}
 use Rattle.journey_model.specs.Readings.{are_near, fits_trip, is_near}
 use Rattle.journey_model.specs.Records.{recorded}
@@ -16,12 +17,13 @@ use Rattle.journey_model.specs.Runs.{Run, planned_at}
 use Rattle.journey_model.specs.Schedules.{Schedule, run_on}
 use Rattle.journey_model.specs.Times.{both_times, delay_fault, event_fault, is_delay}
 use Rattle.journey_model.specs.declared.fault.Fault.{Fault}
-use Rattle.journey_model.specs.declared.fault.Fault.TheVariants.{DelayRange, NotRunning, OutOfWindow, UnknownJourney}
+use Rattle.journey_model.specs.declared.fault.Fault.TheVariants.{NotRunning, OutOfWindow, UnknownJourney}
 use Rattle.journey_model.specs.declared.readings.JourneyReading.{JourneyReading}
 use Rattle.journey_model.specs.declared.readings.JourneyReading.TheVariants.{Cancelled, Stops}
 use Rattle.journey_model.specs.declared.readings.JourneyRecord.{JourneyRecord}
 use Rattle.journey_model.specs.declared.readings.StopReading.{StopReading}
 use Rattle.journey_model.specs.declared.readings.StopReading.TheVariants.{Skipped}
+use Rattle.journey_model.proofs.Delays.{event_near}
 use Rattle.stop_schedule.specs.Planned.{planned}
 use Rattle.stop_schedule.specs.declared.stop_times.StopRow.{StopRow}
 use Rattle.siri_calls.specs.Deliveries.{AreServable, CanServe}
@@ -34,18 +36,6 @@ use Rattle.siri_json.specs.declared.delivery.Item.TheVariants.{Aside, Taken}
 use Rattle.siri_json.specs.declared.read_fault.ReadFault.{ReadFault}
 use Rattle.siri_json.specs.declared.read_fault.ReadFault.TheVariants as read
 
--- a time whose event has no fault is at most a week from the planned one
-event-near : (number : ℕ) (plan time : ℤ) → event_fault number plan (Some time) ≡ None → is_delay (time -ℤ plan) ≡ true
-event-near number plan time none = by (is_delay (time -ℤ plan)) none
-  where
-    by : (b : Bool) → cond b None (Some (DelayRange number (time -ℤ plan))) ≡ None → b ≡ true
-    by true h = refl
-    by false h = absurd (cc)
-
-neither : (first second : Option Fault) → option_or first second ≡ None → (first ≡ None) × (second ≡ None)
-neither None second h = (refl, h)
-neither (Some fault) second h = absurd (cc)
-
 shifted : (plan delay : ℤ) → (plan +ℤ delay) -ℤ plan ≡ delay
 shifted plan delay = omega (arith, ints)
 
@@ -53,14 +43,14 @@ shifted plan delay = omega (arith, ints)
 times-near : (number : ℕ) (plan : ℤ × ℤ) (arrival departure : Option ℤ) → delay_fault number plan arrival departure ≡ None
     → is_near plan (timed (both_times plan arrival departure)) ≡ true
 times-near number plan (Some arrival) (Some departure) none =
-    let both = neither (event_fault number plan.0 (Some arrival)) (event_fault number plan.1 (Some departure)) none in
-    both_true (event-near number plan.0 arrival both.0) (event-near number plan.1 departure both.1)
+    let both = or_neither (event_fault number plan.0 (Some arrival)) (event_fault number plan.1 (Some departure)) none in
+    both_true (event_near number plan.0 arrival both.0) (event_near number plan.1 departure both.1)
 times-near number plan (Some arrival) None none =
-    let both = neither (event_fault number plan.0 (Some arrival)) None none in
-    let near : is_delay (arrival -ℤ plan.0) ≡ true = event-near number plan.0 arrival both.0 in
+    let both = or_neither (event_fault number plan.0 (Some arrival)) None none in
+    let near : is_delay (arrival -ℤ plan.0) ≡ true = event_near number plan.0 arrival both.0 in
     both_true near (ap is_delay (shifted plan.1 (arrival -ℤ plan.0)) ∙ near)
 times-near number plan None (Some departure) none =
-    let near : is_delay (departure -ℤ plan.1) ≡ true = event-near number plan.1 departure none in
+    let near : is_delay (departure -ℤ plan.1) ≡ true = event_near number plan.1 departure none in
     both_true (ap is_delay (shifted plan.0 (departure -ℤ plan.1)) ∙ near) near
 times-near number plan None None none = refl
 
@@ -74,7 +64,7 @@ found-near : (run : Run) (placed : List (ℕ × (ℕ × Call))) (place : ℕ) (o
     → find (λ other. other.0 == place) placed ≡ Some one → (spec.fault_of_delay run one ≡ None) × (one.0 ≡ place)
 found-near run [] place one none found = absurd (cc)
 found-near run (first ∷ others) place one none found =
-    by (first.0 == place) refl found (found-near run others place one (neither (spec.fault_of_delay run first) _ none).1)
+    by (first.0 == place) refl found (found-near run others place one (or_neither (spec.fault_of_delay run first) _ none).1)
   where
     by : (b : Bool) → (first.0 == place) ≡ b → cond b (Some first) (find (λ other. other.0 == place) others) ≡ Some one
         → (find (λ other. other.0 == place) others ≡ Some one → (spec.fault_of_delay run one ≡ None) × (one.0 ≡ place))
@@ -82,7 +72,7 @@ found-near run (first ∷ others) place one none found =
     by true e h later =
         let same : first ≡ one = cc in
         let here : first.0 ≡ place = grind (arith, nat_tests) in
-        (subst (λ x. spec.fault_of_delay run x ≡ None) same (neither (spec.fault_of_delay run first) (spec.delays_fault run others) none).0, subst (λ x. x.0 ≡ place) same here)
+        (subst (λ x. spec.fault_of_delay run x ≡ None) same (or_neither (spec.fault_of_delay run first) (spec.delays_fault run others) none).0, subst (λ x. x.0 ≡ place) same here)
     by false e h later = later h
 
 dense-near : (run : Run) (placed : List (ℕ × (ℕ × Call))) (place : ℕ) → spec.delays_fault run placed ≡ None
@@ -208,13 +198,9 @@ servable schedule head all one count h = by (spec.trip_named schedule head) refl
     by (Err fault) e told = absurd (cc)
     by (Ok trip) e told = with trip (spec.trip_read schedule trip head all) (known-trip schedule head trip e) refl told
 
-appended : {A : Type 0} (P : A → Type 0) (all : List A) (last : A) → AllByRecursion P all → P last → AllByRecursion P (all ++ last ∷ [])
-appended P [] last each is = (is, tt)
-appended P (one ∷ others) last each is = (each.0, appended P others last each.1 is)
-
 -- one item more can be served
 pub one_served : (schedule : Schedule) (old new : Delivery JourneyRecord) (answer : Result (JourneyRecord × ℕ) ReadFault) → IfOk answer (λ one. IsServable schedule one.0)
     → IsAdded answer old new → AreServable schedule old.items → AreServable schedule new.items
-one_served schedule old new (Ok one) servable added all = rw added.0 (appended (CanServe schedule) old.items (Taken one.0) all servable)
-one_served schedule old new (Err (read.Aside fault)) servable added all = rw added.0 (appended (CanServe schedule) old.items (Aside fault) all tt)
+one_served schedule old new (Ok one) servable added all = rw added.0 (all_more (CanServe schedule) old.items (Taken one.0) all servable)
+one_served schedule old new (Err (read.Aside fault)) servable added all = rw added.0 (all_more (CanServe schedule) old.items (Aside fault) all tt)
 one_served schedule old new (Err read.Memory) servable added all = absurd added

@@ -24,7 +24,7 @@ call run order row Skipped = simp append_assoc
 call run order row (Timed arrival departure) = simp append_assoc
 
 -- one more piece in front
-in_front : (comma one others one' others' : List ℕ) → one ≡ one' → others ≡ others' → comma ++ (one ++ others) ≡ comma ++ one' ++ others'
+pub in_front : (comma one others one' others' : List ℕ) → one ≡ one' → others ≡ others' → comma ++ (one ++ others) ≡ comma ++ one' ++ others'
 in_front comma one others one' others' first rest = rw (first, rest) (sym (append_assoc comma one' others'))
 
 calls : (run : Run) (rows : List StopRow) (readings : List StopReading) (later : Bool) (order : ℕ)

@@ -1,5 +1,5 @@
 -- The readings of a journey, one near each stop of its trip.
-use Rattle.std.proofs.Common.{◌≡◌, ℕ, ℤ, map, ap, ◌<◌, true, List, [], ◌∷◌, length, slice_get, Some, refl, arith, suc, zero}
+use Rattle.std.proofs.Common.{◌≡◌, ℕ, ℤ, map, ◌<◌, true, List, [], ◌∷◌, length, slice_get, Some, refl, arith, suc, zero}
 use Rattle.std.proofs.lemmas.Bool.{and_parts}
 use Rattle.std.proofs.lemmas.Bool.Decides.{nat_tests}
 use Rattle.stop_schedule.specs.Planned.{planned}
@@ -24,14 +24,6 @@ near_at start (one ∷ rows) (first ∷ readings) zero row reading near at there
     rw (← same, ← same_reading) (and_parts _ _ near).0
 near_at start (one ∷ rows) (first ∷ readings) (suc place) row reading near at there =
     near_at start rows readings place row reading (and_parts (is_near (planned start one) first) (are_near start rows readings) near).1 at there
-
--- there are as many readings as stops
-pub as_many : (start : ℤ) (rows : List StopRow) (readings : List StopReading) → are_near start rows readings ≡ true → length readings ≡ length rows
-as_many start [] [] near = refl
-as_many start [] (first ∷ readings) near = absurd (cc)
-as_many start (one ∷ rows) [] near = absurd (cc)
-as_many start (one ∷ rows) (first ∷ readings) near =
-    ap suc (as_many start rows readings (and_parts (is_near (planned start one) first) (are_near start rows readings) near).1)
 
 -- a journey that skips all stops is near
 pub all_skipped : (start : ℤ) (rows : List StopRow) → are_near start rows (map skipped_at rows) ≡ true

@@ -3,6 +3,7 @@ use Rattle.std.proofs.Common.{◌≡◌, ◌∙◌, ◌||◌, ◌-ℤ◌, ℤ, B
 use Rattle.std.specs.Option.{option_map_or, option_or}
 use Rattle.std.proofs.lemmas.Bool.{and_parts}
 use Rattle.gw_base.specs.declared.messages.StopUpdate.{StopUpdate}
+use Rattle.gw_base.proofs.Elements.{or_assoc, or_none}
 use Rattle.stop_schedule.specs.Planned.{planned}
 use Rattle.stop_schedule.specs.declared.stop_times.StopRow.{StopRow}
 use Rattle.journey_model.specs.Propagation.{later_by}
@@ -34,22 +35,14 @@ plan_from start delay (stop ∷ stops) =
 
 -- ---- the same updates
 
-pub or-none : {A : Type 0} (one : Option A) → option_or one None ≡ one
-or-none None = refl
-or-none (Some x) = refl
-
-pub or-assoc : {A : Type 0} (one two three : Option A) → option_or (option_or one two) three ≡ option_or one (option_or two three)
-or-assoc None two three = refl
-or-assoc (Some x) two three = refl
-
 -- a stop, where it isn't skipped
 abbrev unskipped : StopRow × StopReading → Option (StopRow × StopReading)
 unskipped stop = if is_skipped stop.1 then None else Some stop
 
 nearest-push : (before : List (StopRow × StopReading)) (stop : StopRow × StopReading)
     → nearest (before ++ stop ∷ []) ≡ option_or (unskipped stop) (nearest before)
-nearest-push [] stop = sym (or-none (unskipped stop))
-nearest-push (first ∷ before) stop = ap (λ found. option_or found (unskipped first)) (nearest-push before stop) ∙ or-assoc (unskipped stop) (nearest before) (unskipped first)
+nearest-push [] stop = sym (or_none (unskipped stop))
+nearest-push (first ∷ before) stop = ap (λ found. option_or found (unskipped first)) (nearest-push before stop) ∙ or_assoc (unskipped stop) (nearest before) (unskipped first)
 
 -- the delay that the nearest stop supplies
 abbrev delay_of : ℤ → Option (StopRow × StopReading) → Option ℤ

@@ -6,6 +6,7 @@ use Rattle.std.proofs.lemmas.Bool.{eqb-false, lt-leb}
 use Rattle.std.proofs.Math.Bool.{or-false}
 use Rattle.std.proofs.lemmas.Option.{IfSome_then}
 use Rattle.gw_base.specs.declared.messages.StopUpdate.{StopUpdate}
+use Rattle.gw_base.proofs.Elements.{or_assoc, or_none}
 use Rattle.stop_schedule.specs.Planned.{planned}
 use Rattle.stop_schedule.specs.declared.stop_times.StopRow.{StopRow}
 use Rattle.journey_model.proofs.Suppliers.{Rise, last_supplier, supplier-last}
@@ -14,7 +15,7 @@ use Rattle.journey_model.specs.Runs.{Run, planned_at}
 use Rattle.journey_model.specs.Updates.{is_no_data, is_skipped, times}
 use Rattle.journey_model.specs.declared.readings.StopReading.{StopReading}
 use Rattle.journey_model.specs.declared.readings.StopReading.TheVariants.{Absent, Skipped}
-use Rattle.sparse_planner.proofs.States.{delay_after, or-assoc, or-none, running}
+use Rattle.sparse_planner.proofs.States.{delay_after, running}
 
 -- how a stop reads by an update of its own
 abbrev pub own : ℤ × ℤ → StopUpdate → StopReading
@@ -78,7 +79,7 @@ pub record Left (placed : List (ℕ × StopUpdate)) (place : ℕ) (found : Optio
   pub rise : Rise place rest
 
 at-first : (placed : List (ℕ × StopUpdate)) → Rise 0 placed → Left placed 0 None placed
-at-first placed h = record { skips = λ later le. refl; supplier_is = λ later le. supplier-last later 0 placed h ∙ sym (or-none (last_supplier later placed)); before = tt; rise = h }
+at-first placed h = record { skips = λ later le. refl; supplier_is = λ later le. supplier-last later 0 placed h ∙ sym (or_none (last_supplier later placed)); before = tt; rise = h }
 
 -- no update stands at the place
 past : (placed : List (ℕ × StopUpdate)) (place : ℕ) (found : Option (ℕ × StopUpdate)) (rest : List (ℕ × StopUpdate))
@@ -101,7 +102,7 @@ supplier-passed : (later : ℕ) (one : ℕ × StopUpdate) (others : List (ℕ ×
     → option_or (last_supplier later (one ∷ others)) found ≡ option_or (last_supplier later others) (passed found one)
 unfolding passed
 supplier-passed later one others found le =
-    or-assoc (last_supplier later others) (if supplies later one then Some one else None) found
+    or_assoc (last_supplier later others) (if supplies later one then Some one else None) found
     ∙ ap (option_or (last_supplier later others)) (rw (le-leb one.0 later le) (by (is_skipped one.1)))
   where
     by : (skipped : Bool) → option_or (if not skipped then Some one else None) found ≡ (if skipped then found else Some one)

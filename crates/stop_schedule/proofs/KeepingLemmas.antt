@@ -1,6 +1,5 @@
 -- What is known of what was made of rows, whatever they say.
-use Rattle.std.proofs.Common.{◌≡◌, ◌<◌, ℕ, zero, suc, Bool, true, false, cond, nat_le, nat_lt, List, [], ◌∷◌, length, replicate, get_or, refl, arith}
-use Rattle.std.specs.List.{list_all}
+use Rattle.std.proofs.Common.{◌≡◌, ◌<◌, ℕ, zero, suc, true, false, nat_le, nat_lt, List, [], ◌∷◌, length, replicate, get_or, refl, arith}
 use Rattle.std.specs.Cmp.Derive.{both_true}
 use Rattle.std.proofs.lemmas.Bool.{le-leb, ltb-true}
 use Rattle.stop_schedule.specs.Keeping.{all_loaded, are_below, are_loaded, is_loaded}
@@ -8,7 +7,7 @@ use Rattle.stop_schedule.specs.Rising.{has_sequence, is_rising}
 use Rattle.stop_schedule.specs.StopTimes.{placed}
 use Rattle.stop_schedule.specs.declared.stop_times.LoadedStop.{LoadedStop}
 use Rattle.stop_schedule.proofs.IdLemmas.{and-left, and-right}
-use Rattle.stop_schedule.proofs.SequenceLemmas.{length-placed, rising-placed}
+use Rattle.stop_schedule.proofs.SequenceLemmas.{all-placed, length-placed, rising-placed}
 
 -- no trip has stops yet
 none : (stops n : ℕ) → all_loaded stops (replicate n []) ≡ true
@@ -18,18 +17,6 @@ none stops (suc n) = none stops n
 pub none-loaded : (stops n : ℕ) (by_trip : List (List LoadedStop)) → by_trip ≡ replicate n []
     → all_loaded stops by_trip ≡ true
 none-loaded stops n by_trip is = rw is (none stops n)
-
--- one more stop at its place
-all-placed : (test : LoadedStop → Bool) (stop : LoadedStop) (held : List LoadedStop) → test stop ≡ true
-    → list_all test held ≡ true → list_all test (placed stop held) ≡ true
-all-placed test stop [] one all = both_true one refl
-all-placed test stop (first ∷ held) one all =
-    by (all-placed test stop held one (and-right (test first) _ all)) (nat_lt stop.sequence first.sequence)
-  where
-    by : list_all test (placed stop held) ≡ true → (b : Bool)
-        → list_all test (cond b (stop ∷ first ∷ held) (first ∷ placed stop held)) ≡ true
-    by later true = both_true one all
-    by later false = both_true (and-left (test first) _ all) later
 
 pub loaded-placed : (stops : ℕ) (stop : LoadedStop) (held : List LoadedStop) → is_loaded stops stop ≡ true
     → are_loaded stops held ≡ true

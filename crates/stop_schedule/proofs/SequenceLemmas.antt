@@ -151,7 +151,7 @@ pub length-in_sequence : (stops : List LoadedStop) → length (in_sequence stops
 length-in_sequence [] = refl
 length-in_sequence (stop ∷ stops) = length-placed stop (in_sequence stops) ∙ ap (λ n. suc n) (length-in_sequence stops)
 
-all-placed : (test : LoadedStop → Bool) (stop : LoadedStop) (stops : List LoadedStop) → test stop ≡ true
+pub all-placed : (test : LoadedStop → Bool) (stop : LoadedStop) (stops : List LoadedStop) → test stop ≡ true
     → list_all test stops ≡ true → list_all test (placed stop stops) ≡ true
 all-placed test stop [] one all = rw one refl
 all-placed test stop (first ∷ stops) one all =

@@ -8,7 +8,7 @@ use Rattle.std.proofs.lemmas.List.Folds.{list_any-append}
 use Rattle.std.proofs.lemmas.Option.{slice_get_within}
 use Rattle.stop_schedule.specs.Holding.{AreNumbers, Extends}
 use Rattle.stop_schedule.specs.Ids.{are_distinct, has_id, with_id}
-use Rattle.stop_schedule.proofs.IdLemmas.{place-of-id}
+use Rattle.stop_schedule.proofs.IdLemmas.{id-after, place-of-id}
 
 -- ---- ids with one more
 
@@ -39,10 +39,6 @@ one-number ids a b id distinct one two =
     let first = place-of-id ids a id distinct one in
     let second = place-of-id ids b id distinct two in
     cc (first, second)
-
-id-last : (ids : List (List ℕ)) (id : List ℕ) → slice_get (ids ++ id ∷ []) (length ids) ≡ Some id
-id-last [] id = refl
-id-last (first ∷ ids) id = id-last ids id
 
 pub has-grown : (ids : List (List ℕ)) (id other : List ℕ) → has_id other ids ≡ true
     → has_id other (with_id id ids) ≡ true
@@ -78,7 +74,7 @@ module _ {V : Type 0} (services : List (List ℕ)) (id : List ℕ) (number : ℕ
   now-by true e numbered' distinct' = inside number id numbered'
   now-by false e numbered' distinct' =
       let last : number ≡ length services =
-      one-number (services ++ id ∷ []) number (length services) id distinct' numbered' (id-last services id) in
+      one-number (services ++ id ∷ []) number (length services) id distinct' numbered' (id-after services id) in
       outside number (omega (arith, last)) ∙ sym (lacking e)
 
   -- the two agree on the service
@@ -92,7 +88,7 @@ module _ {V : Type 0} (services : List (List ℕ)) (id : List ℕ) (number : ℕ
   old-by true e numbered' distinct' n service found apart = found
   old-by false e numbered' distinct' n service found apart =
       let last : number ≡ length services =
-      one-number (services ++ id ∷ []) number (length services) id distinct' numbered' (id-last services id) in
+      one-number (services ++ id ∷ []) number (length services) id distinct' numbered' (id-after services id) in
       at-front services id service n found
       (λ same. absurd (false≢true (let e : false ≡ true = grind (arith, nat_tests, apart, last, same) in e)))
 

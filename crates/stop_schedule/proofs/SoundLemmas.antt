@@ -16,7 +16,7 @@ id-within (id ∷ ids) zero within all = and-left (is_id id) _ all
 id-within (id ∷ ids) (suc n) within all = id-within ids n (omega arith) (and-right (is_id id) _ all)
 
 -- the parts of what is known of a trip that is carried
-stops-in : (routes stops : ℕ) (rows : List StopRow) (trip : CarriedTrip) → is_in_range routes stops rows trip ≡ true
+pub stops-in : (routes stops : ℕ) (rows : List StopRow) (trip : CarriedTrip) → is_in_range routes stops rows trip ≡ true
     → are_stops_of stops (drop trip.first (take trip.end rows)) ≡ true
 stops-in routes stops rows trip h =
     and-right (nat_le trip.end (length rows)) _
@@ -45,7 +45,7 @@ route-at routes stops rows (one ∷ others) (suc trip) within ids all =
     (and-right (is_in_range (length routes) stops rows one) _ all)
 
 -- each trip of a timetable whose numbers are in range has its stops and its route
-each-in : (trips routes stops : List (List ℕ)) (carried : List CarriedTrip) (rows : List StopRow)
+pub each-in : (trips routes stops : List (List ℕ)) (carried : List CarriedTrip) (rows : List StopRow)
     → are_in_range trips routes stops carried rows ≡ true
     → list_all (is_in_range (length routes) (length stops) rows) carried ≡ true
 each-in trips routes stops carried rows h = grind (arith, h)

@@ -25,7 +25,7 @@ pub record IsApart {X : Type 0} (Spells : X → List ℕ → Type 0) : Type 0 wh
 abbrev pub Stops : {X : Type 0} → (X → List ℕ → Type 0) → List ℕ → Type 0
 Stops {X} Spells bytes = (x : X) (first rest : List ℕ) → bytes ≡ first ++ rest → Spells x first → ⊥
 
-nil_front : (a b : List ℕ) → a ++ b ≡ [] → a ≡ []
+pub nil_front : (a b : List ℕ) → a ++ b ≡ [] → a ≡ []
 nil_front a b e = nil_from_length a (omega (arith, length-append a b, ap length e))
 
 pub stops_at_end : {X : Type 0} (Spells : X → List ℕ → Type 0) → IsApart Spells → Stops Spells []

@@ -57,10 +57,10 @@ walked_run (Ends number ∷ items) run tail last h e none = absurd cc
 
 -- ---- what stops the walk stops it whatever follows
 
-further : (a rest more tail : List ℕ) → tail ≡ a ++ rest → tail ++ more ≡ a ++ (rest ++ more)
+pub further : (a rest more tail : List ℕ) → tail ≡ a ++ rest → tail ++ more ≡ a ++ (rest ++ more)
 further a rest more tail e = ap (λ (l : List ℕ). l ++ more) e ∙ append_assoc a rest more
 
-long_stays : (tail more : List ℕ) → BeginsLong tail → BeginsLong (tail ++ more)
+pub long_stays : (tail more : List ℕ) → BeginsLong tail → BeginsLong (tail ++ more)
 long_stays tail more l = (l.0, l.1 ++ more, further l.0 l.1 more tail l.2, l.3, l.4)
 
 stop_stays : (kind : WireKind) (groups tail more : List ℕ) → HasKind kind groups tail → kind ≢ Truncated → IsStop groups (tail ++ more) kind

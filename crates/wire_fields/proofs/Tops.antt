@@ -20,7 +20,7 @@ use Rattle.wire_fields.specs.TopReading.{IsTagged, IsSized, IsPart, Top, Stands,
 use Rattle.wire_fields.specs.TopSteps.{IsPlain, Turns, with_part, with_taken, after_field, passed, other, opened, closed, sized, turned, Turned}
 use Rattle.wire_fields.proofs.Numbers.{err_is}
 use Rattle.wire_fields.proofs.Items.{item_again}
-use Rattle.wire_fields.proofs.Lists.{Concatenates-push}
+use Rattle.wire_fields.proofs.Lists.{Concatenates-push, nil_front}
 use Rattle.wire_fields.proofs.Spellings.{items_apart, field_from_item}
 use Rattle.wire_fields.proofs.Walks.{open_room, after_start, after_deep, after_end}
 use Rattle.wire_fields.proofs.Broken.{nothing_walked, walked_start, walked_field, walked_end, walked_whole, stop_at_item, stop_at_block, break_after, fields_or_broken, broken_once}
@@ -60,10 +60,6 @@ nil_after : (a b : List ℕ) → a ++ b ≡ [] → b ≡ []
 nil_after [] b e = e
 nil_after (x ∷ a) b e = absurd cc
 
-nil_before : (a b : List ℕ) → a ++ b ≡ [] → a ≡ []
-nil_before [] b e = refl
-nil_before (x ∷ a) b e = absurd cc
-
 -- where no group is open, nothing was walked
 none_walked : (run : List ℕ) → IsWalked [] run → run ≡ []
 unfolding IsOpen
@@ -73,7 +69,7 @@ some_walked : (number : ℕ) (groups run : List ℕ) → IsWalked (number ∷ gr
 unfolding IsOpen
 some_walked number groups run w e =
     items_apart.some (holding number Group) w.is_open.start w.is_open.starts
-    (nil_before w.is_open.start w.is_open.inside (nil_after w.is_open.front (w.is_open.start ++ w.is_open.inside) (sym w.is_open.joined ∙ e)))
+    (nil_front w.is_open.start w.is_open.inside (nil_after w.is_open.front (w.is_open.start ++ w.is_open.inside) (sym w.is_open.joined ∙ e)))
 
 -- ---- breaks
 
@@ -504,7 +500,7 @@ IsWholeOrCut top bytes =
 whole_or_cut : (taken at : ℕ) (groups : List ℕ) (part : Part) (bytes : List ℕ) → StandsFor (record { taken = taken; at = at; groups = groups; part = part }) bytes
     → IsWholeOrCut (record { taken = taken; at = at; groups = groups; part = part }) bytes
 whole_or_cut taken at (number ∷ groups) part bytes s =
-    inr (λ e. absurd cc, cut_short (record { taken = taken; at = at; groups = number ∷ groups; part = part }) bytes s (λ e. some_walked number groups s.1.run s.1.walked (nil_before s.1.run s.1.tail e)))
+    inr (λ e. absurd cc, cut_short (record { taken = taken; at = at; groups = number ∷ groups; part = part }) bytes s (λ e. some_walked number groups s.1.run s.1.walked (nil_front s.1.run s.1.tail e)))
 whole_or_cut taken at [] parts.Nothing bytes s = inl (refl, fields_at at bytes s.1)
 whole_or_cut taken at [] (parts.Tag chain) bytes s = inr (λ e. absurd cc, cut_short (record { taken = taken; at = at; groups = []; part = parts.Tag chain }) bytes s (λ e. part_some (parts.Tag chain) s.1.tail s.1.ends (λ d. absurd cc) (nil_after s.1.run s.1.tail e)))
 whole_or_cut taken at [] (parts.Value chain) bytes s = inr (λ e. absurd cc, cut_short (record { taken = taken; at = at; groups = []; part = parts.Value chain }) bytes s (λ e. part_some (parts.Value chain) s.1.tail s.1.ends (λ d. absurd cc) (nil_after s.1.run s.1.tail e)))

@@ -145,12 +145,7 @@ impl Gateway {
             fold,
         } = taking;
         let Rolled { window, gone } = rolled_by(self, moment);
-        let setting = &self.setting;
-        let context = Context {
-            table: &setting.table,
-            zone: &setting.zone,
-            window: &read_over,
-        };
+        let context = self.setting.context_over(&read_over);
         let (siri, accepted) = match read_text(alloc, &context, moment, reader, fold) {
             Ok(both) => both,
             Err(refusal) => return Err(refusal),

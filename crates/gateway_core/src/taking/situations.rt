@@ -108,12 +108,7 @@ impl Gateway {
         ensures refused { OnErr result (self.new ≡ self.old) }
     {
         let Rolled { window, gone } = rolled_by(self, moment);
-        let setting = &self.setting;
-        let context = Context {
-            table: &setting.table,
-            zone: &setting.zone,
-            window: &window,
-        };
+        let context = self.setting.context_over(&window);
         let Made { accepted, batch } = match made_of(alloc, body, &context, &self.situations) {
             Ok(made) => made,
             Err(fault) => return Err(fault),

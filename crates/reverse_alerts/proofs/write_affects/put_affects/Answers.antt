@@ -1,7 +1,7 @@
 -- Three pieces.
 use Rattle.std.proofs.lemmas.Result.{on_ok_weaker}
+use Rattle.siri_calls.proofs.WrittenLemmas.{three_pieces}
 use Rattle.reverse_alerts.specs.SituationTexts.{affects_text}
-use Rattle.reverse_alerts.proofs.Pieces.{three_pieces}
 use Rattle.reverse_alerts.proofs.write_affects.put_affects.Goals as goal
 
 pub returns : goal.returns

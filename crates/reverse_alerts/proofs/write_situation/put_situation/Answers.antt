@@ -1,9 +1,9 @@
 -- What the alert names is known, and the three parts are the situation.
 use Rattle.std.proofs.Common.{◌∙◌, ◌++◌, ap}
 use Rattle.std.proofs.lemmas.Result.{on_ok_weaker}
+use Rattle.siri_calls.proofs.WrittenLemmas.{three_pieces}
 use Rattle.stop_schedule.specs.Seen.{seen}
 use Rattle.reverse_alerts.proofs.NamingLemmas.{all_known}
-use Rattle.reverse_alerts.proofs.Pieces.{three_pieces}
 use Rattle.reverse_alerts.proofs.SituationLemmas.{three_parts}
 use Rattle.reverse_alerts.proofs.write_situation.put_situation.Goals as goal
 

@@ -3,7 +3,8 @@ use Rattle.std.proofs.Common.{◌≡◌, length, subst, true}
 use Rattle.stop_schedule.specs.Stops.{are_known}
 use Rattle.journey_model.specs.Readings.{are_near}
 use Rattle.journey_model.specs.Schedules.{Schedule}
-use Rattle.show_command.proofs.LineLemmas.{fits_dated, known_held, moments, one_each, stops_dated}
+use Rattle.journey_model.proofs.Readings.{as_many}
+use Rattle.show_command.proofs.LineLemmas.{fits_dated, known_held, moments, stops_dated}
 use Rattle.show_command.proofs.lines.add_running.Goals as goal
 
 pub add_stops-requires-clause-each : goal.add_stops-requires-clause-each
@@ -11,7 +12,7 @@ add_stops-requires-clause-each c =
     let dated = c.in-Some.dated in
     let near : are_near dated.start dated.stops.now c.args.readings.now ≡ true =
     rw c.requires.reading at (fits_dated c.args.context.now c.args.one.now.trip.0 c.args.one.now.day c.args.one.now.reading _ dated c.requires.fits c.in-Some.ensures.value) in
-    one_each dated.start dated.stops.now c.args.readings.now near
+    as_many dated.start dated.stops.now c.args.readings.now near
 
 pub add_stops-requires-clause-known : goal.add_stops-requires-clause-known
 add_stops-requires-clause-known c =

@@ -1,5 +1,5 @@
--- The planned times of a stop, and the times that it reads near them, are moments.
-use Rattle.std.proofs.Common.{◌≡◌, ◌≤◌, ◌+ℤ◌, ◌-ℤ◌, ℕ, ℤ, pos, true, nat_le, arith}
+-- Readings near the planned times of their stops: as many, and their times are moments.
+use Rattle.std.proofs.Common.{◌≡◌, ◌≤◌, ◌+ℤ◌, ◌-ℤ◌, ◌∷◌, [], ℕ, suc, ℤ, pos, List, length, true, nat_le, refl, ap, arith}
 use Rattle.std.proofs.lemmas.Bool.{and_parts, leb-true}
 use Rattle.std.proofs.lemmas.Int.{ints}
 use Rattle.gw_base.specs.Moments.{IsMoment}
@@ -8,11 +8,23 @@ use Rattle.stop_schedule.specs.Limits.{time_limit}
 use Rattle.stop_schedule.specs.Planned.{planned}
 use Rattle.stop_schedule.specs.Stops.{is_timed}
 use Rattle.stop_schedule.specs.declared.stop_times.StopRow.{StopRow}
-use Rattle.journey_model.specs.Readings.{AreMoments, is_near}
+use Rattle.journey_model.specs.Readings.{AreMoments, are_near, is_near}
 use Rattle.journey_model.specs.Times.{is_delay}
 use Rattle.journey_model.specs.declared.readings.StopReading.{StopReading}
 use Rattle.journey_model.specs.declared.readings.StopReading.TheVariants.{Absent, Skipped, Timed}
 use Rattle.journey_model.proofs.Delays.{delay-range}
+
+-- there are as many readings as stops
+pub as_many : (start : ℤ) (rows : List StopRow) (readings : List StopReading) → are_near start rows readings ≡ true
+    → length readings ≡ length rows
+as_many start [] [] near = refl
+as_many start [] (reading ∷ readings) near = absurd (cc)
+as_many start (row ∷ rows) [] near = absurd (cc)
+as_many start (row ∷ rows) (reading ∷ readings) near =
+    ap suc (as_many start rows readings
+    (and_parts (is_near (planned start row) reading) (are_near start rows readings) near).1)
+
+-- ---- moments
 
 -- the seconds of a stop's times from the start of the day
 timed_by : (row : StopRow) → is_timed row ≡ true → (row.arrival ≤ time_limit) × (row.departure ≤ time_limit)
@@ -40,7 +52,7 @@ reading_moments start row Skipped day timed near = tt
 reading_moments start row (Timed arrival departure) day timed near =
     let seconds = timed_by row timed in
     let delays = and_parts (is_delay (arrival -ℤ (planned start row).0)) (is_delay (departure -ℤ (planned start row).1))
-        near in (
+    near in (
       near_moment start row.arrival arrival day seconds.0 delays.0,
       near_moment start row.departure departure day seconds.1 delays.1,
     )
