@@ -45,11 +45,11 @@ near_moment start second time day timed near =
     let bounds = delay-range (time -ℤ (start +ℤ pos second)) near in
     omega (arith, ints, day, timed, bounds.0, bounds.1)
 
-pub reading_moments : (start : ℤ) (row : StopRow) (reading : StopReading) → IsDayStart start → is_timed row ≡ true
+pub are_moments : (start : ℤ) (row : StopRow) (reading : StopReading) → IsDayStart start → is_timed row ≡ true
     → is_near (planned start row) reading ≡ true → AreMoments reading
-reading_moments start row Absent day timed near = tt
-reading_moments start row Skipped day timed near = tt
-reading_moments start row (Timed arrival departure) day timed near =
+are_moments start row Absent day timed near = tt
+are_moments start row Skipped day timed near = tt
+are_moments start row (Timed arrival departure) day timed near =
     let seconds = timed_by row timed in
     let delays = and_parts (is_delay (arrival -ℤ (planned start row).0)) (is_delay (departure -ℤ (planned start row).1))
     near in (

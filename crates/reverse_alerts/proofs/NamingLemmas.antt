@@ -1,4 +1,4 @@
--- What selectors name, kind by kind: how count-kinds they are, and that the timetable has them.
+-- What selectors name, kind by kind: how many they are, and that the timetable has them.
 use Rattle.std.proofs.Common.{◌≡◌, ◌∙◌, ℕ, ◌+◌, ◌≤◌, ◌<◌, List, [], ◌∷◌, ◌++◌, length, Option, Some, None, refl, ap, subst, append_assoc, arith}
 use Rattle.std.specs.List.{AllByRecursion, cons_option, filter, position}
 use Rattle.std.specs.Prelude.{◌==◌, Bool, true, false, cond, option_map, option_and_then, ℤ}
@@ -44,7 +44,7 @@ one_joined found (Some (Journey trip day)) others = simp append_assoc
 pub joined_none : (found : NamedRefs) → joined found [] ≡ found
 joined_none found = simp append-nil
 
--- ---- how count-kinds
+-- ---- how many
 
 pub count_is : (found : NamedRefs) (all : List Ref) → found ≡ refs_of all → count_of found ≡ length all
 count_is found all is = rw is (count-kinds all)
@@ -161,15 +161,14 @@ routes_again all =
     kinds_again is_route (filter is_route all) (filter is_stop all) (filter is_journey all) (filter is_route all) [] []
     (within is_route is_route (λ one h. h) all) (apart is_route is_stop stop-no-route all) (apart is_route is_journey journey-no-route all)
     ∙ append-nil (filter is_route all ++ []) ∙ append-nil (filter is_route all)
-  where
+
 pub stops_again : (all : List Ref) → filter is_stop (filter is_route all ++ filter is_stop all ++ filter is_journey all) ≡ filter is_stop all
 stops_again all =
     kinds_again is_stop (filter is_route all) (filter is_stop all) (filter is_journey all) [] (filter is_stop all) []
     (apart is_stop is_route route-no-stop all) (within is_stop is_stop (λ one h. h) all) (apart is_stop is_journey journey-no-stop all)
     ∙ append-nil (filter is_stop all)
-  where
+
 pub journeys_again : (all : List Ref) → filter is_journey (filter is_route all ++ filter is_stop all ++ filter is_journey all) ≡ filter is_journey all
 journeys_again all =
     kinds_again is_journey (filter is_route all) (filter is_stop all) (filter is_journey all) [] [] (filter is_journey all)
     (apart is_journey is_route route-no-journey all) (apart is_journey is_stop stop-no-journey all) (within is_journey is_journey (λ one h. h) all)
-  where

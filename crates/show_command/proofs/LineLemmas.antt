@@ -24,7 +24,7 @@ use Rattle.journey_model.specs.declared.readings.JourneyReading.{JourneyReading}
 use Rattle.journey_model.specs.declared.readings.DatedReading.{DatedReading}
 use Rattle.journey_model.specs.declared.readings.StopReading.{StopReading}
 use Rattle.propagation.specs.Feeds.{IsServable}
-use Rattle.journey_model.proofs.Readings.{reading_moments}
+use Rattle.journey_model.proofs.Readings.{are_moments}
 
 -- what is read of a feed fits its schedule
 pub servable_fits : (schedule : Schedule) (journeys : List DatedReading) → All (IsServable schedule) journeys
@@ -83,7 +83,7 @@ all_moments start (row ∷ rows) [] begins timed near = tt
 all_moments start (row ∷ rows) (reading ∷ readings) begins timed near =
     let here = and_parts (is_near (planned start row) reading) (are_near start rows readings) near in
     let times = and_parts (is_timed row) (are_timed rows) timed in
-    (reading_moments start row reading begins times.0 here.0, all_moments start rows readings begins times.1 here.1)
+    (are_moments start row reading begins times.0 here.0, all_moments start rows readings begins times.1 here.1)
 
 pub moments : (start : ℤ) (rows : List StopRow) (readings : List StopReading) → IsDayStart start → are_timed rows ≡ true → are_near start rows readings ≡ true
     → All AreMoments readings

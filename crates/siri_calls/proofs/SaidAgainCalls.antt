@@ -19,7 +19,7 @@ use Rattle.journey_model.specs.Times.{delay_fault, is_delay}
 use Rattle.journey_model.specs.declared.readings.JourneyReading.TheVariants.{Stops}
 use Rattle.journey_model.specs.declared.readings.StopReading.{StopReading}
 use Rattle.journey_model.specs.declared.readings.StopReading.TheVariants.{Absent, Skipped, Timed}
-use Rattle.journey_model.proofs.Readings.{reading_moments}
+use Rattle.journey_model.proofs.Readings.{are_moments}
 use Rattle.siri_calls.specs.Calls.{call, calls, event, statuses}
 use Rattle.siri_calls.specs.DeliveryTree.{call_tree, call_trees_from}
 use Rattle.siri_json.specs.Fields.{optional_member, required_member}
@@ -85,7 +85,7 @@ call-read zone run order row Skipped sound id timed near =
     call-by zone tree (id_of run.ids row.stop.0) order true None None refl ref refl refl refl refl
 call-read zone run order row (Timed arrival departure) sound id timed near =
     let tree = call_tree run order row (Timed arrival departure) in
-    let said = reading_moments run.start row (Timed arrival departure) sound.start timed near in
+    let said = are_moments run.start row (Timed arrival departure) sound.start timed near in
     let ref : required_member text Member.StopPointRef tree ≡ Ok (id_of run.ids row.stop.0) = rw (filled-some (id_of run.ids row.stop.0) id) refl in
     let first : event zone false Member.ActualArrivalTime Member.ExpectedArrivalTime tree ≡ Ok (Some arrival)
     = rw (filled-some (moment_text arrival) (some-moment_text arrival), moment_of-moment_text zone arrival said.0) refl in

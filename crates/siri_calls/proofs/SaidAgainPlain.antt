@@ -16,7 +16,7 @@ use Rattle.journey_model.specs.Schedules.{Schedule}
 use Rattle.journey_model.specs.declared.readings.DatedReading.{DatedReading}
 use Rattle.journey_model.specs.declared.readings.StopReading.{StopReading}
 use Rattle.journey_model.specs.declared.readings.StopReading.TheVariants.{Absent, Skipped, Timed}
-use Rattle.journey_model.proofs.Readings.{planned_moments, reading_moments}
+use Rattle.journey_model.proofs.Readings.{planned_moments, are_moments}
 use Rattle.siri_calls.specs.DeliveryTree.{call_tree, call_trees_from, delivery_tree, frame_tree, items_of, journey_of_run, journey_on, journey_tree, service_tree, stop_readings, timetable_tree}
 use Rattle.siri_calls.specs.Sayable.{IsSayable}
 use Rattle.siri_calls.proofs.SaidAgainIds.{id-at, IsUtf8-id}
@@ -73,7 +73,7 @@ plain-call run order row Skipped sound small id timed near =
     )
 plain-call run order row (Timed arrival departure) sound small id timed near =
     let plan = planned_moments run.start row sound.start timed in
-    let said = reading_moments run.start row (Timed arrival departure) sound.start timed near in (
+    let said = are_moments run.start row (Timed arrival departure) sound.start timed near in (
       refl,
       name (codes "AimedArrivalTime") refl,
       IsUtf8-moment_text (planned run.start row).0 plan.0,
