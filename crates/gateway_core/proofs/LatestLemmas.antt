@@ -17,6 +17,7 @@ use Rattle.gateway_core.specs.Feeds.{are_ordered_by}
 use Rattle.gateway_core.specs.Arrivals.{firsts, has_room}
 use Rattle.gateway_core.proofs.HeldLemmas.{IsEarlier, IsNoLater, latest_at, latest_other, latest_stays, passes_among}
 use Rattle.gateway_core.proofs.OrderedLemmas.{find_filter, find_put, none_found, of_key, ordered_filter, put_ordered, some_found}
+use Rattle.gateway_core.proofs.FewerLemmas.{none_left}
 
 all_stay : {X : Type 0} (p : X → Bool) (xs : List X) → list_any p xs ≡ false → filter (λ x. not (p x)) xs ≡ xs
 all_stay p [] h = refl
@@ -114,22 +115,12 @@ module _ {A Q : Type 0} (cmp : Q → Q → Ordering) (key_of : A → Q) (is_its 
       let both = and_parts (list_all (comes_before x) xs) (are_ordered_by comes_before xs) h in
       (none_after x xs both.0, distinct_ordered xs both.1)
 
-  pub fewer : (t p : A → Bool) (xs : List A) → list_any t xs ≡ false → list_any t (filter p xs) ≡ false
-  fewer t p [] h = refl
-  fewer t p (x ∷ xs) h = by (t x) (p x) refl (fewer t p xs) h
-    where
-      by : (b c : Bool) → t x ≡ b → (list_any t xs ≡ false → list_any t (filter p xs) ≡ false) → (b || list_any t xs) ≡ false
-          → list_any t (cond c (x ∷ filter p xs) (filter p xs)) ≡ false
-      by true c e rest f = absurd (true≢false f)
-      by false true e rest f = rw e (rest f)
-      by false false e rest f = rest f
-
   pub distinct_filter : (p : A → Bool) (xs : List A) → AreDistinct xs → AreDistinct (filter p xs)
   distinct_filter p [] h = tt
   distinct_filter p (x ∷ xs) h = by (p x) (distinct_filter p xs h.1)
     where
       by : (b : Bool) → AreDistinct (filter p xs) → AreDistinct (cond b (x ∷ filter p xs) (filter p xs))
-      by true rest = (fewer (is_its (key_of x)) p xs h.0, rest)
+      by true rest = (none_left (is_its (key_of x)) p xs h.0, rest)
       by false rest = rest
 
   -- of each key the first

@@ -1,5 +1,6 @@
 mod EstimatedLemmas
 mod FeedAnswers
+pub mod FewerLemmas
 mod FirstDayLemmas
 mod GivesLemmas
 mod HeldLemmas

@@ -15,7 +15,8 @@ use Rattle.latest_store.specs.Latest.{HasLatestOf, IsLatestOf}
 use Rattle.gateway_core.specs.Winners.{IsKeyed}
 use Rattle.gateway_core.specs.Arrivals.{admit, firsts, has_room}
 use Rattle.gateway_core.proofs.HeldLemmas.{IsEarlier, IsNoLater, all_weaker, passes_among}
-use Rattle.gateway_core.proofs.LatestLemmas.{AreDistinct, any_firsts, distinct_firsts, fewer, key_is, no_other, own}
+use Rattle.gateway_core.proofs.LatestLemmas.{AreDistinct, any_firsts, distinct_firsts, key_is, no_other, own}
+use Rattle.gateway_core.proofs.FewerLemmas.{none_left, one_goes}
 
 -- ---- elements
 
@@ -198,23 +199,6 @@ module _ {A Q : Type 0} (cmp : Q → Q → Ordering) (key_of : A → Q) (is_its 
   abbrev alike : A → A → Bool
   alike a b = is_its (key_of a) b
 
-  no_more : (t : A → Bool) (xs : List A) → length (filter (λ x. not (t x)) xs) ≤ length xs
-  no_more t [] = omega arith
-  no_more t (x ∷ xs) = by (t x) (no_more t xs)
-    where
-      by : (b : Bool) → length (filter (λ x. not (t x)) xs) ≤ length xs → length (cond (not b) (x ∷ filter (λ x. not (t x)) xs) (filter (λ x. not (t x)) xs)) ≤ suc (length xs)
-      by true h = omega arith
-      by false h = omega arith
-
-  one_goes : (t : A → Bool) (xs : List A) → list_any t xs ≡ true → length (filter (λ x. not (t x)) xs) < length xs
-  one_goes t [] e = absurd (true≢false (sym e))
-  one_goes t (x ∷ xs) e = by (t x) (no_more t xs) (one_goes t xs) e
-    where
-      by : (b : Bool) → length (filter (λ x. not (t x)) xs) ≤ length xs → (list_any t xs ≡ true → length (filter (λ x. not (t x)) xs) < length xs) → (b || list_any t xs) ≡ true
-          → length (cond (not b) (x ∷ filter (λ x. not (t x)) xs) (filter (λ x. not (t x)) xs)) < suc (length xs)
-      by true h rest f = omega arith
-      by false h rest f = let lt : length (filter (λ x. not (t x)) xs) < length xs = rest f in omega arith
-
   pub at_most : (xs ys : List A) → Distinct xs → ((q : Q) → list_any (is_its q) xs ≡ true → list_any (is_its q) ys ≡ true) → length xs ≤ length ys
   at_most [] ys h among = omega arith
   at_most (x ∷ xs) ys h among =
@@ -243,7 +227,7 @@ module _ {A Q : Type 0} (cmp : Q → Q → Ordering) (key_of : A → Q) (is_its 
         less none =
             let most : suc (length (firsts alike (filter counts before))) ≤ length (firsts alike total) =
             at_most (one ∷ firsts alike (filter counts before)) (firsts alike total) (
-              any_firsts cmp key_of is_its is_later keyed comes_before by_key (key_of one) (filter counts before) ∙ fewer cmp key_of is_its is_later keyed comes_before by_key (is_its (key_of one)) counts before none,
+              any_firsts cmp key_of is_its is_later keyed comes_before by_key (key_of one) (filter counts before) ∙ none_left (is_its (key_of one)) counts before none,
               distinct_firsts cmp key_of is_its is_later keyed comes_before by_key (filter counts before),
             )
             (λ q e. any_firsts cmp key_of is_its is_later keyed comes_before by_key q total ∙ among q (by q (is_its q one) refl e)) in
@@ -251,7 +235,7 @@ module _ {A Q : Type 0} (cmp : Q → Q → Ordering) (key_of : A → Q) (is_its 
           where
             more : (q : Q) (c : Bool) → list_any (is_its q) before ≡ c → list_any (is_its q) (filter counts before) ≡ true → list_any (is_its q) before ≡ true
             more q true e f = e
-            more q false e f = absurd (both_ways (list_any (is_its q) (filter counts before)) (fewer cmp key_of is_its is_later keyed comes_before by_key (is_its q) counts before e) f)
+            more q false e f = absurd (both_ways (list_any (is_its q) (filter counts before)) (none_left (is_its q) counts before e) f)
 
             by : (q : Q) (b : Bool) → is_its q one ≡ b → (b || list_any (is_its q) (firsts alike (filter counts before))) ≡ true → list_any (is_its q) (before ++ one ∷ others) ≡ true
             by q true its e = passes_among (is_its q) before others one its

@@ -21,6 +21,7 @@ use Rattle.latest_store.specs.Latest.{has_number, is_of}
 use Rattle.gateway_core.specs.Arrivals.{always, firsts, has_room, is_same_journey, is_same_number}
 use Rattle.gateway_core.specs.Reports.{aside_from}
 use Rattle.gateway_core.specs.Taking.{report_on, with_room}
+use Rattle.gateway_core.proofs.FewerLemmas.{none_left, one_goes}
 use Rattle.gateway_server.specs.Completeness as completeness
 
 -- verdicts of which none is a fault
@@ -28,33 +29,6 @@ abbrev pub all_ok : {A : Type 0} → List A → List (Result A Fault)
 all_ok xs = map (λ one. Ok one) xs
 
 -- ---- fewer
-
-no_more : {X : Type 0} (t : X → Bool) (xs : List X) → length (filter (λ x. not (t x)) xs) ≤ length xs
-no_more t [] = omega arith
-no_more {X} t (x ∷ xs) = by (t x) (no_more t xs)
-  where
-    by : (b : Bool) → length (filter (λ x. not (t x)) xs) ≤ length xs → length (cond (not b) (x ∷ filter (λ x. not (t x)) xs) (filter (λ x. not (t x)) xs)) ≤ suc (length xs)
-    by true h = omega arith
-    by false h = omega arith
-
-one_goes : {X : Type 0} (t : X → Bool) (xs : List X) → list_any t xs ≡ true → length (filter (λ x. not (t x)) xs) < length xs
-one_goes t [] e = absurd (true≢false (sym e))
-one_goes {X} t (x ∷ xs) e = by (t x) (no_more t xs) (one_goes t xs) e
-  where
-    by : (b : Bool) → length (filter (λ x. not (t x)) xs) ≤ length xs → (list_any t xs ≡ true → length (filter (λ x. not (t x)) xs) < length xs) → (b || list_any t xs) ≡ true
-        → length (cond (not b) (x ∷ filter (λ x. not (t x)) xs) (filter (λ x. not (t x)) xs)) < suc (length xs)
-    by true h rest f = omega arith
-    by false h rest f = let lt : length (filter (λ x. not (t x)) xs) < length xs = rest f in omega arith
-
-none_left : {X : Type 0} (t p : X → Bool) (xs : List X) → list_any t xs ≡ false → list_any t (filter p xs) ≡ false
-none_left t p [] h = refl
-none_left {X} t p (x ∷ xs) h = by (t x) (p x) refl (none_left t p xs) h
-  where
-    by : (b c : Bool) → t x ≡ b → (list_any t xs ≡ false → list_any t (filter p xs) ≡ false) → (b || list_any t xs) ≡ false
-        → list_any t (cond c (x ∷ filter p xs) (filter p xs)) ≡ false
-    by true c e rest f = absurd (true≢false f)
-    by false true e rest f = rw e (rest f)
-    by false false e rest f = rest f
 
 -- ---- keys
 
