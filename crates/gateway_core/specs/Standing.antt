@@ -10,7 +10,7 @@ use Rattle.journey_model.specs.declared.report.Report.{Report}
 use Rattle.journey_model.specs.declared.situation.Situation.{Situation}
 use Rattle.stop_schedule.specs.Seen.{seen}
 use Rattle.stop_schedule.specs.Table.{Table}
-use Rattle.siri_calls.specs.DeliveryTree.{delivery_text}
+use Rattle.siri_calls.specs.Written.DeliveryTree.{delivery_text}
 use Rattle.reverse_calls.specs.Siri.{IsSiri}
 use Rattle.service_day.specs.Windows.{DayStarts}
 use Rattle.alert_map.specs.Alerts.{alert_message}

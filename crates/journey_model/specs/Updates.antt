@@ -80,6 +80,10 @@ times_fault number planned update =
     (times planned update)
     else None
 
+-- the relation of the update is read
+abbrev pub is_read : StopUpdate → Bool
+is_read update = is_scheduled update || (is_skipped update || is_no_data update)
+
 -- the place, unless there is a fault
 abbrev pub place_unless : Option Fault → ℕ → Result ℕ Fault
 place_unless None place = Ok place
@@ -92,7 +96,7 @@ place_timed run number update (Ok place) = place_unless (times_fault number (pla
 -- the place of the update of that number after the one before, or its first fault
 abbrev pub place_of : Run → ℕ → Option ℕ → StopUpdate → Result ℕ Fault
 place_of run number after update =
-    if is_scheduled update || (is_skipped update || is_no_data update)
+    if is_read update
     then place_timed run number update (update_place run.stops after update.sequence (named_stop run.ids update))
     else Err (OtherRelation update.relation)
 

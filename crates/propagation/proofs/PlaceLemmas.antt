@@ -11,7 +11,7 @@ use Rattle.gw_base.specs.Chains.{◌>>=◌}
 use Rattle.journey_model.specs.Matching.{first_place, has_sequence, in_order, is_of_stop, place_after, place_by_sequence, place_by_stop, stands_at, agrees, update_place}
 use Rattle.journey_model.specs.Runs.{Run, planned_at}
 use Rattle.journey_model.specs.Times.{delay_fault}
-use Rattle.journey_model.specs.Updates.{arrival_time, departure_time, events_fault, is_no_data, is_scheduled, is_skipped, named_stop, place_of, place_timed, place_unless, places, places_from, times, times_fault}
+use Rattle.journey_model.specs.Updates.{arrival_time, departure_time, events_fault, is_no_data, is_read, is_scheduled, is_skipped, named_stop, place_of, place_timed, place_unless, places, places_from, times, times_fault}
 use Rattle.journey_model.specs.declared.fault.Fault.{Fault}
 use Rattle.journey_model.specs.declared.fault.Fault.TheVariants.{OtherRelation}
 use Rattle.journey_model.specs.declared.matching.MatchFault.{MatchFault}
@@ -19,7 +19,7 @@ use Rattle.journey_model.specs.declared.matching.MatchFault.TheVariants as match
 use Rattle.journey_model.specs.declared.matching.NamedStop.{NamedStop}
 use Rattle.journey_model.specs.declared.matching.NamedStop.TheVariants.{Missing, Unknown, Known}
 use Rattle.stop_schedule.specs.declared.stop_times.StopRow.{StopRow}
-use Rattle.propagation.specs.Saying.{is_read, placed_all, placed_at, placed_by, said_unless, says_at, says_times}
+use Rattle.propagation.specs.Saying.{placed_all, placed_at, placed_by, said_unless, says_at, says_times}
 use Rattle.propagation.specs.Spreading.{are_rising_from}
 use Rattle.propagation.specs.declared.placing.Placed.{Placed}
 use Rattle.propagation.specs.declared.placing.Says.{Says}

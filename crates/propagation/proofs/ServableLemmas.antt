@@ -26,7 +26,7 @@ use Rattle.journey_model.specs.Readings.{are_near, fits_trip, is_near}
 use Rattle.journey_model.specs.Runs.{Run, planned_at}
 use Rattle.journey_model.specs.Schedules.{Schedule, run_from}
 use Rattle.journey_model.specs.Times.{is_delay}
-use Rattle.journey_model.specs.Updates.{filled_text, is_no_data, is_scheduled, is_skipped, place_of, places, places_from, times, times_fault}
+use Rattle.journey_model.specs.Updates.{filled_text, is_no_data, is_read, is_scheduled, is_skipped, place_of, places, places_from, times, times_fault}
 use Rattle.journey_model.specs.declared.fault.Fault.{Fault}
 use Rattle.journey_model.specs.declared.fault.Fault.TheVariants.{NotRunning, OtherRelation}
 use Rattle.journey_model.specs.declared.readings.DatedReading.{DatedReading}
@@ -35,7 +35,6 @@ use Rattle.journey_model.specs.declared.readings.JourneyReading.TheVariants.{Can
 use Rattle.journey_model.specs.declared.readings.StopReading.{StopReading}
 use Rattle.journey_model.specs.declared.readings.StopReading.TheVariants as reading
 use Rattle.propagation.specs.Feeds.{IsServable}
-use Rattle.propagation.specs.Saying.{is_read}
 use Rattle.propagation.proofs.PlaceLemmas.{place-fits}
 use Rattle.propagation.proofs.TimeLemmas.{AreNear, times_near}
 

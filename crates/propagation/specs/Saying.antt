@@ -1,17 +1,13 @@
 -- What an update says at its place (GTFS Realtime reference, StopTimeUpdate).
-use Rattle.std.specs.Prelude.{◌||◌, ℕ, ℤ, ◌-ℤ◌, Bool, List, map, Option, Some, None, Result, Ok, Err, if◌then◌else◌}
+use Rattle.std.specs.Prelude.{ℕ, ℤ, ◌-ℤ◌, List, map, Option, Some, None, Result, Ok, Err, if◌then◌else◌}
 use Rattle.std.specs.List.{zip}
 use Rattle.gw_base.specs.declared.messages.StopUpdate.{StopUpdate}
 use Rattle.journey_model.specs.Runs.{Run, planned_at}
-use Rattle.journey_model.specs.Updates.{is_no_data, is_scheduled, is_skipped, times}
+use Rattle.journey_model.specs.Updates.{is_no_data, is_skipped, times}
 use Rattle.journey_model.specs.declared.fault.Fault.{Fault}
 use Rattle.propagation.specs.declared.placing.Placed.{Placed}
 use Rattle.propagation.specs.declared.placing.Says.{Says}
 use Rattle.propagation.specs.declared.placing.Says.TheVariants.{Skipped, NoData, Timed}
-
--- the relation of the update is read
-abbrev pub is_read : StopUpdate → Bool
-is_read update = is_scheduled update || (is_skipped update || is_no_data update)
 
 -- what times say, with the delay of the departure
 abbrev pub timed_by : ℤ × ℤ → ℤ × ℤ → Says

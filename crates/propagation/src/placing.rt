@@ -7,7 +7,7 @@ ghost use Rattle.journey_model.specs.Dated.{run_of};
 ghost use Rattle.journey_model.specs.Times.{ArePlanned};
 ghost use Rattle.journey_model.specs.Updates as spec;
 ghost use Rattle.propagation.specs.Answers.{Propagates};
-ghost use Rattle.propagation.specs.Saying.{is_read, placed_all, placed_by, said_unless, says_at};
+ghost use Rattle.propagation.specs.Saying.{placed_all, placed_by, said_unless, says_at};
 
 use crate::events::{event_time, says_times};
 use crate::room::with_room;
@@ -118,7 +118,7 @@ fn match_fault(number: u64, fault: MatchFault) -> Fault
 
 // Whether updates of that relation are read.
 fn is_read(update: &StopUpdate) -> bool
-    ensures { result ≡ is_read update.now }
+    ensures { result ≡ spec.is_read update.now }
 {
     update.relation == SCHEDULED || update.relation == SKIPPED || update.relation == NO_DATA
 }
@@ -137,7 +137,7 @@ fn says_by_events(number: u64, planned: (i64, i64), update: &StopUpdate) -> Resu
 // What the update of that number says at its place with these planned times, or its fault there.
 fn says_at(number: u64, planned: (i64, i64), update: &StopUpdate) -> Result<Says, Fault>
     requires planned { ArePlanned planned }
-    requires read { is_read update.now ≡ true }
+    requires read { spec.is_read update.now ≡ true }
     ensures { result ≡ said_unless (spec.times_fault number planned update.now) (says_at planned update.now) }
 {
     if update.relation == SKIPPED {
@@ -157,7 +157,7 @@ fn placed_at(
     update: &StopUpdate,
 ) -> Result<Placed, Fault>
     requires within { place < length dated.now.stops.now }
-    requires read { is_read update.now ≡ true }
+    requires read { spec.is_read update.now ≡ true }
     ensures { (ids : Values (Values ℕ)) → let run = run_of ids dated.now in
         result ≡ placed_by run update.now (spec.place_timed run number update.now (Ok place)) }
 {

@@ -15,7 +15,7 @@ use Rattle.journey_model.specs.Updates.{filled_text}
 use Rattle.journey_model.specs.declared.situation.Ref.{Ref}
 use Rattle.journey_model.specs.declared.situation.Ref.TheVariants.{Route, Stop, Journey}
 use Rattle.alert_map.specs.Alerts.{selector_of}
-use Rattle.siri_calls.proofs.SaidAgainIds.{id-at, position-id, some-id}
+use Rattle.siri_calls.proofs.Written.SaidAgainIds.{id-at, position-id, some-id}
 use Rattle.reverse_alerts.specs.Kept.{all_named, journey_dated, journey_named, journey_on, named, one_named, route_named, stop_named}
 use Rattle.reverse_alerts.proofs.DayRange.{IsDay-day_of}
 use Rattle.reverse_alerts.proofs.Sayable.{CanSay}

@@ -2,7 +2,7 @@
 //! `specs/SituationTexts.antt`.
 ghost use Rattle.std.specs.Prelude.{◌≡◌, ◌++◌, false, All, codes, map, OnOk};
 ghost use Rattle.std.specs.Option.{option_copied};
-ghost use Rattle.siri_calls.specs.DeliveryTexts.{led_moment};
+ghost use Rattle.siri_calls.specs.Written.DeliveryTexts.{led_moment};
 ghost use Rattle.stop_schedule.specs.Seen.{seen};
 ghost use Rattle.reverse_alerts.specs.Kept.{all_named};
 ghost use Rattle.reverse_alerts.specs.Naming.{AreKnown, refs_of};

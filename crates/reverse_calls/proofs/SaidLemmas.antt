@@ -4,10 +4,10 @@ use Rattle.gw_base.specs.Moments.{IsMoment}
 use Rattle.stop_schedule.specs.Sound.{IsSound}
 use Rattle.journey_model.specs.Schedules.{Schedule}
 use Rattle.journey_model.specs.declared.readings.DatedReading.{DatedReading}
-use Rattle.siri_calls.specs.DeliveryTree.{delivery_text}
-use Rattle.siri_calls.specs.SaidAgain.{SaysAgain}
-use Rattle.siri_calls.specs.Sayable.{IsSayable}
-use Rattle.siri_calls.proofs.SaidAgain.{says_again}
+use Rattle.siri_calls.specs.Written.DeliveryTree.{delivery_text}
+use Rattle.siri_calls.specs.Written.SaidAgain.{SaysAgain}
+use Rattle.siri_calls.specs.Written.Sayable.{IsSayable}
+use Rattle.siri_calls.proofs.Written.SaidAgain.{says_again}
 
 -- a text that says them says them again
 pub says_all : {E : Type 0} → (schedule : Schedule) (moment : ℤ) (journeys : List DatedReading) (text : Result (List ℕ) E)

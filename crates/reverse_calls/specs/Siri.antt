@@ -9,8 +9,8 @@ use Rattle.journey_model.specs.declared.readings.DatedReading.{DatedReading}
 use Rattle.journey_model.specs.declared.report.Report.{Report}
 use Rattle.propagation.specs.Feeds.{IsReading}
 use Rattle.propagation.specs.declared.feeds.FeedReading.{FeedReading}
-use Rattle.siri_calls.specs.DeliveryTree.{delivery_text}
-use Rattle.siri_calls.specs.SaidAgain.{SaysAgain}
+use Rattle.siri_calls.specs.Written.DeliveryTree.{delivery_text}
+use Rattle.siri_calls.specs.Written.SaidAgain.{SaysAgain}
 use Rattle.reverse_calls.specs.declared.readings_fault.ReadingsFault.{ReadingsFault}
 use Rattle.reverse_calls.specs.declared.readings_fault.ReadingsFault.TheVariants as of_readings
 use Rattle.reverse_calls.specs.declared.reverse_fault.ReverseFault.{ReverseFault}

@@ -3,7 +3,7 @@
 ghost use Rattle.std.specs.Prelude.{All, IfSome};
 ghost use Rattle.propagation.specs.Feeds.{IsServable};
 ghost use Rattle.gw_base.specs.Moments.{IsMoment};
-ghost use Rattle.siri_calls.specs.Sayable.{IsSayable};
+ghost use Rattle.siri_calls.specs.Written.Sayable.{IsSayable};
 
 use gw_base::Moment;
 use journey_model::{Context, DatedReading};

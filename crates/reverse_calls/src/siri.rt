@@ -2,8 +2,8 @@
 ghost use Rattle.std.specs.Prelude.{◌≡◌, All, IfOk};
 ghost use Rattle.gw_base.specs.declared.messages.Feed.{Feed};
 ghost use Rattle.propagation.specs.Feeds.{IsReading, IsServable};
-ghost use Rattle.siri_calls.specs.DeliveryTree.{delivery_text};
-ghost use Rattle.siri_calls.specs.SaidAgain.{SaysAgain};
+ghost use Rattle.siri_calls.specs.Written.DeliveryTree.{delivery_text};
+ghost use Rattle.siri_calls.specs.Written.SaidAgain.{SaysAgain};
 ghost use Rattle.reverse_calls.specs.Siri.{IsAnswer, IsFullAnswer, IsReadingsAnswer, IsTextOfFeed};
 
 use crate::counting::calls_of;

@@ -1,16 +1,13 @@
 pub mod Calls
 pub mod Deliveries
-pub mod DeliveryTexts
-pub mod DeliveryTree
 pub mod Frame
 pub mod Journeys
 pub mod Judged
 pub mod MatchedCalls
 pub mod ReadMembers
-pub mod SaidAgain
-pub mod Sayable
 pub mod Seen
 pub mod Servable
 pub mod Shown
 pub mod TripRuns
 pub mod Verdicts
+pub mod Written

@@ -1,10 +1,10 @@
 //! Deliveries of estimated timetables, written (SIRI 2.0, EstimatedTimetableDelivery; in JSON after SIRI Lite).
-//! `write_delivery` meets `specs/DeliveryTree.antt`.
+//! `write_delivery` meets `specs/Written/DeliveryTree.antt`.
 ghost use Rattle.std.specs.Prelude.{◌≡◌, ◌++◌, All, IfOk, OnOk};
 ghost use Rattle.gw_base.specs.Moments.{IsMoment};
 ghost use Rattle.journey_model.specs.Schedules.{FitsSchedule};
-ghost use Rattle.siri_calls.specs.DeliveryTree.{delivery_text};
-ghost use Rattle.siri_calls.specs.DeliveryTexts.{head_text, tail_text};
+ghost use Rattle.siri_calls.specs.Written.DeliveryTree.{delivery_text};
+ghost use Rattle.siri_calls.specs.Written.DeliveryTexts.{head_text, tail_text};
 
 mod calls;
 mod journeys;
@@ -41,7 +41,7 @@ fn put_tail(out: &mut Bytes, secs: &i64) -> Result<(), AllocError>
 /// The delivery of estimated timetables that says these journeys, in their order, at that moment (SIRI 2.0,
 /// EstimatedTimetableDelivery; in JSON after SIRI Lite, without blanks). A journey without a moment of recording has
 /// that of the delivery. The time is linear in the text, which is all that is held.
-#[tactic(auto, using(crate::proofs::WrittenLemmas::delivery))]
+#[tactic(auto, using(crate::proofs::Written::WrittenLemmas::delivery))]
 pub fn write_delivery(
     alloc: Global,
     context: &Context<'_>,

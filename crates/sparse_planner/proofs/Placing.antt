@@ -1,5 +1,5 @@
 -- The places of updates: those of the shortest list are its stops', and places rise.
-use Rattle.std.proofs.Common.{◌||◌, drop, ◌≡◌, ◌∙◌, ◌+◌, ◌<◌, ◌≤◌, ◌++◌, ◌-ℤ◌, ℕ, ℤ, Bool, true, false, not, cond, List, [], ◌∷◌, length, length-append, zip, position, Option, Some, None, option_map, ok_or, Result, Ok, Err, if◌then◌else◌, nat_le, nat_lt, refl, ap, sym, subst, arith, ne_eqb, lt-ltb, le-leb, leb-true, ltb-true, le_refl, eq-eqb}
+use Rattle.std.proofs.Common.{drop, ◌≡◌, ◌∙◌, ◌+◌, ◌<◌, ◌≤◌, ◌++◌, ◌-ℤ◌, ℕ, ℤ, Bool, true, false, not, cond, List, [], ◌∷◌, length, length-append, zip, position, Option, Some, None, option_map, ok_or, Result, Ok, Err, if◌then◌else◌, nat_le, nat_lt, refl, ap, sym, subst, arith, ne_eqb, lt-ltb, le-leb, leb-true, ltb-true, le_refl, eq-eqb}
 use Rattle.std.specs.List.{list_all, list_any, prefix_len}
 use Rattle.std.proofs.lemmas.Bool.{and_parts}
 use Rattle.gw_base.specs.declared.messages.StopUpdate.{StopUpdate}
@@ -12,7 +12,7 @@ use Rattle.journey_model.specs.Matching.{agrees, first_place, has_sequence, in_o
 use Rattle.journey_model.specs.Readings.{are_near, is_near}
 use Rattle.journey_model.specs.Runs.{Run, planned_at}
 use Rattle.journey_model.specs.Times.{delay_fault, is_delay}
-use Rattle.journey_model.specs.Updates.{place_of, is_no_data, is_scheduled, is_skipped, named_stop, place_timed, place_unless, places_from, times_fault}
+use Rattle.journey_model.specs.Updates.{place_of, is_read, named_stop, place_timed, place_unless, places_from, times_fault}
 use Rattle.journey_model.specs.declared.fault.Fault.{Fault}
 use Rattle.journey_model.specs.declared.fault.Fault.TheVariants.{OtherRelation}
 use Rattle.journey_model.specs.declared.matching.MatchFault.{MatchFault}
@@ -159,7 +159,7 @@ place-after : (run : Run) (number : ℕ) (after : Option ℕ) (one : StopUpdate)
 place-after run number after one place h =
     let found = update_place run.stops after one.sequence (named_stop run.ids one) in
     update-after run.stops after one.sequence (named_stop run.ids one) place
-    (timed-ok run number one found place (related-ok (is_scheduled one || (is_skipped one || is_no_data one)) (OtherRelation one.relation) (place_timed run number one found) place h))
+    (timed-ok run number one found place (related-ok (is_read one) (OtherRelation one.relation) (place_timed run number one found) place h))
 
 -- the first place and the others
 others-ok : (first : ℕ) (answer : Result (List ℕ) Fault) (place : ℕ) (at : List ℕ)

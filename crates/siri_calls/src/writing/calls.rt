@@ -1,12 +1,12 @@
-//! The calls of a journey (SIRI 2.0, EstimatedCall), written. The functions meet `specs/DeliveryTexts.antt`.
+//! The calls of a journey (SIRI 2.0, EstimatedCall), written. The functions meet `specs/Written/DeliveryTexts.antt`.
 ghost use Rattle.std.specs.Prelude.{◌≡◌, ◌++◌, ◌+◌, ◌<◌, true, false, length, slice_get, Some, OnOk};
 ghost use Rattle.serde_json.specs.Written.{comma_if};
 ghost use Rattle.gw_base.specs.Moments.{IsMoment};
 ghost use Rattle.stop_schedule.specs.Planned.{planned};
 ghost use Rattle.stop_schedule.specs.Stops.{are_known, is_timed};
 ghost use Rattle.journey_model.specs.Readings.{AreMoments, fits_trip, is_near};
-ghost use Rattle.siri_calls.specs.DeliveryTree.{stop_readings};
-ghost use Rattle.siri_calls.specs.DeliveryTexts.{aimed_text, call_text, calls_text, said_text, stop_text};
+ghost use Rattle.siri_calls.specs.Written.DeliveryTree.{stop_readings};
+ghost use Rattle.siri_calls.specs.Written.DeliveryTexts.{aimed_text, call_text, calls_text, said_text, stop_text};
 ghost use Rattle.siri_calls.specs.TripRuns.{run_over};
 
 use crate::trip_run::TripRun;
@@ -56,7 +56,7 @@ fn put_stop(out: &mut Bytes, order: u64, id: &str) -> Result<(), AllocError>
 }
 
 // Adds the call at a stop, counted from 1.
-#[tactic(auto, using(journey_model::proofs::Readings::are_moments), unfolding(crate::specs::DeliveryTexts::call_text))]
+#[tactic(auto, using(journey_model::proofs::Readings::are_moments), unfolding(crate::specs::Written::DeliveryTexts::call_text))]
 fn put_call(
     out: &mut Bytes,
     run: &TripRun<'_>,

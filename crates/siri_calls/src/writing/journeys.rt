@@ -1,12 +1,12 @@
-//! Journeys (SIRI 2.0, EstimatedVehicleJourney), written. The functions meet `specs/DeliveryTexts.antt`.
+//! Journeys (SIRI 2.0, EstimatedVehicleJourney), written. The functions meet `specs/Written/DeliveryTexts.antt`.
 ghost use Rattle.std.specs.Prelude.{◌≡◌, ◌++◌, ◌<◌, true, false, length, All, OnOk};
 ghost use Rattle.gw_base.specs.Moments.{IsMoment};
 ghost use Rattle.stop_schedule.specs.Seen.{seen};
 ghost use Rattle.stop_schedule.specs.Stops.{are_known};
 ghost use Rattle.journey_model.specs.Readings.{fits_trip};
 ghost use Rattle.journey_model.specs.Schedules.{FitsSchedule, run_on};
-ghost use Rattle.siri_calls.specs.DeliveryTree.{is_cancelled_journey};
-ghost use Rattle.siri_calls.specs.DeliveryTexts.{closing_text, frame_ref_text, journey_text, journey_text_on, journeys_text, opening_text};
+ghost use Rattle.siri_calls.specs.Written.DeliveryTree.{is_cancelled_journey};
+ghost use Rattle.siri_calls.specs.Written.DeliveryTexts.{closing_text, frame_ref_text, journey_text, journey_text_on, journeys_text, opening_text};
 ghost use Rattle.siri_calls.specs.TripRuns.{run_over};
 
 use crate::trip_run::TripRun;
@@ -65,7 +65,7 @@ fn is_cancelled(reading: &JourneyReading) -> bool
 }
 
 // Adds the journey of a reading over its trip, which was recorded at that moment.
-#[tactic(auto, unfolding(crate::specs::DeliveryTexts::journey_text))]
+#[tactic(auto, unfolding(crate::specs::Written::DeliveryTexts::journey_text))]
 fn put_run(
     out: &mut Bytes,
     run: &TripRun<'_>,

@@ -3,7 +3,7 @@ ghost use Rattle.std.specs.Prelude.{◌≡◌, ◌++◌, ◌∷◌, [], ◌<◌,
 ghost use Rattle.std.specs.Char.{digit_char};
 ghost use Rattle.json.specs.Print.{escape, escape_byte, escape_letter, quoted};
 ghost use Rattle.gw_base.specs.Moments.{IsMoment};
-ghost use Rattle.siri_calls.specs.DeliveryTexts.{led, led_moment, led_number, times_text};
+ghost use Rattle.siri_calls.specs.Written.DeliveryTexts.{led, led_moment, led_number, times_text};
 
 use gw_base::Bytes;
 use itoa::Buffer;
@@ -101,7 +101,7 @@ fn put_string(out: &mut Bytes, text: &[u8]) -> Result<(), AllocError>
 
 /// Adds what leads to a text, and the text as a string with the escapes that it needs (RFC 8259, section 7). Err for
 /// want of memory.
-#[tactic(auto, unfolding(crate::specs::DeliveryTexts::led))]
+#[tactic(auto, unfolding(crate::specs::Written::DeliveryTexts::led))]
 pub fn put_text(out: &mut Bytes, lead: &[u8], text: &[u8]) -> Result<(), AllocError>
     ensures { OnOk result (out.new ≡ out.old ++ led lead.now text.now) }
 {
@@ -134,7 +134,7 @@ pub(crate) fn put_times(
 }
 
 /// Adds what leads to a number, and the number in decimal.
-#[tactic(auto, unfolding(crate::specs::DeliveryTexts::led_number))]
+#[tactic(auto, unfolding(crate::specs::Written::DeliveryTexts::led_number))]
 pub(crate) fn put_number(out: &mut Bytes, lead: &[u8], number: u64) -> Result<(), AllocError>
     ensures { OnOk result (out.new ≡ out.old ++ led_number lead.now number) }
 {

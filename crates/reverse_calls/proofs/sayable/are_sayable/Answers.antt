@@ -1,7 +1,7 @@
 use Rattle.std.proofs.Common.{All, subst}
 use Rattle.std.proofs.lemmas.List.{take_all}
 use Rattle.std.proofs.lemmas.List.Elements.{All-more}
-use Rattle.siri_calls.specs.Sayable.{IsSayable}
+use Rattle.siri_calls.specs.Written.Sayable.{IsSayable}
 use Rattle.reverse_calls.proofs.sayable.are_sayable.Goals as goal
 
 pub loop-one-preserved : goal.loop-one-preserved

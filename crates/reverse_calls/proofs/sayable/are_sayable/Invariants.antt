@@ -1,5 +1,5 @@
 use Rattle.std.proofs.Common.{All, take}
-use Rattle.siri_calls.specs.Sayable.{IsSayable}
+use Rattle.siri_calls.specs.Written.Sayable.{IsSayable}
 use Rattle.reverse_calls.proofs.sayable.are_sayable.Given as goal
 
 abbrev pub invariant-loop-one : goal.invariant-loop-one

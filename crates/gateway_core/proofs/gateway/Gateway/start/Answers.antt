@@ -3,7 +3,7 @@ use Rattle.std.proofs.Common.{◌≡◌, ◌∙◌, ap, subst, ℕ, ℤ, [], pos
 use Rattle.journey_model.specs.Schedules.{Schedule}
 use Rattle.journey_model.specs.declared.readings.DatedReading.{DatedReading}
 use Rattle.service_day.specs.declared.moments.Instant.{Instant}
-use Rattle.siri_calls.specs.DeliveryTree.{delivery_text}
+use Rattle.siri_calls.specs.Written.DeliveryTree.{delivery_text}
 use Rattle.feed_index.specs.Entries.{Kept as Indexed}
 use Rattle.gateway_core.specs.Arrivals.{schedule_at}
 use Rattle.gateway_core.specs.Standing.{journey_seen, situation_seen}

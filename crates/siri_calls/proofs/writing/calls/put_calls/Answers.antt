@@ -3,11 +3,11 @@ use Rattle.std.proofs.Common.{◌≡◌, ◌∙◌, ◌+◌, ◌<◌, ◌++◌, 
 use Rattle.std.proofs.lemmas.Bool.Decides.{nat_tests}
 use Rattle.std.proofs.lemmas.Option.{slice_get-get_or}
 use Rattle.stop_schedule.specs.declared.stop_times.StopRow.{StopRow}
-use Rattle.siri_calls.specs.DeliveryTree.{stop_readings}
-use Rattle.siri_calls.specs.DeliveryTexts.{call_text}
+use Rattle.siri_calls.specs.Written.DeliveryTree.{stop_readings}
+use Rattle.siri_calls.specs.Written.DeliveryTexts.{call_text}
 use Rattle.siri_calls.specs.TripRuns.{run_over}
-use Rattle.siri_calls.proofs.WrittenLemmas.{calls_on, one_more}
-use Rattle.siri_calls.proofs.WrittenTimes.{fits_near, near_at}
+use Rattle.siri_calls.proofs.Written.WrittenLemmas.{calls_on, one_more}
+use Rattle.siri_calls.proofs.Written.WrittenTimes.{fits_near, near_at}
 use Rattle.siri_calls.proofs.writing.calls.put_calls.Goals as goal
 
 no_row : StopRow

@@ -1,7 +1,7 @@
 -- the calls so far, and after them the text of the others
 use Rattle.std.proofs.Common.{◌≡◌, ◌+◌, ◌++◌, false, drop, nat_lt}
-use Rattle.siri_calls.specs.DeliveryTree.{stop_readings}
-use Rattle.siri_calls.specs.DeliveryTexts.{calls_text}
+use Rattle.siri_calls.specs.Written.DeliveryTree.{stop_readings}
+use Rattle.siri_calls.specs.Written.DeliveryTexts.{calls_text}
 use Rattle.siri_calls.specs.TripRuns.{run_over}
 use Rattle.siri_calls.proofs.writing.calls.put_calls.Given as goal
 

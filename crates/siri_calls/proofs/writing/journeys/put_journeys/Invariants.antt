@@ -1,6 +1,6 @@
 -- the journeys so far, and after them the text of the others
 use Rattle.std.proofs.Common.{◌≡◌, ◌++◌, false, drop}
-use Rattle.siri_calls.specs.DeliveryTexts.{journeys_text}
+use Rattle.siri_calls.specs.Written.DeliveryTexts.{journeys_text}
 use Rattle.siri_calls.proofs.writing.journeys.put_journeys.Given as goal
 
 abbrev pub invariant-loop-one : goal.invariant-loop-one

@@ -1,5 +1,5 @@
 -- A byte that has no escape.
-use Rattle.siri_calls.proofs.PlainLemmas.{plain_byte}
+use Rattle.siri_calls.proofs.Written.PlainLemmas.{plain_byte}
 use Rattle.siri_calls.proofs.writing.texts.is_plain.Goals as goal
 
 pub returns-then-byte-ne34 : goal.returns-then-byte-ne34

@@ -14,8 +14,8 @@ use Rattle.journey_model.specs.Schedules.{Schedule, run_on}
 use Rattle.journey_model.specs.declared.readings.DatedReading.{DatedReading}
 use Rattle.journey_model.specs.declared.readings.StopReading.{StopReading}
 use Rattle.journey_model.specs.declared.readings.StopReading.TheVariants.{Absent, Skipped, Timed}
-use Rattle.siri_calls.specs.DeliveryTree.{call_tree, call_trees_from, delivery_text, framed_ref, is_cancelled_journey, items_of, journey_of_run, journey_on, journey_tree, moment_tree, object_of, stop_readings}
-use Rattle.siri_calls.specs.DeliveryTexts.{call_text, calls_text, closing_text, frame_ref_text, head_text, journey_text, journey_text_on, journeys_text, led, led_number, opening_text, tail_text}
+use Rattle.siri_calls.specs.Written.DeliveryTree.{call_tree, call_trees_from, delivery_text, framed_ref, is_cancelled_journey, items_of, journey_of_run, journey_on, journey_tree, moment_tree, object_of, stop_readings}
+use Rattle.siri_calls.specs.Written.DeliveryTexts.{call_text, calls_text, closing_text, frame_ref_text, head_text, journey_text, journey_text_on, journeys_text, led, led_number, opening_text, tail_text}
 
 call : (run : Run) (order : ℕ) (row : StopRow) (reading : StopReading) → compact_text (call_tree run order row reading) ≡ call_text run order row reading
 unfolding call_text escape_byte led led_number

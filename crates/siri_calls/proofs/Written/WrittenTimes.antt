@@ -10,7 +10,7 @@ use Rattle.journey_model.specs.declared.readings.JourneyReading.{JourneyReading}
 use Rattle.journey_model.specs.declared.readings.JourneyReading.TheVariants.{Cancelled, Stops}
 use Rattle.journey_model.specs.declared.readings.StopReading.{StopReading}
 use Rattle.journey_model.specs.declared.readings.StopReading.TheVariants.{Skipped}
-use Rattle.siri_calls.specs.DeliveryTree.{skipped_at, stop_readings}
+use Rattle.siri_calls.specs.Written.DeliveryTree.{skipped_at, stop_readings}
 
 -- each reading of a trip is near the planned times of its stop
 pub near_at : (start : ℤ) (rows : List StopRow) (readings : List StopReading) (place : ℕ) (row : StopRow) (reading : StopReading)

@@ -4,12 +4,12 @@ use Rattle.gw_base.specs.Moments.{IsMoment}
 use Rattle.stop_schedule.specs.Sound.{IsSound}
 use Rattle.journey_model.specs.Schedules.{Schedule}
 use Rattle.journey_model.specs.declared.readings.DatedReading.{DatedReading}
-use Rattle.siri_calls.specs.DeliveryTree.{delivery_text, delivery_tree}
-use Rattle.siri_calls.specs.SaidAgain.{SaysAgain}
-use Rattle.siri_calls.specs.Sayable.{IsSayable}
-use Rattle.siri_calls.proofs.SaidAgainItems.{verdicts-said}
-use Rattle.siri_calls.proofs.SaidAgainPlain.{plain-delivery}
-use Rattle.siri_calls.proofs.SaidAgainTrees.{is_utf8-compact_text, read-compact_text}
+use Rattle.siri_calls.specs.Written.DeliveryTree.{delivery_text, delivery_tree}
+use Rattle.siri_calls.specs.Written.SaidAgain.{SaysAgain}
+use Rattle.siri_calls.specs.Written.Sayable.{IsSayable}
+use Rattle.siri_calls.proofs.Written.SaidAgainItems.{verdicts-said}
+use Rattle.siri_calls.proofs.Written.SaidAgainPlain.{plain-delivery}
+use Rattle.siri_calls.proofs.Written.SaidAgainTrees.{is_utf8-compact_text, read-compact_text}
 
 pub says_again : (schedule : Schedule) (moment : ℤ) (journeys : List DatedReading) → IsSound schedule.table → IsMoment moment → All (IsSayable schedule) journeys
     → SaysAgain schedule moment journeys (delivery_text schedule moment journeys)

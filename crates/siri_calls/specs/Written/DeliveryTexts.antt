@@ -1,5 +1,5 @@
 -- The text of a delivery of estimated timetables piece by piece, for the clauses of what writes them. The delivery as a
--- tree is `delivery_tree` of `DeliveryTree.antt`, and its text is theirs: `proofs/WrittenLemmas.antt`.
+-- tree is `delivery_tree` of `DeliveryTree.antt`, and its text is theirs: `proofs/Written/WrittenLemmas.antt`.
 use Rattle.std.specs.Prelude.{ℕ, ℤ, ◌+◌, Bool, true, false, List, [], ◌∷◌, ◌++◌, codes, decimal, unwrap_or, Option, Some, None}
 use Rattle.json.specs.Print.{quoted}
 use Rattle.serde_json.specs.Written.{comma_if}
@@ -14,7 +14,7 @@ use Rattle.journey_model.specs.Schedules.{Schedule, run_on}
 use Rattle.journey_model.specs.declared.readings.DatedReading.{DatedReading}
 use Rattle.journey_model.specs.declared.readings.StopReading.{StopReading}
 use Rattle.journey_model.specs.declared.readings.StopReading.TheVariants.{Absent, Skipped, Timed}
-use Rattle.siri_calls.specs.DeliveryTree.{is_cancelled_journey, stop_readings}
+use Rattle.siri_calls.specs.Written.DeliveryTree.{is_cancelled_journey, stop_readings}
 
 -- a text as a string, after what leads to it; a moment; and a number in decimal
 unfoldable pub led : List ℕ → List ℕ → List ℕ

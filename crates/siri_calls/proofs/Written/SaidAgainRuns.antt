@@ -10,7 +10,7 @@ use Rattle.stop_schedule.specs.Stops.{is_timed}
 use Rattle.journey_model.specs.Runs.{Run}
 use Rattle.journey_model.specs.Schedules.{Schedule, run_from}
 use Rattle.journey_model.specs.declared.readings.DatedReading.{DatedReading}
-use Rattle.siri_calls.specs.Sayable.{IsSayable}
+use Rattle.siri_calls.specs.Written.Sayable.{IsSayable}
 
 -- the ids by which the stops of a run are numbered are ids, its stops are of them, and its day has a start
 pub record IsSoundRun (run : Run) : Type 0 where

@@ -1,0 +1,4 @@
+pub mod DeliveryTexts
+pub mod DeliveryTree
+pub mod SaidAgain
+pub mod Sayable
