@@ -1,8 +1,13 @@
 -- Values that are found one after the other, of which the first fault ends the search.
-use Rattle.std.specs.Prelude.{Result, Ok, Err}
+use Rattle.std.specs.Prelude.{Option, Some, None, Result, Ok, Err}
 
 -- a value, and what is found with it: the first fault counts
 infixl 10 ◌>>=◌
 abbrev pub ◌>>=◌ : {A B E : Type 0} → Result A E → (A → Result B E) → Result B E
 Ok value >>= next = next value
 Err fault >>= next = Err fault
+
+-- a value, unless there is a fault
+abbrev pub unless_fault : {A E : Type 0} → Option E → A → Result A E
+unless_fault None value = Ok value
+unless_fault (Some fault) value = Err fault

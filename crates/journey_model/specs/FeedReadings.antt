@@ -112,24 +112,25 @@ entity_said schedule feed entity =
 abbrev pub readings : Schedule → Feed → List (Option (Result DatedReading Fault))
 readings schedule feed = map (entity_said schedule feed) feed.entities
 
--- what was read, what was passed, and what was set aside, each with the number of its entity, from that number on
-abbrev pub given : Option (Result DatedReading Fault) → Option DatedReading
+-- of what entities say, what was read, what was passed, and what was set aside, each with the number of its entity,
+-- from that number on
+abbrev pub given : {A : Type 0} → Option (Result A Fault) → Option A
 given None = None
 given (Some (Err fault)) = None
-given (Some (Ok reading)) = Some reading
+given (Some (Ok one)) = Some one
 
-abbrev pub given_all : List (Option (Result DatedReading Fault)) → List DatedReading
+abbrev pub given_all : {A : Type 0} → List (Option (Result A Fault)) → List A
 given_all said = filter_map given said
 
-abbrev pub passed_count : List (Option (Result DatedReading Fault)) → ℕ
+abbrev pub passed_count : {A : Type 0} → List (Option (Result A Fault)) → ℕ
 passed_count [] = 0
 passed_count (None ∷ said) = passed_count said + 1
 passed_count (Some one ∷ said) = passed_count said
 
-abbrev pub aside_from : ℕ → List (Option (Result DatedReading Fault)) → List (ℕ × Fault)
+abbrev pub aside_from : {A : Type 0} → ℕ → List (Option (Result A Fault)) → List (ℕ × Fault)
 aside_from number [] = []
 aside_from number (None ∷ said) = aside_from (number + 1) said
-aside_from number (Some (Ok reading) ∷ said) = aside_from (number + 1) said
+aside_from number (Some (Ok one) ∷ said) = aside_from (number + 1) said
 aside_from number (Some (Err fault) ∷ said) = (number, fault) ∷ aside_from (number + 1) said
 
 -- the last reading of a trip on a day

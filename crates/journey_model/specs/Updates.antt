@@ -5,7 +5,7 @@ use Rattle.std.specs.Ordering.{int_eq}
 use Rattle.std.specs.Str.{bytes_eq}
 use Rattle.gw_base.specs.declared.messages.Event.{Event}
 use Rattle.gw_base.specs.declared.messages.StopUpdate.{StopUpdate}
-use Rattle.gw_base.specs.Chains.{◌>>=◌}
+use Rattle.gw_base.specs.Chains.{unless_fault, ◌>>=◌}
 use Rattle.journey_model.specs.Matching.{update_place}
 use Rattle.journey_model.specs.Runs.{Run, planned_at}
 use Rattle.journey_model.specs.Times.{both_times, delay_fault}
@@ -84,14 +84,9 @@ times_fault number planned update =
 abbrev pub is_read : StopUpdate → Bool
 is_read update = is_scheduled update || (is_skipped update || is_no_data update)
 
--- the place, unless there is a fault
-abbrev pub place_unless : Option Fault → ℕ → Result ℕ Fault
-place_unless None place = Ok place
-place_unless (Some fault) place = Err fault
-
 abbrev pub place_timed : Run → ℕ → StopUpdate → Result ℕ MatchFault → Result ℕ Fault
 place_timed run number update (Err fault) = Err (match_fault number fault)
-place_timed run number update (Ok place) = place_unless (times_fault number (planned_at run place) update) place
+place_timed run number update (Ok place) = unless_fault (times_fault number (planned_at run place) update) place
 
 -- the place of the update of that number after the one before, or its first fault
 abbrev pub place_of : Run → ℕ → Option ℕ → StopUpdate → Result ℕ Fault

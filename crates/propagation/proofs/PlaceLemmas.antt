@@ -7,11 +7,11 @@ use Rattle.std.specs.List.{list_any, zip}
 use Rattle.std.specs.Option.{ok_or}
 use Rattle.std.specs.Ordering.{int_eq}
 use Rattle.gw_base.specs.declared.messages.StopUpdate.{StopUpdate}
-use Rattle.gw_base.specs.Chains.{◌>>=◌}
+use Rattle.gw_base.specs.Chains.{unless_fault, ◌>>=◌}
 use Rattle.journey_model.specs.Matching.{first_place, has_sequence, in_order, is_of_stop, place_after, place_by_sequence, place_by_stop, stands_at, agrees, update_place}
 use Rattle.journey_model.specs.Runs.{Run, planned_at}
 use Rattle.journey_model.specs.Times.{delay_fault}
-use Rattle.journey_model.specs.Updates.{arrival_time, departure_time, events_fault, is_no_data, is_read, is_scheduled, is_skipped, named_stop, place_of, place_timed, place_unless, places, places_from, times, times_fault}
+use Rattle.journey_model.specs.Updates.{arrival_time, departure_time, events_fault, is_no_data, is_read, is_scheduled, is_skipped, named_stop, place_of, place_timed, places, places_from, times, times_fault}
 use Rattle.journey_model.specs.declared.fault.Fault.{Fault}
 use Rattle.journey_model.specs.declared.fault.Fault.TheVariants.{OtherRelation}
 use Rattle.journey_model.specs.declared.matching.MatchFault.{MatchFault}
@@ -19,7 +19,7 @@ use Rattle.journey_model.specs.declared.matching.MatchFault.TheVariants as match
 use Rattle.journey_model.specs.declared.matching.NamedStop.{NamedStop}
 use Rattle.journey_model.specs.declared.matching.NamedStop.TheVariants.{Missing, Unknown, Known}
 use Rattle.stop_schedule.specs.declared.stop_times.StopRow.{StopRow}
-use Rattle.propagation.specs.Saying.{placed_all, placed_at, placed_by, said_unless, says_at, says_times}
+use Rattle.propagation.specs.Saying.{placed_all, placed_at, placed_by, says_at, says_times}
 use Rattle.propagation.specs.Spreading.{are_rising_from}
 use Rattle.propagation.specs.declared.placing.Placed.{Placed}
 use Rattle.propagation.specs.declared.placing.Says.{Says}
@@ -43,20 +43,20 @@ scheduled-other relation e = rw ((signed_Decides relation (pos 0)).0 e) (refl, r
 
 module _ (number : ℕ) (planned : ℤ × ℤ) (update : StopUpdate) where
   pub skipped-says : is_skipped update ≡ true
-      → Ok Skipped ≡ said_unless (times_fault number planned update) (says_at planned update)
+      → Ok Skipped ≡ unless_fault (times_fault number planned update) (says_at planned update)
   skipped-says e = rw (e, skipped-other update.relation e) refl
 
   pub no_data-says : is_skipped update ≡ false → is_no_data update ≡ true
-      → Ok NoData ≡ said_unless (times_fault number planned update) (says_at planned update)
+      → Ok NoData ≡ unless_fault (times_fault number planned update) (says_at planned update)
   no_data-says kept e = rw (kept, e, no_data-other update.relation e) refl
 
   pub events-say : is_scheduled update ≡ true
-      → said_unless
+      → unless_fault
       (events_fault number
       (delay_fault number planned (arrival_time planned update) (departure_time planned update))
       (times planned update))
       (says_times planned (times planned update))
-      ≡ said_unless (times_fault number planned update) (says_at planned update)
+      ≡ unless_fault (times_fault number planned update) (says_at planned update)
   events-say e =
       let others = scheduled-other update.relation e in
       rw (e, others.0, others.1) refl
@@ -64,14 +64,14 @@ module _ (number : ℕ) (planned : ℤ × ℤ) (update : StopUpdate) where
 -- an update that is read stands at its place, or has a fault there
 pub placed_said : (run : Run) (number place : ℕ) (update : StopUpdate) (planned : ℤ × ℤ) (said : Result Says Fault)
     → planned ≡ planned_at run place
-    → said ≡ said_unless (times_fault number planned update) (says_at planned update)
+    → said ≡ unless_fault (times_fault number planned update) (says_at planned update)
     → with_place place said ≡ placed_by run update (place_timed run number update (Ok place))
 placed_said run number place update planned said same is =
     rw (is, same) (by (times_fault number (planned_at run place) update))
   where
     by : (fault : Option Fault)
-        → with_place place (said_unless fault (says_at (planned_at run place) update))
-        ≡ placed_by run update (place_unless fault place)
+        → with_place place (unless_fault fault (says_at (planned_at run place) update))
+        ≡ placed_by run update (unless_fault fault place)
     by None = refl
     by (Some fault) = refl
 
@@ -251,7 +251,7 @@ timed-fits run number after update (Ok found) place read later e =
     by (times_fault number (planned_at run found) update) refl e
   where
     by : (fault : Option Fault) → times_fault number (planned_at run found) update ≡ fault
-        → place_unless fault found ≡ Ok place → Fits run number after update place
+        → unless_fault fault found ≡ Ok place → Fits run number after update place
     by None whole same = let is : found ≡ place =
         cc in rw (← is) (record { read = read; later = later found refl; whole = whole })
     by (Some fault) whole same = cc

@@ -24,11 +24,6 @@ says_at planned update =
     if is_skipped update then Skipped
     else (if is_no_data update then NoData else says_times planned (times planned update))
 
--- what is said, unless there is a fault
-abbrev pub said_unless : Option Fault → Says → Result Says Fault
-said_unless None says = Ok says
-said_unless (Some fault) says = Err fault
-
 -- an update at a place
 abbrev pub placed_at : Run → ℕ × StopUpdate → Placed
 placed_at run one = record { place = one.0; says = says_at (planned_at run one.0) one.1 }

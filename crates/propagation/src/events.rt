@@ -1,9 +1,10 @@
 //! What the events of an update say at a stop, in seconds since 1970. The functions meet `journey_model`'s
 //! `specs/Times.antt` and `specs/Updates.antt`.
 ghost use Rattle.std.specs.Prelude.{◌≡◌, ◌-ℤ◌, true};
+ghost use Rattle.gw_base.specs.Chains.{unless_fault};
 ghost use Rattle.journey_model.specs.Times.{ArePlanned, IsPlanned, both_times, delay_fault, is_delay};
 ghost use Rattle.journey_model.specs.Updates as spec;
-ghost use Rattle.propagation.specs.Saying.{said_unless, says_times, timed_by};
+ghost use Rattle.propagation.specs.Saying.{says_times, timed_by};
 
 use crate::placing::Says;
 use gw_base::Event;
@@ -47,7 +48,7 @@ pub(crate) fn says_times(
     requires { ArePlanned planned }
     ensures { let late = delay_fault number planned arrival departure in
         let both = both_times planned arrival departure in
-        result ≡ said_unless (spec.events_fault number late both) (says_times planned both) }
+        result ≡ unless_fault (spec.events_fault number late both) (says_times planned both) }
 {
     if let Some(fault) = delay_fault(number, planned, arrival, departure) {
         return Err(fault);

@@ -3,11 +3,12 @@
 ghost use Rattle.std.specs.Prelude.{◌≡◌, ◌<◌, ℕ, true, Ok, Some, IsTrue, IfSome, length, position, List as Values};
 ghost use Rattle.std.specs.Option.{option_copied};
 ghost use Rattle.std.specs.Str.{bytes_eq};
+ghost use Rattle.gw_base.specs.Chains.{unless_fault};
 ghost use Rattle.journey_model.specs.Dated.{run_of};
 ghost use Rattle.journey_model.specs.Times.{ArePlanned};
 ghost use Rattle.journey_model.specs.Updates as spec;
 ghost use Rattle.propagation.specs.Answers.{Propagates};
-ghost use Rattle.propagation.specs.Saying.{placed_all, placed_by, said_unless, says_at};
+ghost use Rattle.propagation.specs.Saying.{placed_all, placed_by, says_at};
 
 use crate::events::{event_time, says_times};
 use crate::room::with_room;
@@ -127,7 +128,7 @@ fn is_read(update: &StopUpdate) -> bool
 fn says_by_events(number: u64, planned: (i64, i64), update: &StopUpdate) -> Result<Says, Fault>
     requires planned { ArePlanned planned }
     requires scheduled { spec.is_scheduled update.now ≡ true }
-    ensures { result ≡ said_unless (spec.times_fault number planned update.now) (says_at planned update.now) }
+    ensures { result ≡ unless_fault (spec.times_fault number planned update.now) (says_at planned update.now) }
 {
     let arrival = event_time(&planned.0, &update.arrival);
     let departure = event_time(&planned.1, &update.departure);
@@ -138,7 +139,7 @@ fn says_by_events(number: u64, planned: (i64, i64), update: &StopUpdate) -> Resu
 fn says_at(number: u64, planned: (i64, i64), update: &StopUpdate) -> Result<Says, Fault>
     requires planned { ArePlanned planned }
     requires read { spec.is_read update.now ≡ true }
-    ensures { result ≡ said_unless (spec.times_fault number planned update.now) (says_at planned update.now) }
+    ensures { result ≡ unless_fault (spec.times_fault number planned update.now) (says_at planned update.now) }
 {
     if update.relation == SKIPPED {
         return Ok(Says::Skipped);

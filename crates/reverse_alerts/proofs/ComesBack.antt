@@ -4,6 +4,7 @@ use Rattle.std.specs.List.{list_all}
 use Rattle.std.specs.Option.{option_or}
 use Rattle.std.proofs.lemmas.Bool.{and_parts}
 use Rattle.gw_base.specs.declared.member.Member.{Member}
+use Rattle.gw_base.specs.Chains.{unless_fault}
 use Rattle.stop_schedule.specs.Sound.{IsSound}
 use Rattle.stop_schedule.specs.Table.{Table}
 use Rattle.journey_model.specs.Schedules.{Schedule}
@@ -17,7 +18,7 @@ use Rattle.siri_situations.specs.Situations.{verdict}
 use Rattle.reverse_alerts.specs.Again.{ComesBack}
 use Rattle.reverse_alerts.specs.Kept.{all_named}
 use Rattle.reverse_alerts.specs.Senses.{sense}
-use Rattle.reverse_alerts.specs.Taken.{affects_fault, bound_fault, fault_of, period_fault, periods_fault, situation_of, unless_fault}
+use Rattle.reverse_alerts.specs.Taken.{affects_fault, bound_fault, fault_of, period_fault, periods_fault, situation_of}
 use Rattle.reverse_alerts.proofs.AlertSense.{sense-again, sense_of}
 use Rattle.reverse_alerts.proofs.FromSituations.{found-sayable}
 use Rattle.reverse_alerts.proofs.Names.{all-named-again}

@@ -11,15 +11,17 @@ use Rattle.gw_base.specs.declared.messages.Entity.{Entity}
 use Rattle.gw_base.specs.declared.messages.Period.{Period}
 use Rattle.gw_base.specs.declared.messages.Translation.{Translation}
 use Rattle.gw_base.proofs.Elements.{all_append, all_filter}
+use Rattle.gw_base.specs.Chains.{unless_fault}
 use Rattle.stop_schedule.specs.Table.{Table}
 use Rattle.journey_model.specs.Updates.{filled_text}
 use Rattle.journey_model.specs.declared.fault.Fault.{Fault}
 use Rattle.journey_model.specs.declared.fault.Fault.TheVariants.{BadField}
 use Rattle.journey_model.specs.declared.situation.Ref.{Ref}
 use Rattle.journey_model.specs.declared.situation.Situation.{Situation}
+use Rattle.journey_model.specs.FeedReadings.{given}
 use Rattle.reverse_alerts.specs.Kept.{all_named, is_journey, is_route, is_stop}
 use Rattle.reverse_alerts.specs.Senses.{first_text, holding, is_open, sense, valid_period}
-use Rattle.reverse_alerts.specs.Taken.{affects_fault, alert_in, bound_fault, entity_verdict, fault_of, given, number_fault, period_fault, periods_fault, situation_of, situations, unless_fault, verdict}
+use Rattle.reverse_alerts.specs.Taken.{affects_fault, alert_in, bound_fault, entity_verdict, fault_of, number_fault, period_fault, periods_fault, situation_of, situations, verdict}
 use Rattle.reverse_alerts.proofs.Grouped.{by_kinds, kinds-of, length-kinds, of-kinds}
 use Rattle.reverse_alerts.proofs.Names.{can-say-named}
 use Rattle.reverse_alerts.proofs.Sayable.{CanSay, IsCause-cause_of, IsEffect-effect_of, IsSayable, is_bound, is_filled, is_period}

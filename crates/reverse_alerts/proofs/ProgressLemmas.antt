@@ -18,16 +18,18 @@ use Rattle.gw_base.specs.declared.messages.Alert.{Alert}
 use Rattle.gw_base.specs.declared.messages.Entity.{Entity}
 use Rattle.gw_base.specs.declared.messages.Period.{Period}
 use Rattle.gw_base.proofs.Elements.{or_neither}
+use Rattle.gw_base.specs.Chains.{unless_fault}
 use Rattle.stop_schedule.specs.Table.{Table}
 use Rattle.journey_model.specs.declared.fault.Fault.{Fault}
 use Rattle.journey_model.specs.declared.fault.Fault.TheVariants.{BadField}
 use Rattle.journey_model.specs.declared.report.Report.{Report}
+use Rattle.journey_model.specs.FeedReadings.{aside_from, given}
 use Rattle.reverse_alerts.specs.Kept.{all_named}
 use Rattle.reverse_alerts.specs.Progress.{Verdict, added_text, fault_by, no_report, none_named, with_passed, with_verdict}
 use Rattle.reverse_alerts.specs.Senses.{sense}
 use Rattle.reverse_alerts.specs.SituationTexts.{IsBound, IsTold, head_text, situation_text, situations_text, tail_text}
 use Rattle.reverse_alerts.specs.SituationTree.{delivery_text}
-use Rattle.reverse_alerts.specs.Taken.{aside_from, bound_fault, entity_verdict, given, number_fault, passed_count, passed_in, period_fault, periods_fault, report_on, situation_of, situations, unless_fault, verdict, verdicts}
+use Rattle.reverse_alerts.specs.Taken.{bound_fault, entity_verdict, number_fault, passed_count, passed_in, period_fault, periods_fault, report_on, situation_of, situations, verdict, verdicts}
 use Rattle.reverse_alerts.proofs.NamingLemmas.{none_is}
 use Rattle.reverse_alerts.proofs.WrittenLemmas.{delivery}
 

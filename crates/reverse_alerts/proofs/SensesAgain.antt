@@ -7,10 +7,11 @@ use Rattle.stop_schedule.specs.Sound.{IsSound}
 use Rattle.stop_schedule.specs.Table.{Table}
 use Rattle.journey_model.specs.declared.fault.Fault.{Fault}
 use Rattle.journey_model.specs.declared.situation.Situation.{Situation}
+use Rattle.journey_model.specs.FeedReadings.{given}
 use Rattle.reverse_alerts.specs.Kept.{all_named}
 use Rattle.reverse_alerts.specs.Senses.{Sense, sense}
 use Rattle.reverse_alerts.specs.Sx.{alert_sense}
-use Rattle.reverse_alerts.specs.Taken.{alert_in, alerts, entity_verdict, fault_of, given, situation_of, situations}
+use Rattle.reverse_alerts.specs.Taken.{alert_in, alerts, entity_verdict, fault_of, situation_of, situations}
 use Rattle.reverse_alerts.proofs.FromAlerts.{of-alert, sayable-alert}
 use Rattle.reverse_alerts.proofs.Grouped.{journeys-of, of-kinds, routes-of, stops-of}
 use Rattle.reverse_alerts.proofs.AlertSense.{sense-again, sense_of}

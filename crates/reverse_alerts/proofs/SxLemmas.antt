@@ -7,18 +7,20 @@ use Rattle.gw_base.specs.Moments.{IsMoment}
 use Rattle.gw_base.specs.declared.messages.Alert.{Alert}
 use Rattle.gw_base.specs.declared.messages.Entity.{Entity}
 use Rattle.gw_base.specs.declared.messages.Feed.{Feed}
+use Rattle.gw_base.specs.Chains.{unless_fault}
 use Rattle.stop_schedule.specs.Sound.{IsSound}
 use Rattle.stop_schedule.specs.Table.{Table}
 use Rattle.journey_model.specs.Schedules.{Schedule}
 use Rattle.journey_model.specs.declared.fault.Fault.{Fault}
 use Rattle.journey_model.specs.declared.report.Report.{Report}
 use Rattle.journey_model.specs.declared.situation.Situation.{Situation}
+use Rattle.journey_model.specs.FeedReadings.{given}
 use Rattle.reverse_alerts.specs.Again.{SaysAgain}
 use Rattle.reverse_alerts.specs.Sayable.{HasUtf8}
 use Rattle.reverse_alerts.specs.Senses.{sense}
 use Rattle.reverse_alerts.specs.SituationTree.{delivery_text}
 use Rattle.reverse_alerts.specs.Sx.{IsSx}
-use Rattle.reverse_alerts.specs.Taken.{entity_verdict, fault_of, given, report_on, situation_of, situations, unless_fault, verdict}
+use Rattle.reverse_alerts.specs.Taken.{entity_verdict, fault_of, report_on, situation_of, situations, verdict}
 use Rattle.reverse_alerts.specs.Texts.{HasTexts, SaysTexts}
 use Rattle.reverse_alerts.proofs.SaidAgain.{says_again}
 use Rattle.reverse_alerts.proofs.SensesAgain.{senses}

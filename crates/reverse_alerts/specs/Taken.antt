@@ -1,6 +1,6 @@
 -- What becomes of the entities of a feed: the situation that an alert is, or the fault for which it is set aside (GTFS
 -- Realtime reference, FeedEntity; SIRI 2.0, PtSituationElement).
-use Rattle.std.specs.Prelude.{ℕ, ◌+◌, pos, min, true, List, [], ◌∷◌, ◌++◌, length, map, sum_by, Option, Some, None, is_some, option_map, Result, Ok, Err, if◌then◌else◌}
+use Rattle.std.specs.Prelude.{ℕ, ◌+◌, pos, min, true, List, [], ◌∷◌, ◌++◌, length, map, sum_by, Option, Some, None, is_some, option_map, Result, if◌then◌else◌}
 use Rattle.std.specs.List.{filter_map}
 use Rattle.std.specs.Option.{option_or}
 use Rattle.gw_base.specs.Count.{last_count}
@@ -9,12 +9,14 @@ use Rattle.gw_base.specs.declared.member.Member.{Member}
 use Rattle.gw_base.specs.declared.messages.Alert.{Alert}
 use Rattle.gw_base.specs.declared.messages.Entity.{Entity}
 use Rattle.gw_base.specs.declared.messages.Period.{Period}
+use Rattle.gw_base.specs.Chains.{unless_fault}
 use Rattle.stop_schedule.specs.Table.{Table}
 use Rattle.journey_model.specs.declared.fault.Fault.{Fault}
 use Rattle.journey_model.specs.declared.fault.Fault.TheVariants.{BadField, NoAffects}
 use Rattle.journey_model.specs.declared.report.Report.{Report}
 use Rattle.journey_model.specs.declared.situation.Ref.{Ref}
 use Rattle.journey_model.specs.declared.situation.Situation.{Situation}
+use Rattle.journey_model.specs.FeedReadings.{aside_from, given, given_all}
 use Rattle.reverse_alerts.specs.Kept.{all_named, selectors_passed}
 use Rattle.reverse_alerts.specs.Senses.{Sense, sense}
 
@@ -61,10 +63,6 @@ fault_of table id alert =
     (option_or (periods_fault alert.periods) (affects_fault (all_named table alert.selectors)))
 
 -- what an alert is
-abbrev pub unless_fault : Option Fault → Situation → Result Situation Fault
-unless_fault None one = Ok one
-unless_fault (Some fault) one = Err fault
-
 abbrev pub verdict : Table → List ℕ → Alert → Result Situation Fault
 verdict table id alert = unless_fault (fault_of table id alert) (situation_of id (sense table alert))
 
@@ -80,20 +78,8 @@ abbrev pub verdicts : Table → List Entity → List (Option (Result Situation F
 verdicts table entities = map (entity_verdict table) entities
 
 -- the situations that are taken
-abbrev pub given : Option (Result Situation Fault) → Option Situation
-given None = None
-given (Some (Err fault)) = None
-given (Some (Ok one)) = Some one
-
 abbrev pub situations : Table → List Entity → List Situation
-situations table entities = filter_map given (verdicts table entities)
-
--- those set aside, each with the number of its entity, from that number on
-abbrev pub aside_from : ℕ → List (Option (Result Situation Fault)) → List (ℕ × Fault)
-aside_from number [] = []
-aside_from number (None ∷ all) = aside_from (number + 1) all
-aside_from number (Some (Ok one) ∷ all) = aside_from (number + 1) all
-aside_from number (Some (Err fault) ∷ all) = (number, fault) ∷ aside_from (number + 1) all
+situations table entities = given_all (verdicts table entities)
 
 -- how many entities and selectors are passed, those of alerts that are set aside too; a count of 64 bits stays at its
 -- last value

@@ -8,7 +8,7 @@ use Rattle.std.specs.Str.{bytes_eq}
 use Rattle.std.proofs.lemmas.Bool.Decides.{nat_tests}
 use Rattle.std.proofs.lemmas.Int.{ints}
 use Rattle.std.proofs.lemmas.List.Quantifiers.{position-Some}
-use Rattle.gw_base.specs.Chains.{◌>>=◌}
+use Rattle.gw_base.specs.Chains.{unless_fault, ◌>>=◌}
 use Rattle.gw_base.proofs.Elements.{all_more, or_neither}
 use Rattle.journey_model.specs.Propagation.{timed}
 use Rattle.journey_model.specs.Readings.{are_near, fits_trip, is_near}
@@ -107,10 +107,10 @@ dense-fits run placed none =
 -- ---- what is read of a journey fits its trip
 
 unless-fits : (run : Run) (placed : List (ℕ × (ℕ × Call))) (reading : JourneyReading)
-    → spec.dense_unless (spec.delays_fault run placed) (spec.all_dense run placed) ≡ Ok reading → fits_trip run.start run.stops reading ≡ true
+    → unless_fault (spec.delays_fault run placed) (Stops (spec.all_dense run placed)) ≡ Ok reading → fits_trip run.start run.stops reading ≡ true
 unless-fits run placed reading h = by (spec.delays_fault run placed) refl h
   where
-    by : (fault : Option Fault) → spec.delays_fault run placed ≡ fault → spec.dense_unless fault (spec.all_dense run placed) ≡ Ok reading
+    by : (fault : Option Fault) → spec.delays_fault run placed ≡ fault → unless_fault fault (Stops (spec.all_dense run placed)) ≡ Ok reading
         → fits_trip run.start run.stops reading ≡ true
     by (Some fault) e told = absurd (cc)
     by None e told =
@@ -121,7 +121,7 @@ stops-fit : (run : Run) (all : List (Option Call)) (reading : JourneyReading) �
 stops-fit run all reading h = by (spec.calls_placed run all) h
   where
     by : (placed : Result (List (ℕ × (ℕ × Call))) Fault)
-        → (placed >>= λ found. spec.dense_unless (spec.delays_fault run found) (spec.all_dense run found)) ≡ Ok reading
+        → (placed >>= λ found. unless_fault (spec.delays_fault run found) (Stops (spec.all_dense run found))) ≡ Ok reading
         → fits_trip run.start run.stops reading ≡ true
     by (Err fault) told = absurd (cc)
     by (Ok placed) told = unless-fits run placed reading told

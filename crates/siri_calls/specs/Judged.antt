@@ -4,7 +4,7 @@ use Rattle.std.specs.Prelude.{◌==◌, ◌+◌, ℕ, ℤ, Bool, true, false, Li
 use Rattle.std.specs.List.{list_any, range_with_len}
 use Rattle.std.specs.Option.{ok_or, option_or}
 use Rattle.std.specs.Str.{bytes_eq}
-use Rattle.gw_base.specs.Chains.{◌>>=◌}
+use Rattle.gw_base.specs.Chains.{unless_fault, ◌>>=◌}
 use Rattle.journey_model.specs.Matching.{call_place, is_of_stop}
 use Rattle.journey_model.specs.Propagation.{timed}
 use Rattle.journey_model.specs.Records.{Recorded}
@@ -73,11 +73,6 @@ dense run placed place = reading_at run place (find (λ one. one.0 == place) pla
 abbrev pub all_dense : Run → List (ℕ × (ℕ × Call)) → List StopReading
 all_dense run placed = map (dense run placed) (range_with_len 0 (length run.stops))
 
--- the reading, unless a delay is over a week
-abbrev pub dense_unless : Option Fault → List StopReading → Result JourneyReading Fault
-dense_unless None readings = Ok (Stops readings)
-dense_unless (Some fault) readings = Err fault
-
 -- the calls with their places: each has a stop of the trip before any is matched
 abbrev pub calls_placed : Run → List (Option Call) → Result (List (ℕ × (ℕ × Call))) Fault
 calls_placed run all = do
@@ -88,7 +83,7 @@ calls_placed run all = do
 abbrev pub stops_read : Run → List (Option Call) → Result JourneyReading Fault
 stops_read run all = do
   placed ← calls_placed run all
-  dense_unless (delays_fault run placed) (all_dense run placed)
+  unless_fault (delays_fault run placed) (Stops (all_dense run placed))
 
 abbrev pub journey_read : Run → Bool → List (Option Call) → Result JourneyReading Fault
 journey_read run true all = Ok Cancelled

@@ -21,7 +21,7 @@ use Rattle.siri_json.specs.declared.delivery.Item.TheVariants.{Taken, Aside}
 use Rattle.stop_schedule.specs.Table.{Table}
 use Rattle.siri_situations.specs.Affected as spec
 use Rattle.siri_situations.specs.Deliveries.{ReferToKnown, RefersToKnown, same}
-use Rattle.siri_situations.specs.Situations.{effect, said, situation, touched, verdict}
+use Rattle.siri_situations.specs.Situations.{content, effect, situation, touched, verdict}
 use Rattle.siri_situations.specs.Steps.{gather, trees_at, walk}
 use Rattle.siri_situations.specs.declared.affected.AffectedKind.{AffectedKind}
 use Rattle.siri_situations.specs.declared.affected.AffectedKind.TheVariants as kinds
@@ -149,7 +149,7 @@ touches table tree =
 
 of_situation : (schedule : Schedule) (tree : Data) → OnFound (KnowsAll schedule.table) (situation schedule tree)
 of_situation schedule tree =
-    after (KnowsAll schedule.table) (said schedule.zone tree) _ (λ all is.
+    after (KnowsAll schedule.table) (content schedule.zone tree) _ (λ all is.
     after (KnowsAll schedule.table) (touched schedule.table tree) _ (λ touched_by same.
     after (KnowsAll schedule.table) (spec.affected touched_by.0) _ (λ affects last.
     found (Knows schedule.table) _ affects (affected schedule.table touched_by.0 (found (λ all. AreThere schedule.table all.0) _ touched_by (touches schedule.table tree) same)) last)))

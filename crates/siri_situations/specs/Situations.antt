@@ -19,9 +19,9 @@ use Rattle.siri_situations.specs.Periods.{periods}
 use Rattle.siri_situations.specs.Senses.{cause, effect_of, is_served}
 use Rattle.siri_situations.specs.Steps.{walk}
 use Rattle.siri_situations.specs.declared.affected.Reference.{Reference}
-use Rattle.siri_situations.specs.declared.said.Head.{Head}
-use Rattle.siri_situations.specs.declared.said.Said.{Said}
-use Rattle.siri_situations.specs.declared.said.Words.{Words}
+use Rattle.siri_situations.specs.declared.content.Head.{Head}
+use Rattle.siri_situations.specs.declared.content.Content.{Content}
+use Rattle.siri_situations.specs.declared.content.Words.{Words}
 use Rattle.siri_situations.specs.declared.steps.Step.TheVariants.{Object, Repeated}
 
 -- its number, its version, and whether it is served
@@ -40,8 +40,8 @@ words tree = do
   Ok (record { summary = summary; description = description })
 
 -- what it says before what it affects
-abbrev pub said : Rules → Data → Result Said Fault
-said zone tree = do
+abbrev pub content : Rules → Data → Result Content Fault
+content zone tree = do
   first ← head tree
   holds ← periods zone tree
   texts ← words tree
@@ -66,7 +66,7 @@ touched table tree = do
   Ok (all, number)
 
 -- a situation of what it says, its cause, its effect and what it affects
-abbrev pub situation_of : Said → ℤ → ℤ → List Ref → Situation
+abbrev pub situation_of : Content → ℤ → ℤ → List Ref → Situation
 situation_of all cause_number effect_number refs = record {
   number = all.head.number;
   version = all.head.version;
@@ -82,7 +82,7 @@ situation_of all cause_number effect_number refs = record {
 -- the situation, and how many of its references aren't known: the forms of all members come before what is known
 abbrev pub situation : Schedule → Data → Result (Situation × ℕ) Fault
 situation schedule tree = do
-  all ← said schedule.zone tree
+  all ← content schedule.zone tree
   touches ← touched schedule.table tree
   affects ← affected touches.0
   Ok (situation_of all (cause tree) touches.1 affects.0, affects.1)

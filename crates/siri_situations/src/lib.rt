@@ -3,10 +3,10 @@
 #![tactic(auto)]
 
 mod affected;
+mod content;
 mod delivery;
 mod frame;
 mod periods;
-mod said;
 mod senses;
 mod situations;
 mod steps;

@@ -9,8 +9,8 @@ ghost use Rattle.siri_situations.specs.Situations as spec;
 ghost use Rattle.stop_schedule.specs.Seen.{seen};
 
 use crate::affected::{Reference, affected, read_references};
+use crate::content::{Content, Head, Words};
 use crate::periods::read_periods;
-use crate::said::{Head, Said, Words};
 use crate::senses::{cause, effect_of, is_served};
 use crate::steps::{Branch, Step, walk};
 use gw_base::{List, Member, Text};
@@ -82,14 +82,14 @@ fn read_words(alloc: Global, tree: &Value<'_>) -> Result<Words, ReadFault>
 }
 
 // What a situation says before what it affects.
-fn read_said(alloc: Global, tree: &Value<'_>, zone: &Zone) -> Result<Said, ReadFault>
-    ensures found { IfOk result (λ found. spec.said zone.now (view tree.now) ≡ Ok found) }
-    ensures fault { IfErr result (IsFaultOf (spec.said zone.now (view tree.now))) }
+fn read_content(alloc: Global, tree: &Value<'_>, zone: &Zone) -> Result<Content, ReadFault>
+    ensures found { IfOk result (λ found. spec.content zone.now (view tree.now) ≡ Ok found) }
+    ensures fault { IfErr result (IsFaultOf (spec.content zone.now (view tree.now))) }
 {
     let head = read_head(alloc, tree)?;
     let periods = read_periods(alloc, tree, zone)?;
     let words = read_words(alloc, tree)?;
-    Ok(Said {
+    Ok(Content {
         head,
         periods,
         words,
@@ -139,14 +139,14 @@ fn read_touched(
 }
 
 // The situation of these parts.
-fn situation_of(said: Said, cause: i32, effect: i32, refs: List<Ref>) -> Situation
-    ensures { result ≡ spec.situation_of said cause effect refs }
+fn situation_of(content: Content, cause: i32, effect: i32, refs: List<Ref>) -> Situation
+    ensures { result ≡ spec.situation_of content cause effect refs }
 {
-    let Said {
+    let Content {
         head,
         periods,
         words,
-    } = said;
+    } = content;
     let Head {
         number,
         version,
@@ -180,10 +180,10 @@ fn read_situation(
     ensures fault { IfErr result
         (IsFaultOf (spec.situation context.now (view tree.now))) }
 {
-    let said = read_said(alloc, tree, context.zone)?;
+    let content = read_content(alloc, tree, context.zone)?;
     let (references, effect) = read_touched(alloc, tree, context.table)?;
     let (refs, unknown) = affected(alloc, references.as_slice())?;
-    Ok((situation_of(said, cause(tree), effect, refs), unknown))
+    Ok((situation_of(content, cause(tree), effect, refs), unknown))
 }
 
 /// What an item is: a situation, and how many of its references aren't known.

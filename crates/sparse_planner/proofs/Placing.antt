@@ -7,12 +7,12 @@ use Rattle.stop_schedule.specs.Planned.{planned}
 use Rattle.stop_schedule.specs.Stops.{are_rising}
 use Rattle.stop_schedule.specs.declared.stop_times.StopRow.{StopRow}
 use Rattle.journey_model.proofs.Suppliers.{Rise}
-use Rattle.gw_base.specs.Chains.{◌>>=◌}
+use Rattle.gw_base.specs.Chains.{unless_fault, ◌>>=◌}
 use Rattle.journey_model.specs.Matching.{agrees, first_place, has_sequence, in_order, is_of_stop, place_after, place_by_sequence, place_by_stop, stands_at, update_place}
 use Rattle.journey_model.specs.Readings.{are_near, is_near}
 use Rattle.journey_model.specs.Runs.{Run, planned_at}
 use Rattle.journey_model.specs.Times.{delay_fault, is_delay}
-use Rattle.journey_model.specs.Updates.{place_of, is_read, named_stop, place_timed, place_unless, places_from, times_fault}
+use Rattle.journey_model.specs.Updates.{place_of, is_read, named_stop, place_timed, places_from, times_fault}
 use Rattle.journey_model.specs.declared.fault.Fault.{Fault}
 use Rattle.journey_model.specs.declared.fault.Fault.TheVariants.{OtherRelation}
 use Rattle.journey_model.specs.declared.matching.MatchFault.{MatchFault}
@@ -82,7 +82,7 @@ place-update run number after front rows row (Timed arrival departure) stops ris
     let near_there = subst (λ (times : ℤ × ℤ). is_near times (Timed arrival departure) ≡ true) (sym (planned-here run front rows row stops)) near in
     ap (place_timed run number (update run.start row (Timed arrival departure)))
     (ap (λ at. update_place at after (Some row.sequence) Missing) stops ∙ found-here after front rows row rising le)
-    ∙ ap (λ fault. place_unless fault (length front)) (no-fault number (planned_at run (length front)) arrival departure near_there)
+    ∙ ap (λ fault. unless_fault fault (length front)) (no-fault number (planned_at run (length front)) arrival departure near_there)
 
 places-cons : (run : Run) (number : ℕ) (after : Option ℕ) (one : StopUpdate) (others : List StopUpdate) (place : ℕ) (at : List ℕ)
     → place_of run number after one ≡ Ok place → places_from run (number + 1) (Some place) others ≡ Ok at
@@ -143,7 +143,7 @@ update-after stops after None named place h = stop-after stops (place_after afte
 update-after stops after (Some sequence) named place h = sequence-after stops (place_after after) named (position (has_sequence sequence) stops) place h
 
 -- an update without a fault has the place that was found
-unless-ok : (fault : Option Fault) (at place : ℕ) → place_unless fault at ≡ Ok place → at ≡ place
+unless-ok : (fault : Option Fault) (at place : ℕ) → unless_fault fault at ≡ Ok place → at ≡ place
 unless-ok None at place h = cc
 unless-ok (Some fault) at place h = absurd (cc)
 

@@ -8,6 +8,7 @@ use Rattle.std.proofs.Math.Seq.{take-length}
 use Rattle.std.proofs.Math.Numerals.{add-one}
 use Rattle.std.proofs.lemmas.List.{append-nil, length-map, take_more}
 use Rattle.std.proofs.lemmas.List.Elements.{filter-append}
+use Rattle.gw_base.specs.Chains.{unless_fault}
 use Rattle.indexmap.proofs.SetLemmas.{AllZip-push}
 use Rattle.stop_schedule.proofs.CarryingLemmas.{carried-ids}
 use Rattle.stop_schedule.specs.TripStops.{stops_kept}
@@ -19,7 +20,7 @@ use Rattle.stop_schedule.specs.Holding.{AreNumbers, Calendars, Exceptions, Holds
 use Rattle.stop_schedule.specs.Reading.{Assembles, Reads}
 use Rattle.stop_schedule.specs.Sheet.{Row, nth, rows_in}
 use Rattle.stop_schedule.specs.StopTimes.{filled, least, stops_in, untimed_end}
-use Rattle.stop_schedule.specs.Timetable.{Sheets, files_fault, folder_fault, ids_in, route_in, runs_in, stop_rows_in, table_of, trips_in, unless_fault, untimed_in}
+use Rattle.stop_schedule.specs.Timetable.{Sheets, files_fault, folder_fault, ids_in, route_in, runs_in, stop_rows_in, table_of, trips_in, untimed_in}
 use Rattle.stop_schedule.specs.Table.{Table}
 use Rattle.stop_schedule.specs.Trips.{carried_rows, is_carried}
 use Rattle.stop_schedule.proofs.FaultLemmas.{said-of}

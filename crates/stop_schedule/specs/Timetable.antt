@@ -1,7 +1,8 @@
 -- The timetable that the files of a folder mean (GTFS Schedule reference).
-use Rattle.std.specs.Prelude.{ℕ, ℤ, Bool, false, List, [], ◌++◌, map, slice_get, codes, Option, Some, None, option_map, Result, Ok, Err}
+use Rattle.std.specs.Prelude.{ℕ, ℤ, Bool, false, List, [], ◌++◌, map, slice_get, codes, Option, Some, None, option_map, Result}
 use Rattle.std.specs.Option.{option_or}
 use Rattle.gw_base.specs.Directory.{bytes_of}
+use Rattle.gw_base.specs.Chains.{unless_fault}
 use Rattle.stop_schedule.specs.Causes.{zone_fault, duplicate_fault, trip_fault, calendar_fault, date_fault, frequency_fault, stop_time_fault}
 use Rattle.stop_schedule.specs.Faults.{needed_fault, optional_fault}
 use Rattle.stop_schedule.specs.Places.{own_id, trips_trip_id, trips_route_id, trips_service_id}
@@ -126,11 +127,6 @@ table_of sheets = record {
   runs = λ trip day.
       runs_in (rows_in (sheets Calendar)) (rows_in (sheets CalendarDates)) (slice_get (trips_in sheets) trip) day;
 }
-
--- the table unless there is a fault
-abbrev pub unless_fault : Option TableFault → Table → Result Table TableFault
-unless_fault None table = Ok table
-unless_fault (Some fault) table = Err fault
 
 -- the timetable of a folder, or its first fault; of two files of one name the first counts
 abbrev pub timetable : List (List ℕ × List ℕ) → List ℕ → Result Table TableFault

@@ -24,7 +24,7 @@ pub(crate) struct Words {
 
 /// What a situation says before what it affects.
 #[derive(Debug, Drop)]
-pub(crate) struct Said {
+pub(crate) struct Content {
     /// What it says of itself.
     pub head: Head,
     /// When it holds.
