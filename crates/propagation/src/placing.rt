@@ -117,11 +117,25 @@ fn match_fault(number: u64, fault: MatchFault) -> Fault
     }
 }
 
+// Whether an update says that its stop is skipped.
+fn is_skipped(update: &StopUpdate) -> bool
+    ensures { result ≡ spec.is_skipped update.now }
+{
+    update.relation == SKIPPED
+}
+
+// Whether an update says that nothing is known.
+fn is_no_data(update: &StopUpdate) -> bool
+    ensures { result ≡ spec.is_no_data update.now }
+{
+    update.relation == NO_DATA
+}
+
 // Whether updates of that relation are read.
 fn is_read(update: &StopUpdate) -> bool
     ensures { result ≡ spec.is_read update.now }
 {
-    update.relation == SCHEDULED || update.relation == SKIPPED || update.relation == NO_DATA
+    update.relation == SCHEDULED || is_skipped(update) || is_no_data(update)
 }
 
 // What the update of that number says by its events at its place with these planned times, or its fault there.
@@ -141,10 +155,10 @@ fn says_at(number: u64, planned: (i64, i64), update: &StopUpdate) -> Result<Says
     requires read { spec.is_read update.now ≡ true }
     ensures { result ≡ unless_fault (spec.times_fault number planned update.now) (says_at planned update.now) }
 {
-    if update.relation == SKIPPED {
+    if is_skipped(update) {
         return Ok(Says::Skipped);
     }
-    if update.relation == NO_DATA {
+    if is_no_data(update) {
         return Ok(Says::NoData);
     }
     says_by_events(number, planned, update)
