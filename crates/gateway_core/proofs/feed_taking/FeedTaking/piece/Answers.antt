@@ -11,4 +11,4 @@ returns-clause-takes c = λ bytes h.
     let own = subst (λ (arriving : Arriving). StandsFor c.gate.inside.setting arriving bytes) (sym c.self.view_is) gate in
     let new : Arriving = record { moment = c.self.inside.moment; window = c.self.inside.window; reader = c.take_all.new.reader; fold = c.take_all.new.fold } in
     subst (λ (kept : Kept). OnOk c.take_all.result (StandsFor kept.setting new (bytes ++ c.args.piece.now))) c.gate.view_is
-    (c.take_all.ensures.takes bytes own)
+    ((rw c.context_over-context.ensures at c.take_all.ensures.takes) bytes own)

@@ -13,9 +13,10 @@ pub read_text-requires : goal.read_text-requires
 read_text-requires c = record {
   stands = (
     c.requires.stands.0,
-    parts_stand c.args.self.now.setting c.self.inside.setting c.args.taking
+    rw c.context_over-context.ensures
+        (parts_stand c.args.self.now.setting c.self.inside.setting c.args.taking
         (record { moment = c.taking.inside.moment; window = c.taking.inside.window; reader = c.taking.inside.reader; fold = c.taking.inside.fold })
-        c.requires.stands.0 (ap (λ (k : Kept). k.setting) c.self.view_is) c.taking.view_is c.requires.stands.1,
+        c.requires.stands.0 (ap (λ (k : Kept). k.setting) c.self.view_is) c.taking.view_is c.requires.stands.1),
   );
 }
 
@@ -24,7 +25,7 @@ returns-in-Err-clause-takes c = λ arrivals h rolls bytes stands.
     answer_refused c.args.self.now c.args.self.now arrivals c.args.taking.moment bytes c.in-Err.refusal c.args.taking.window rolls
     (parts_refused c.args.self.now.setting c.self.inside.setting c.args.taking
     (record { moment = c.taking.inside.moment; window = c.taking.inside.window; reader = c.taking.inside.reader; fold = c.taking.inside.fold })
-    bytes c.in-Err.refusal (ap (λ (k : Kept). k.setting) c.self.view_is) c.taking.view_is stands c.in-Err.ensures.refuses)
+    bytes c.in-Err.refusal (ap (λ (k : Kept). k.setting) c.self.view_is) c.taking.view_is stands (rw c.context_over-context.ensures at c.in-Err.ensures.refuses))
 
 pub cut_front-requires : goal.cut_front-requires
 cut_front-requires c = record {
@@ -64,7 +65,7 @@ returns-clause-takes c = λ arrivals h rolls bytes stands.
     arrivals c.args.taking.moment bytes c.in-Ok.both.0 c.in-Ok.both.1 c.args.taking.window h rolls
     (parts_say c.args.self.now.setting c.self.inside.setting c.args.taking
     (record { moment = c.taking.inside.moment; window = c.taking.inside.window; reader = c.taking.inside.reader; fold = c.taking.inside.fold })
-    bytes c.in-Ok.both.0 c.in-Ok.both.1.report (ap (λ (k : Kept). k.setting) c.self.view_is) c.taking.view_is stands c.in-Ok.ensures.says)
+    bytes c.in-Ok.both.0 c.in-Ok.both.1.report (ap (λ (k : Kept). k.setting) c.self.view_is) c.taking.view_is stands (rw c.context_over-context.ensures at c.in-Ok.ensures.says))
     (ap (λ (k : Kept). k.setting) c.self.view_is) (own ∙ sym rolls)
     (subst
     (λ (entries : List JourneyEntry).

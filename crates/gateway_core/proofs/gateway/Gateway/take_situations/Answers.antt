@@ -21,7 +21,7 @@ pub returns-in-Err-clause-takes : goal.returns-in-Err-clause-takes
 returns-in-Err-clause-takes c = λ arrivals h.
     answer_refused c.args.self.now c.args.self.now arrivals c.args.moment c.args.body.now c.in-Err.fault c.rolled_by-window.result.window (c.rolled_by-window.ensures.rolls arrivals h)
     (subst (λ (s : Setting). IsRefused (schedule_from s.table s.zone c.rolled_by-window.result.window) c.args.body.now c.in-Err.fault)
-    (ap (λ (k : Kept). k.setting) c.self.view_is) c.in-Err.ensures.refuses)
+    (ap (λ (k : Kept). k.setting) c.self.view_is) (rw c.context_over-context.ensures at c.in-Err.ensures.refuses))
 
 pub cut_front-requires : goal.cut_front-requires
 cut_front-requires c = record {
@@ -62,7 +62,7 @@ returns-clause-takes c = λ arrivals h.
     TakesBody (schedule_from s.table s.zone c.rolled_by-window.result.window) (admitted_situations arrivals) c.args.body.now
     (map situation_seen (put_all (slice_cmp nat_cmp) c.self.inside.situations.entries c.in-Ok.made.batch)) c.in-Ok.made.accepted.report)
     (ap (λ (k : Kept). k.setting) c.self.view_is)
-    (c.in-Ok.ensures.takes (admitted_situations arrivals)
+    ((rw c.context_over-context.ensures at c.in-Ok.ensures.takes) (admitted_situations arrivals)
     (subst (λ (k : Kept). KeepsSituations (seen k.setting.table) (admitted_situations arrivals) k.situations) (sym c.self.view_is) h.situations_are)))
     (ap (λ (k : Kept). k.setting) c.self.view_is) refl
     (subst
