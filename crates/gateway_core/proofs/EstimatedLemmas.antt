@@ -20,7 +20,7 @@ use Rattle.service_day.specs.declared.moments.Instant.{Instant}
 use Rattle.feed_index.specs.Entries.{put_all}
 use Rattle.feed_index.specs.declared.entry.Entry.{Entry}
 use Rattle.gateway_core.specs.Arrivals.{Arrival, admitted, is_within, moments_of, schedule_at, window_at}
-use Rattle.gateway_core.specs.Deliveries.{taken}
+use Rattle.gateway_core.specs.Deliveries.{schedule_over, taken}
 use Rattle.feed_index.specs.Drafts.{Drafted, after}
 use Rattle.gateway_core.specs.JourneySteps.{GathersJourneys, MakesJourneys, RefusesJourneys, key_order, seen_after}
 use Rattle.gateway_core.specs.Standing.{JourneyEntry, Kept, KeepsJourneys, Stands, journey_seen}
@@ -112,7 +112,7 @@ module _ (old now : Kept) (arrivals : List Arrival) (moment : ℤ) (body : List 
 
   -- the context of a window that rolled
   module _ (setting : Setting) (window : DayStarts) (setting_is : setting ≡ old.setting) (rolls : window ≡ window_at old.setting (moment ∷ moments_of arrivals)) where
-    same : schedule_from setting.table setting.zone window ≡ schedule_at old.setting (moment ∷ moments_of arrivals)
+    same : schedule_over setting window ≡ schedule_at old.setting (moment ∷ moments_of arrivals)
     same = λ i. schedule_from ((setting_is i).table) ((setting_is i).zone) (rolls i)
 
     pub journeys_accepted : (accepted : Accepted) (entries batch : List (Entry JourneyKey Instant)) (gone : ℕ) → Stands old arrivals
@@ -120,8 +120,8 @@ module _ (old now : Kept) (arrivals : List Arrival) (moment : ℤ) (body : List 
         → KeepsJourneys (schedule_at old.setting (moment ∷ moments_of arrivals))
         (filter (is_within (window_at old.setting (moment ∷ moments_of arrivals))) (admitted old.setting arrivals)) (drop gone old.journeys)
         → ((before : List Recorded)
-        → KeepsJourneys (schedule_from setting.table setting.zone window) (filter (is_within window) before) (map journey_seen (drop gone entries))
-        → MakesJourneys (schedule_from setting.table setting.zone window) before body accepted.report (map journey_seen (put_all key_order (drop gone entries) batch)))
+        → KeepsJourneys (schedule_over setting window) (filter (is_within window) before) (map journey_seen (drop gone entries))
+        → MakesJourneys (schedule_over setting window) before body accepted.report (map journey_seen (put_all key_order (drop gone entries) batch)))
         → now.setting ≡ setting → now.window ≡ window → now.journeys ≡ map journey_seen (put_all key_order (drop gone entries) batch)
         → now.situations ≡ old.situations → now.text ≡ old.text
         → JourneysAnswer old arrivals moment body (Ok accepted) now
@@ -130,12 +130,12 @@ module _ (old now : Kept) (arrivals : List Arrival) (moment : ℤ) (body : List 
         (subst (λ (es : List JourneyEntry). MakesJourneys (schedule_at old.setting (moment ∷ moments_of arrivals)) (admitted old.setting arrivals) body accepted.report es) (sym journeys_now)
         (subst (λ (s : Schedule). MakesJourneys s (admitted old.setting arrivals) body accepted.report (map journey_seen (put_all key_order (drop gone entries) batch))) same
         (makes (admitted old.setting arrivals)
-        (subst (λ (es : List JourneyEntry). KeepsJourneys (schedule_from setting.table setting.zone window) (filter (is_within window) (admitted old.setting arrivals)) es)
+        (subst (λ (es : List JourneyEntry). KeepsJourneys (schedule_over setting window) (filter (is_within window) (admitted old.setting arrivals)) es)
         (ap (drop gone) seen_is ∙ journeys_drop entries gone)
         (subst (λ (s : Schedule). KeepsJourneys s (filter (is_within s.window) (admitted old.setting arrivals)) (drop gone old.journeys)) (sym same) keeps)))))
         (setting_now ∙ setting_is) (window_now ∙ rolls) alerts text
 
-    pub journeys_not_accepted : (fault : DeliveryFault) → RefusesJourneys (schedule_from setting.table setting.zone window) body fault
+    pub journeys_not_accepted : (fault : DeliveryFault) → RefusesJourneys (schedule_over setting window) body fault
         → JourneysAnswer old arrivals moment body (Err fault) now
     journeys_not_accepted NotJson refuses = refuses
     journeys_not_accepted (NotDelivery member) refuses = (refuses.0, refuses.1, ap (λ (s : Schedule). verdicts s refuses.0) (sym same) ∙ refuses.2)

@@ -5,10 +5,11 @@ use Rattle.gw_base.specs.declared.messages.Feed.{Feed}
 use Rattle.feed_reading.specs.Faults.{IsTold}
 use Rattle.feed_reading.specs.declared.fault.FeedFault as faults
 use Rattle.feed_reading.specs.declared.fault.FeedFault.TheVariants as fault
-use Rattle.journey_model.specs.Schedules.{Schedule, schedule_from}
+use Rattle.journey_model.specs.Schedules.{Schedule}
 use Rattle.service_day.specs.Windows.{DayStarts}
 use Rattle.gateway_core.specs.Arrivals.{Arrival, admitted, is_within, moments_of, schedule_at, window_at}
-use Rattle.gateway_core.specs.Arriving.{Arriving, StandsFor, schedule_over}
+use Rattle.gateway_core.specs.Arriving.{Arriving, StandsFor}
+use Rattle.gateway_core.specs.Deliveries.{schedule_over}
 use Rattle.gateway_core.specs.FeedTexts.{IsEnded, IsFeed, IsRefusedFeed, SaysFeed, of_bytes}
 use Rattle.gateway_core.specs.Standing.{Kept, KeepsJourneys, Stands}
 use Rattle.gateway_core.specs.Taking.{FeedAnswer}
@@ -71,7 +72,7 @@ parts_refused setting inside taking part bytes one is same stands refuses =
 
 pub answer_taken : (old now : Kept) (arrivals : List Arrival) (moment : ℤ) (body text : List ℕ) (accepted : Accepted) (window : DayStarts) → Stands old arrivals
     → window ≡ window_at old.setting (moment ∷ moments_of arrivals)
-    → SaysFeed (schedule_from old.setting.table old.setting.zone window) moment body text accepted.report
+    → SaysFeed (schedule_over old.setting window) moment body text accepted.report
     → now.setting ≡ old.setting → now.window ≡ window
     → KeepsJourneys (schedule_at old.setting (moment ∷ moments_of arrivals)) (filter (is_within (window_at old.setting (moment ∷ moments_of arrivals))) (admitted old.setting arrivals)) now.journeys
     → now.situations ≡ old.situations → text ≡ now.text
@@ -79,7 +80,7 @@ pub answer_taken : (old now : Kept) (arrivals : List Arrival) (moment : ℤ) (bo
 answer_taken old now arrivals moment body text accepted window h rolls says setting own keeps alerts same =
     let t : SaysFeed (schedule_at old.setting (moment ∷ moments_of arrivals)) moment body now.text accepted.report =
     subst (λ (last : List ℕ). SaysFeed (schedule_at old.setting (moment ∷ moments_of arrivals)) moment body last accepted.report) same
-    (subst (λ (w : DayStarts). SaysFeed (schedule_from old.setting.table old.setting.zone w) moment body text accepted.report) rolls says) in (
+    (subst (λ (w : DayStarts). SaysFeed (schedule_over old.setting w) moment body text accepted.report) rolls says) in (
       t.given,
       record { means = t.is_feed.means; faultless = t.is_feed.faultless; full = t.full; text = now.text; siri = t.siri },
       record { setting_is = setting; stands = stands_feed old now arrivals moment t.given accepted.report h setting (own ∙ rolls) keeps alerts t.siri },
@@ -87,10 +88,10 @@ answer_taken old now arrivals moment body text accepted window h rolls says sett
 
 pub answer_refused : (old now : Kept) (arrivals : List Arrival) (moment : ℤ) (body : List ℕ) (one : FeedRefusal) (window : DayStarts)
     → window ≡ window_at old.setting (moment ∷ moments_of arrivals)
-    → IsRefusedFeed (schedule_from old.setting.table old.setting.zone window) body one
+    → IsRefusedFeed (schedule_over old.setting window) body one
     → FeedAnswer old arrivals moment body (Err one) now
 answer_refused old now arrivals moment body one window rolls refused =
-    by one (subst (λ (w : DayStarts). IsRefusedFeed (schedule_from old.setting.table old.setting.zone w) body one) rolls refused)
+    by one (subst (λ (w : DayStarts). IsRefusedFeed (schedule_over old.setting w) body one) rolls refused)
   where
     by : (last : FeedRefusal) → IsRefusedFeed (schedule_at old.setting (moment ∷ moments_of arrivals)) body last → FeedAnswer old arrivals moment body (Err last) now
     by (refusal.Feed told) h = h

@@ -1,5 +1,4 @@
 -- Of the same records and situations, in any two orders of arrival, the same is rebuilt.
-use Rattle.journey_model.specs.Schedules.{schedule_from}
 use Rattle.std.proofs.Common.{◌≡◌, ◌∙◌, ◌++◌, ◌∷◌, ◌≤◌, [], ℕ, ℤ, Bool, true, false, List, ap, sym, refl, subst, arith}
 use Rattle.std.proofs.lemmas.Bool.{or_left}
 use Rattle.std.proofs.lemmas.Int.{ints}
@@ -23,6 +22,7 @@ use Rattle.gateway_core.proofs.OneLemmas.{one_rebuilt}
 use Rattle.gateway_core.proofs.RecordingLemmas.{admit_each, any_turned, back_turned, in_filter, latest_turned}
 use Rattle.gateway_core.proofs.StandingLemmas.{journeys_by_key, numbers_by_key}
 use Rattle.gateway_core.proofs.WinnerLemmas.{journeys, numbers}
+use Rattle.gateway_core.specs.Deliveries.{schedule_over}
 
 -- ---- all are admitted
 
@@ -110,7 +110,7 @@ rebuilt_alike setting arrivals others at feed same decided h = record {
       (find (has_number number) h.numbered)
       (subst (λ (all : List Situation). HasNewest all number (find (has_number number) h.numbered)) numbers_these (h.newest number)));
   is_feed =
-      subst (λ (window : DayStarts). IsFeedOf at (entities_of (schedule_from setting.table setting.zone window) h.ordered h.numbered) feed) same.windows h.is_feed;
+      subst (λ (window : DayStarts). IsFeedOf at (entities_of (schedule_over setting window) h.ordered h.numbered) feed) same.windows h.is_feed;
 }
   where
     within : Recorded → Bool

@@ -3,7 +3,7 @@ use Rattle.std.proofs.Common.{◌≡◌, ◌∙◌, ◌∷◌, [], ℕ, ℤ, Boo
 use Rattle.std.specs.Prelude.{filter, if◌then◌else◌, nat_le}
 use Rattle.std.specs.List.{AllByRecursion}
 use Rattle.gw_base.specs.declared.member.Member.{Member}
-use Rattle.journey_model.specs.Schedules.{Schedule, schedule_from}
+use Rattle.journey_model.specs.Schedules.{Schedule}
 use Rattle.journey_model.specs.Situations.{AreKnown}
 use Rattle.journey_model.specs.declared.fault.Fault.{Fault}
 use Rattle.journey_model.specs.declared.fault.Fault.TheVariants.{EntityTooLong}
@@ -23,7 +23,7 @@ use Rattle.stop_schedule.specs.Seen.{seen}
 use Rattle.stop_schedule.specs.Table.{Table}
 use Rattle.gateway_core.specs.Alerts.{alert_len}
 use Rattle.gateway_core.specs.Arrivals.{Arrival, admitted, admitted_situations, is_within, moments_of, schedule_at, window_at}
-use Rattle.gateway_core.specs.Deliveries.{taken}
+use Rattle.gateway_core.specs.Deliveries.{schedule_over, taken}
 use Rattle.gateway_core.specs.SituationSteps.{GathersSituations, IsRefused, TakesBody, item_verdict}
 use Rattle.gateway_core.specs.Standing.{Kept, KeepsJourneys, SituationEntry, Stands}
 use Rattle.gateway_core.specs.Taking.{SituationsAnswer, limited_verdict, limited_verdicts}
@@ -79,7 +79,7 @@ takes_body schedule before body delivery entries report reads known gathers = by
 
 pub answer_taken : (old now : Kept) (arrivals : List Arrival) (moment : ℤ) (body : List ℕ) (accepted : Accepted) (window : DayStarts) (entries : List SituationEntry) → Stands old arrivals
     → window ≡ window_at old.setting (moment ∷ moments_of arrivals)
-    → TakesBody (schedule_from old.setting.table old.setting.zone window) (admitted_situations arrivals) body entries accepted.report
+    → TakesBody (schedule_over old.setting window) (admitted_situations arrivals) body entries accepted.report
     → now.setting ≡ old.setting → now.window ≡ window
     → KeepsJourneys (schedule_at old.setting (moment ∷ moments_of arrivals)) (filter (is_within (window_at old.setting (moment ∷ moments_of arrivals))) (admitted old.setting arrivals)) now.journeys
     → entries ≡ now.situations → now.text ≡ old.text
@@ -87,7 +87,7 @@ pub answer_taken : (old now : Kept) (arrivals : List Arrival) (moment : ℤ) (bo
 answer_taken old now arrivals moment body accepted window entries h rolls takes setting own keeps same text =
     let t : TakesBody (schedule_at old.setting (moment ∷ moments_of arrivals)) (admitted_situations arrivals) body now.situations accepted.report =
     subst (λ (es : List SituationEntry). TakesBody (schedule_at old.setting (moment ∷ moments_of arrivals)) (admitted_situations arrivals) body es accepted.report) same
-    (subst (λ (w : DayStarts). TakesBody (schedule_from old.setting.table old.setting.zone w) (admitted_situations arrivals) body entries accepted.report) rolls takes) in (
+    (subst (λ (w : DayStarts). TakesBody (schedule_over old.setting w) (admitted_situations arrivals) body entries accepted.report) rolls takes) in (
       taken (limited_verdicts (seen old.setting.table) t.all),
       record { root = t.root; is_tree = t.is_tree; all = t.all; judged = t.verdicts_are; given_are = refl; report_is = t.gathers.report_is },
       record {
@@ -99,10 +99,10 @@ answer_taken old now arrivals moment body accepted window entries h rolls takes 
 
 pub answer_refused : (old now : Kept) (arrivals : List Arrival) (moment : ℤ) (body : List ℕ) (fault : DeliveryFault) (window : DayStarts)
     → window ≡ window_at old.setting (moment ∷ moments_of arrivals)
-    → IsRefused (schedule_from old.setting.table old.setting.zone window) body fault
+    → IsRefused (schedule_over old.setting window) body fault
     → SituationsAnswer old arrivals moment body (Err fault) now
 answer_refused old now arrivals moment body fault window rolls refused =
-    by fault (subst (λ (w : DayStarts). IsRefused (schedule_from old.setting.table old.setting.zone w) body fault) rolls refused)
+    by fault (subst (λ (w : DayStarts). IsRefused (schedule_over old.setting w) body fault) rolls refused)
   where
     by : (one : DeliveryFault) → IsRefused (schedule_at old.setting (moment ∷ moments_of arrivals)) body one → SituationsAnswer old arrivals moment body (Err one) now
     by NotJson h = h

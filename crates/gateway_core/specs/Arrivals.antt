@@ -8,11 +8,12 @@ use Rattle.service_day.specs.Starts.{local_day, start}
 use Rattle.service_day.specs.Windows.{DayStarts, start_in}
 use Rattle.service_day.specs.declared.zones.Rules.{Rules}
 use Rattle.journey_model.specs.Records.{Recorded}
-use Rattle.journey_model.specs.Schedules.{IsServable, Schedule, schedule_from}
+use Rattle.journey_model.specs.Schedules.{IsServable, Schedule}
 use Rattle.journey_model.specs.Situations.{AreKnown}
 use Rattle.journey_model.specs.declared.situation.Situation.{Situation}
 use Rattle.latest_store.specs.Latest.{has_number, is_of}
 use Rattle.gateway_core.specs.declared.setting.Setting.{Setting}
+use Rattle.gateway_core.specs.Deliveries.{schedule_over}
 
 -- what a body gives that was taken: a delivery its records or its situations in their order, a feed what it says
 pub data Given : Type 0 where
@@ -73,7 +74,7 @@ window_at setting moments = window_from setting.zone (first_day setting moments)
 
 abbrev pub schedule_at : Setting → List ℤ → Schedule
 schedule_at setting moments =
-    schedule_from setting.table setting.zone (window_at setting moments)
+    schedule_over setting (window_at setting moments)
 
 -- ---- what is admitted: at most so many keys
 

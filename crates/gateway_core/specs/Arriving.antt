@@ -2,10 +2,11 @@
 use Rattle.std.specs.Prelude.{ℕ, ℤ, List}
 use Rattle.gw_base.specs.declared.messages.Entity.{Entity}
 use Rattle.feed_reading.specs.FeedPieces as pieces
-use Rattle.journey_model.specs.Schedules.{Schedule, schedule_from}
+use Rattle.journey_model.specs.Schedules.{Schedule}
 use Rattle.propagation.specs.Folding as folding
 use Rattle.service_day.specs.Windows.{DayStarts}
 use Rattle.gateway_core.specs.declared.setting.Setting.{Setting}
+use Rattle.gateway_core.specs.Deliveries.{schedule_over}
 
 -- a feed that arrives, as contracts see it: the moment at which it began to, the window of that moment, what is read of
 -- its bytes, and what its entities say
@@ -20,10 +21,6 @@ pub record Reads (schedule : Schedule) (reader : pieces.Seen) (fold : folding.Fo
   pub given : List Entity
   pub read : pieces.StandsFor reader bytes given
   pub folded : folding.StandsFor schedule fold given
-
--- what a feed's journeys are read over
-abbrev pub schedule_over : Setting → DayStarts → Schedule
-schedule_over setting window = schedule_from setting.table setting.zone window
 
 -- a feed that arrives stands for these bytes under a setting
 abbrev pub StandsFor : Setting → Arriving → List ℕ → Type 0

@@ -22,8 +22,7 @@ pub struct Setting {
 
 impl Setting {
     ghost use Rattle.std.specs.Prelude.{◌≡◌};
-    ghost use Rattle.journey_model.specs.Schedules.{schedule_from};
-    ghost use Rattle.gateway_core.specs.Deliveries.{schedule_in};
+    ghost use Rattle.gateway_core.specs.Deliveries.{schedule_in, schedule_over};
 
     /// The same, lent: the window is one of the context's zone.
     pub fn context(&self) -> Context<'_>
@@ -35,7 +34,7 @@ impl Setting {
 
     // The same over another window, lent.
     pub(crate) fn context_over<'a>(&'a self, window: &'a Window) -> Context<'a>
-        ensures { result ≡ schedule_from self.now.table self.now.zone window.now }
+        ensures { result ≡ schedule_over self.now window.now }
     {
         Context {
             table: &self.table,

@@ -1,5 +1,5 @@
 use Rattle.std.proofs.Common.{[]}
-use Rattle.gateway_core.specs.Arriving.{schedule_over}
+use Rattle.gateway_core.specs.Deliveries.{schedule_over}
 use Rattle.gateway_core.proofs.gateway.Gateway.begin_feed.Goals as goal
 
 pub returns-clause-stands : goal.returns-clause-stands

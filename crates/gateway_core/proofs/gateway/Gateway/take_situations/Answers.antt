@@ -1,5 +1,4 @@
 -- What is put among the alerts, what is left of the journeys, and the window are those of one arrival more; a refusal is that of the read.
-use Rattle.journey_model.specs.Schedules.{schedule_from}
 use Rattle.std.proofs.Common.{◌≡◌, ◌∙◌, ◌∷◌, ◌≤◌, ℕ, List, ap, arith, drop, length, map, refl, subst, sym}
 use Rattle.std.specs.Prelude.{filter}
 use Rattle.std.specs.Cmp.Lexicographic.{slice_cmp}
@@ -16,11 +15,12 @@ use Rattle.gateway_core.specs.declared.setting.Setting.{Setting}
 use Rattle.gateway_core.proofs.SeenLemmas.{journeys_drop, journeys_long}
 use Rattle.gateway_core.proofs.SituationAnswers.{answer_refused, answer_taken}
 use Rattle.gateway_core.proofs.gateway.Gateway.take_situations.Goals as goal
+use Rattle.gateway_core.specs.Deliveries.{schedule_over}
 
 pub returns-in-Err-clause-takes : goal.returns-in-Err-clause-takes
 returns-in-Err-clause-takes c = λ arrivals h.
     answer_refused c.args.self.now c.args.self.now arrivals c.args.moment c.args.body.now c.in-Err.fault c.rolled_by-window.result.window (c.rolled_by-window.ensures.rolls arrivals h)
-    (subst (λ (s : Setting). IsRefused (schedule_from s.table s.zone c.rolled_by-window.result.window) c.args.body.now c.in-Err.fault)
+    (subst (λ (s : Setting). IsRefused (schedule_over s c.rolled_by-window.result.window) c.args.body.now c.in-Err.fault)
     (ap (λ (k : Kept). k.setting) c.self.view_is) (rw c.context_over-context.ensures at c.in-Err.ensures.refuses))
 
 pub cut_front-requires : goal.cut_front-requires
@@ -59,7 +59,7 @@ returns-clause-takes c = λ arrivals h.
     (map situation_seen (put_all (slice_cmp nat_cmp) c.self.inside.situations.entries c.in-Ok.made.batch)) h (c.rolled_by-window.ensures.rolls arrivals h)
     (subst
     (λ (s : Setting).
-    TakesBody (schedule_from s.table s.zone c.rolled_by-window.result.window) (admitted_situations arrivals) c.args.body.now
+    TakesBody (schedule_over s c.rolled_by-window.result.window) (admitted_situations arrivals) c.args.body.now
     (map situation_seen (put_all (slice_cmp nat_cmp) c.self.inside.situations.entries c.in-Ok.made.batch)) c.in-Ok.made.accepted.report)
     (ap (λ (k : Kept). k.setting) c.self.view_is)
     ((rw c.context_over-context.ensures at c.in-Ok.ensures.takes) (admitted_situations arrivals)
