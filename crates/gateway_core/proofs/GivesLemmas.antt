@@ -17,7 +17,7 @@ use Rattle.feed_reading.specs.Tables.{full_dataset}
 use Rattle.stop_schedule.specs.Table.{Table}
 use Rattle.stop_schedule.specs.declared.stop_times.StopRow.{StopRow}
 use Rattle.journey_model.specs.FeedReadings.{entity_said, given, last_reading, nothing_known, or_nothing}
-use Rattle.journey_model.specs.Readings.{are_near, fits_trip}
+use Rattle.journey_model.specs.Readings.{are_near, fits_trip, is_absent}
 use Rattle.journey_model.specs.Records.{Recorded}
 use Rattle.journey_model.specs.Runs.{Run}
 use Rattle.journey_model.specs.Schedules.{IsServable, Schedule, run_from}
@@ -27,7 +27,7 @@ use Rattle.journey_model.specs.declared.readings.JourneyReading.TheVariants.{Can
 use Rattle.journey_model.specs.declared.readings.StopReading.{StopReading}
 use Rattle.journey_model.specs.declared.readings.StopReading.TheVariants.{Absent, Skipped, Timed}
 use Rattle.journey_model.specs.declared.situation.Situation.{Situation}
-use Rattle.latest_store.specs.Entities.{is_absent, is_silent, messages}
+use Rattle.latest_store.specs.Entities.{is_silent, messages}
 use Rattle.latest_store.specs.Latest.{is_of, was_later}
 use Rattle.latest_store.specs.Reads.{SaysItself, dated_reading}
 use Rattle.latest_store.proofs.EntityLemmas.{messages_none, messages_one}

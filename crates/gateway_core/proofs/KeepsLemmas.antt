@@ -10,6 +10,7 @@ use Rattle.std.specs.List.{AllByRecursion, list_all, list_any}
 use Rattle.std.specs.Ordering.{is_eq, is_gt, is_lt}
 use Rattle.std.specs.Result.{result_ok}
 use Rattle.std.specs.declared.cmp.Ordering.{Ordering}
+use Rattle.feed_index.specs.Order.{above, below, with_one}
 use Rattle.gw_base.proofs.Elements.{all_append, all_filter}
 use Rattle.journey_model.specs.declared.fault.Fault.{Fault}
 use Rattle.journey_model.specs.declared.fault.Fault.TheVariants.{Full}
@@ -17,7 +18,7 @@ use Rattle.latest_store.specs.Latest.{HasLatestOf}
 use Rattle.gateway_core.specs.Arrivals.{has_room}
 use Rattle.gateway_core.specs.Deliveries.{taken}
 use Rattle.gateway_core.specs.Feeds.{are_ordered_by}
-use Rattle.gateway_core.specs.Keeping.{AreLatest, Keeps, above, at_key, below, with_one}
+use Rattle.gateway_core.specs.Keeping.{AreLatest, Keeps, at_key}
 use Rattle.gateway_core.specs.Taking.{with_room}
 use Rattle.gateway_core.specs.Winners.{IsKeyed, counts_by}
 use Rattle.gateway_core.proofs.HeldLemmas.{all_among}

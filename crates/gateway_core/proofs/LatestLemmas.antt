@@ -9,8 +9,9 @@ use Rattle.std.specs.List.{list_all, list_any}
 use Rattle.std.specs.Ordering.{is_eq, is_lt}
 use Rattle.std.specs.declared.cmp.Ordering.{Ordering}
 use Rattle.std.specs.declared.cmp.Ordering.TheVariants.{Less, Equal, Greater}
+use Rattle.feed_index.specs.Order.{with_one}
 use Rattle.gw_base.proofs.Elements.{all_filter}
-use Rattle.gateway_core.specs.Keeping.{AreLatest, with_one}
+use Rattle.gateway_core.specs.Keeping.{AreLatest}
 use Rattle.latest_store.specs.Latest.{HasLatestOf}
 use Rattle.gateway_core.specs.Winners.{IsKeyed, counts_by}
 use Rattle.gateway_core.specs.Feeds.{are_ordered_by}

@@ -8,8 +8,8 @@ use Rattle.std.specs.Option.{option_or}
 use Rattle.std.specs.Ordering.{is_eq, is_gt, is_lt, ordering_reverse}
 use Rattle.std.specs.declared.cmp.Ordering.{Ordering}
 use Rattle.std.specs.declared.cmp.Ordering.TheVariants.{Less, Equal, Greater}
+use Rattle.feed_index.specs.Order.{above, below, with_one}
 use Rattle.gateway_core.specs.Winners.{IsKeyed}
-use Rattle.gateway_core.specs.Keeping.{above, below, with_one}
 use Rattle.gateway_core.specs.Feeds.{are_ordered_by}
 
 -- ---- what passes a test

@@ -22,7 +22,7 @@ use Rattle.stop_schedule.specs.Table.{Table}
 use Rattle.gateway_core.specs.Alerts.{alert_len}
 use Rattle.gateway_core.specs.Arrivals.{always, has_room, is_same_number}
 use Rattle.gateway_core.specs.Reports.{aside_from}
-use Rattle.gateway_core.specs.SituationSteps.{GathersSituations, GathersVerdicts, IsVerdictServed, after_situation, item_verdict, situation_fault, situation_verdict, verdict_fault, verdict_step, with_alert}
+use Rattle.gateway_core.specs.SituationSteps.{GathersSituations, GathersVerdicts, IsVerdictServed, after_situation, item_verdict, situation_verdict, verdict_fault, verdict_step, with_alert}
 use Rattle.gateway_core.specs.Standing.{KeepsSituations, SituationEntry, situation_entry, situation_seen}
 use Rattle.gateway_core.specs.Steps.{SituationsAfter, situation_counts, situation_fits, situation_kept, with_situation}
 use Rattle.gateway_core.specs.Taking.{limited_verdict, situations_with_room, with_room}
@@ -32,6 +32,7 @@ use Rattle.gateway_core.proofs.ReportLemmas.{taken_or_aside}
 use Rattle.gateway_core.proofs.RollLemmas.{filter_all}
 use Rattle.gateway_core.proofs.SeenLemmas.{situation_counts_found, situation_counts_new, situation_fits_found, situation_fits_new}
 use Rattle.gateway_core.proofs.StepLemmas.{situation_aside, situation_full, situation_lost, situation_verdict_full, situation_verdict_taken, situation_won}
+use Rattle.gateway_core.specs.JourneySteps.{room_fault}
 
 -- ---- what an index keeps, as it is seen
 
@@ -99,7 +100,7 @@ module _ (table : Table) (before : List Situation) (so_far : List (Result Situat
     where
       by : (fits : Bool) → situation_fits entries one ≡ fits → (counts : Bool) → situation_counts (situation_kept entries one) one ≡ counts
           → GathersVerdicts table before (so_far ++ Ok one ∷ []) (after_situation table entries one (if fits then Some counts else None))
-          (aside ++ aside_from (length so_far) (situation_fault (if fits then Some counts else None) ∷ []))
+          (aside ++ aside_from (length so_far) (room_fault (if fits then Some counts else None) ∷ []))
       by false e counts k =
           left_aside (Ok one) (Err Full) entries (situation_full table before so_far entries h.entries_are one e) (situation_verdict_full table before so_far entries h.entries_are one e)
       by true e true k =

@@ -56,10 +56,10 @@ IsPut schedule one None = ⊤
 IsPut schedule one (Some false) = ⊤
 IsPut schedule one (Some true) = IsServed schedule one
 
--- why a record isn't taken
-abbrev pub verdict_fault : Option Bool → Option Fault
-verdict_fault None = Some Full
-verdict_fault (Some counts) = None
+-- why a record isn't taken, and a situation: there is no room for it
+abbrev pub room_fault : Option Bool → Option Fault
+room_fault None = Some Full
+room_fault (Some counts) = None
 
 -- what is kept after an item, and why it is set aside, if it is
 abbrev pub item_step : Schedule → List JourneyEntry → Item JourneyRecord → List JourneyEntry
@@ -68,7 +68,7 @@ item_step schedule entries (Taken one) =
 item_step schedule entries (Aside fault) = entries
 
 abbrev pub item_fault : List JourneyEntry → Item JourneyRecord → Option Fault
-item_fault entries (Taken one) = verdict_fault (journey_verdict entries (recorded one))
+item_fault entries (Taken one) = room_fault (journey_verdict entries (recorded one))
 item_fault entries (Aside fault) = Some fault
 
 abbrev pub IsItemPut : Schedule → List JourneyEntry → Item JourneyRecord → Type 0

@@ -1,7 +1,7 @@
 -- Of each key the latest, in the order of the keys, and lists of elements with keys.
-use Rattle.std.specs.Prelude.{◌≡◌, Bool, true, List, ◌∷◌, ◌++◌, filter, find, fold, map, Option}
+use Rattle.std.specs.Prelude.{◌≡◌, Bool, true, List, find, map, Option}
 use Rattle.std.specs.List.{AllByRecursion}
-use Rattle.std.specs.Ordering.{is_eq, is_gt, is_lt}
+use Rattle.std.specs.Ordering.{is_eq}
 use Rattle.std.specs.declared.cmp.Ordering.{Ordering}
 use Rattle.latest_store.specs.Latest.{HasLatestOf}
 use Rattle.gateway_core.specs.Feeds.{are_ordered_by}
@@ -21,21 +21,6 @@ pub record Keeps {A Q E : Type 0} (is_its : Q → A → Bool) (is_later comes_be
   pub all_good : AllByRecursion good ordered
 
 module _ {K X : Type 0} (key_of : X → K) (cmp : K → K → Ordering) where
-  -- the elements of lesser keys, and those of greater ones
-  abbrev pub below : K → List X → List X
-  below key xs = filter (λ x. is_lt (cmp (key_of x) key)) xs
-
-  abbrev pub above : K → List X → List X
-  above key xs = filter (λ x. is_gt (cmp (key_of x) key)) xs
-
-  -- with this element at its key, and all others left
-  abbrev pub with_one : List X → X → List X
-  with_one xs one = below (key_of one) xs ++ one ∷ above (key_of one) xs
-
-  -- with these elements, one after the other
-  abbrev pub with_all : List X → List X → List X
-  with_all xs more = fold with_one xs more
-
   -- the element of a key, if there is one
   abbrev pub at_key : List X → K → Option X
   at_key xs key = find (λ one. is_eq (cmp (key_of one) key)) xs

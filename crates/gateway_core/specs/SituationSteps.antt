@@ -7,7 +7,6 @@ use Rattle.std.specs.Result.{result_err}
 use Rattle.journey_model.specs.Schedules.{Schedule}
 use Rattle.journey_model.specs.Situations.{AreKnown}
 use Rattle.journey_model.specs.declared.fault.Fault.{Fault}
-use Rattle.journey_model.specs.declared.fault.Fault.TheVariants.{Full}
 use Rattle.journey_model.specs.declared.report.Report.{Report}
 use Rattle.journey_model.specs.declared.situation.Situation.{Situation}
 use Rattle.serde_json.specs.Data.{Data}
@@ -25,6 +24,7 @@ use Rattle.gateway_core.specs.Standing.{IsAlertServed, SituationEntry, situation
 use Rattle.gateway_core.specs.Steps.{SituationsAfter, situation_counts, situation_fits, situation_kept, with_situation}
 use Rattle.gateway_core.specs.Taking.{limited_verdict, limited_verdicts, report_on, situations_with_room}
 use Rattle.gateway_core.specs.declared.keys.Edition.{Edition}
+use Rattle.gateway_core.specs.JourneySteps.{room_fault}
 
 -- what an index of situations will be, as contracts see it
 abbrev pub alerts_after : Drafted (List ℕ) Edition → List SituationEntry
@@ -39,14 +39,10 @@ situation_verdict entries one =
 abbrev pub with_alert : Table → List SituationEntry → Situation → List SituationEntry
 with_alert table entries one = with_situation entries (situation_entry table one)
 
--- what is kept after a situation that counts or doesn't, and why one without room isn't taken
+-- what is kept after a situation that counts or doesn't
 abbrev pub after_situation : Table → List SituationEntry → Situation → Option Bool → List SituationEntry
 after_situation table entries one None = entries
 after_situation table entries one (Some counts) = if counts then with_alert table entries one else entries
-
-abbrev pub situation_fault : Option Bool → Option Fault
-situation_fault None = Some Full
-situation_fault (Some counts) = None
 
 -- what is kept after a verdict, and why its item is set aside, if it is
 abbrev pub verdict_step : Table → List SituationEntry → Result Situation Fault → List SituationEntry
@@ -54,7 +50,7 @@ verdict_step table entries (Ok one) = after_situation table entries one (situati
 verdict_step table entries (Err fault) = entries
 
 abbrev pub verdict_fault : List SituationEntry → Result Situation Fault → Option Fault
-verdict_fault entries (Ok one) = situation_fault (situation_verdict entries one)
+verdict_fault entries (Ok one) = room_fault (situation_verdict entries one)
 verdict_fault entries (Err fault) = Some fault
 
 -- the verdicts on items, of which one is set aside that has too long an alert

@@ -2,6 +2,7 @@
 use Rattle.std.specs.Prelude.{◌||◌, Bool, true, not, nat_lt, filter, is_some, length, List, ◌++◌, Option, Some, None, Result}
 use Rattle.std.specs.Cmp.Lexicographic.{slice_cmp}
 use Rattle.std.specs.Ordering.{nat_cmp}
+use Rattle.feed_index.specs.Order.{with_one}
 use Rattle.journey_model.specs.Records.{Recorded}
 use Rattle.journey_model.specs.Schedules.{Schedule}
 use Rattle.journey_model.specs.declared.fault.Fault.{Fault}
@@ -10,7 +11,7 @@ use Rattle.stop_schedule.specs.Table.{Table}
 use Rattle.latest_store.specs.Latest.{is_later}
 use Rattle.gateway_core.specs.Arrivals.{always, is_within, most_journeys, most_numbers}
 use Rattle.gateway_core.specs.Deliveries.{taken}
-use Rattle.gateway_core.specs.Keeping.{at_key, with_one}
+use Rattle.gateway_core.specs.Keeping.{at_key}
 use Rattle.gateway_core.specs.Standing.{JourneyEntry, KeepsJourneys, KeepsSituations, SituationEntry}
 use Rattle.gateway_core.specs.Taking.{journeys_with_room, situations_with_room}
 use Rattle.gateway_core.specs.Winners.{key_cmp, key_of}

@@ -79,7 +79,7 @@ fn take_record(
 ) -> Result<Option<Fault>, AllocError>
     requires { IsServable context.now rec.trip.0 rec.day rec.reading }
     ensures same { draft.new.kept ≡ draft.old.kept }
-    ensures fault { IfOk result (λ fault. fault ≡ spec.verdict_fault
+    ensures fault { IfOk result (λ fault. fault ≡ spec.room_fault
         (spec.journey_verdict (spec.seen_after draft.old) (recorded rec))) }
     ensures entries { OnOk result (spec.seen_after draft.new
         ≡ spec.after_verdict context.now

@@ -8,6 +8,7 @@ ghost use Rattle.journey_model.specs.declared.situation.Situation as of_journeys
 ghost use Rattle.siri_situations.specs.Deliveries.{RefersToKnown, ReferToKnown};
 ghost use Rattle.stop_schedule.specs.Seen.{seen};
 ghost use Rattle.stop_schedule.specs.Table.{Table};
+ghost use Rattle.gateway_core.specs.JourneySteps.{room_fault};
 ghost use Rattle.gateway_core.specs.SituationSteps as spec;
 ghost use Rattle.gateway_core.specs.Standing.{KeepsSituations};
 ghost use Rattle.gateway_core.specs.Taking.{limited_verdict};
@@ -98,7 +99,7 @@ fn take_alert(
     draft: &mut SituationDraft<'_>,
 ) -> Result<Option<Fault>, AllocError>
     ensures same { draft.new.kept ≡ draft.old.kept }
-    ensures fault { IfOk result (λ fault. fault ≡ spec.situation_fault
+    ensures fault { IfOk result (λ fault. fault ≡ room_fault
         (spec.situation_verdict (spec.alerts_after draft.old) situation.now)) }
     ensures entries { (table : Table) → alert ≡ written (alert_message table situation.now)
         → OnOk result (spec.alerts_after draft.new

@@ -11,3 +11,8 @@ Err fault >>= next = Err fault
 abbrev pub unless_fault : {A E : Type 0} → Option E → A → Result A E
 unless_fault None value = Ok value
 unless_fault (Some fault) value = Err fault
+
+-- what is made of a value, or its fault
+abbrev pub ok_map : {A B E : Type 0} → (A → B) → Result A E → Result B E
+ok_map make (Ok value) = Ok (make value)
+ok_map make (Err fault) = Err fault

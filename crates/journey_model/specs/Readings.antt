@@ -9,6 +9,17 @@ use Rattle.journey_model.specs.declared.readings.StopReading.TheVariants.{Absent
 use Rattle.journey_model.specs.declared.readings.JourneyReading.{JourneyReading}
 use Rattle.journey_model.specs.declared.readings.JourneyReading.TheVariants.{Cancelled, Stops}
 
+-- the stop is skipped, or nothing is known of it
+abbrev pub is_skipped : StopReading → Bool
+is_skipped Absent = false
+is_skipped Skipped = true
+is_skipped (Timed arrival departure) = false
+
+abbrev pub is_absent : StopReading → Bool
+is_absent Absent = true
+is_absent Skipped = false
+is_absent (Timed arrival departure) = false
+
 -- the times of a stop are at most a week from the planned ones
 abbrev pub is_near : ℤ × ℤ → StopReading → Bool
 is_near planned Absent = true

@@ -1,5 +1,5 @@
 -- The entity of a record (GTFS Realtime reference, FeedEntity, TripUpdate, TripDescriptor).
-use Rattle.std.specs.Prelude.{ℕ, ℤ, pos, Bool, true, false, List, [], ◌∷◌, ◌++◌, codes, unsigned_abs, Option, Some, None, if◌then◌else◌}
+use Rattle.std.specs.Prelude.{ℕ, ℤ, pos, Bool, false, List, [], ◌∷◌, ◌++◌, codes, unsigned_abs, Option, Some, None, if◌then◌else◌}
 use Rattle.std.specs.List.{flat_map, list_all}
 use Rattle.gw_base.specs.declared.messages.Entity.{Entity}
 use Rattle.gw_base.specs.declared.messages.TripDescriptor.{TripDescriptor}
@@ -12,8 +12,7 @@ use Rattle.journey_model.specs.Runs.{Run}
 use Rattle.journey_model.specs.Schedules.{Schedule, run_on}
 use Rattle.journey_model.specs.declared.readings.JourneyReading.{JourneyReading}
 use Rattle.journey_model.specs.declared.readings.JourneyReading.TheVariants.{Cancelled, Stops}
-use Rattle.journey_model.specs.declared.readings.StopReading.{StopReading}
-use Rattle.journey_model.specs.declared.readings.StopReading.TheVariants.{Absent, Skipped, Timed}
+use Rattle.journey_model.specs.Readings.{is_absent}
 
 -- the id of a journey's entity: the service day and the trip, joined by a colon
 abbrev pub journey_id : List ℕ → List ℕ → List ℕ
@@ -41,12 +40,6 @@ message trip_id run one = record {
   });
   alert = None;
 }
-
--- nothing is known of a stop
-abbrev pub is_absent : StopReading → Bool
-is_absent Absent = true
-is_absent Skipped = false
-is_absent (Timed arrival departure) = false
 
 -- nothing is known of any stop of a journey: it has no entity. A cancelled journey has one even where it has no stops
 abbrev pub is_silent : JourneyReading → Bool

@@ -1,6 +1,7 @@
 //! The entity of a record. The functions meet `specs/Entities.antt`.
 ghost use Rattle.std.specs.Prelude.{◌≡◌, IfOk};
 ghost use Rattle.std.specs.List.{list_all};
+ghost use Rattle.journey_model.specs.Readings.{is_absent};
 ghost use Rattle.latest_store.specs.Entities as spec;
 
 use gw_base::trip_relation::{CANCELED, SCHEDULED};
@@ -49,14 +50,14 @@ pub(crate) fn descriptor(
 
 // Whether nothing is known of a stop.
 fn is_absent(reading: &StopReading) -> bool
-    ensures { result ≡ spec.is_absent reading.now }
+    ensures { result ≡ is_absent reading.now }
 {
     matches!(reading, StopReading::Absent)
 }
 
 // Whether that holds of each stop.
 fn all_absent(readings: &[StopReading]) -> bool
-    ensures { result ≡ list_all spec.is_absent readings.now }
+    ensures { result ≡ list_all is_absent readings.now }
 {
     readings.iter().all(|reading| is_absent(reading))
 }

@@ -3,9 +3,10 @@ use Rattle.std.proofs.Common.{◌≡◌, ◌∙◌, ◌++◌, ◌+◌, ◌≤◌
 use Rattle.std.proofs.lemmas.List.Sums.{count_by-le-length, sum_by-append}
 use Rattle.std.specs.Prelude.{cond}
 use Rattle.journey_model.specs.declared.readings.StopReading.{StopReading}
+use Rattle.journey_model.specs.Readings.{is_absent, is_skipped}
 use Rattle.sample_maker.proofs.ListLemmas.{all_below-0, all_below-next}
 use Rattle.sample_maker.specs.Pieces.{all_below}
-use Rattle.sample_run.specs.Counts.{is_absent, is_skipped, is_timed}
+use Rattle.sample_run.specs.Counts.{is_timed}
 use Rattle.sample_run.specs.Steps.{IsWithin, plus, tally}
 use Rattle.sample_run.specs.declared.tally.Tally.{Tally}
 

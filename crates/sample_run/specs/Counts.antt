@@ -14,18 +14,9 @@ use Rattle.sample_maker.specs.Pieces.{all_below, led}
 use Rattle.sample_run.specs.Made.{made_day}
 use Rattle.sample_run.specs.declared.counts.SampleCounts.{SampleCounts}
 use Rattle.std.specs.Prelude.{decimal}
+use Rattle.journey_model.specs.Readings.{is_absent, is_skipped}
 
--- how a stop may read
-abbrev pub is_skipped : StopReading → Bool
-is_skipped Absent = false
-is_skipped Skipped = true
-is_skipped (Timed arrival departure) = false
-
-abbrev pub is_absent : StopReading → Bool
-is_absent Absent = true
-is_absent Skipped = false
-is_absent (Timed arrival departure) = false
-
+-- the stop has times
 abbrev pub is_timed : StopReading → Bool
 is_timed Absent = false
 is_timed Skipped = false

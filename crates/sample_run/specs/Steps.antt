@@ -9,10 +9,11 @@ use Rattle.journey_model.specs.Schedules.{Schedule}
 use Rattle.journey_model.specs.declared.readings.DatedReading.{DatedReading}
 use Rattle.journey_model.specs.declared.readings.JourneyReading.{JourneyReading}
 use Rattle.journey_model.specs.declared.readings.StopReading.{StopReading}
+use Rattle.journey_model.specs.Readings.{is_absent, is_skipped}
 use Rattle.sample_maker.specs.Folder.{folder}
 use Rattle.gateway_core.specs.Arrivals.{Arrival}
 use Rattle.gateway_core.specs.Standing.{Kept, Stands}
-use Rattle.sample_run.specs.Counts.{each_stop, is_absent, is_skipped, is_timed}
+use Rattle.sample_run.specs.Counts.{each_stop, is_timed}
 use Rattle.sample_run.specs.Made.{made_day}
 use Rattle.sample_run.specs.Sample.{with_records}
 use Rattle.sample_run.specs.declared.fault.SampleFault.{SampleFault}

@@ -1,5 +1,6 @@
 //! How many stops read in which way. The definitions are those of `specs/Counts.antt`.
 ghost use Rattle.std.specs.Prelude.{◌≡◌, ◌+◌, ◌<◌, ◌^◌, count_by};
+ghost use Rattle.journey_model.specs.Readings.{is_absent, is_skipped};
 ghost use Rattle.sample_run.specs.Counts as spec;
 ghost use Rattle.sample_run.specs.Steps.{plus, tally};
 
@@ -15,13 +16,13 @@ pub(crate) struct Tally {
 
 // Whether a stop isn't served, nothing is known of it, or it has times.
 fn is_skipped(reading: &StopReading) -> bool
-    ensures { result ≡ spec.is_skipped reading.now }
+    ensures { result ≡ is_skipped reading.now }
 {
     matches!(reading, StopReading::Skipped)
 }
 
 fn is_absent(reading: &StopReading) -> bool
-    ensures { result ≡ spec.is_absent reading.now }
+    ensures { result ≡ is_absent reading.now }
 {
     matches!(reading, StopReading::Absent)
 }
@@ -34,13 +35,13 @@ fn is_timed(reading: &StopReading) -> bool
 
 // How many of these stops are skipped, are absent, and have times.
 fn skipped_in(readings: &[StopReading]) -> u64
-    ensures { result ≡ count_by spec.is_skipped readings.now }
+    ensures { result ≡ count_by is_skipped readings.now }
 {
     readings.iter().filter(|one| is_skipped(*one)).count() as u64
 }
 
 fn absent_in(readings: &[StopReading]) -> u64
-    ensures { result ≡ count_by spec.is_absent readings.now }
+    ensures { result ≡ count_by is_absent readings.now }
 {
     readings.iter().filter(|one| is_absent(*one)).count() as u64
 }

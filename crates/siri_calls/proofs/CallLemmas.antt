@@ -1,13 +1,13 @@
 -- The calls of trees, one after the other.
 use Rattle.std.proofs.Common.{◌≡◌, ◌∙◌, refl, ap, List, [], ◌∷◌, ◌++◌, Option, Result, Ok, Err}
 use Rattle.std.proofs.lemmas.List.{append_assoc}
-use Rattle.gw_base.specs.Chains.{◌>>=◌}
+use Rattle.gw_base.specs.Chains.{ok_map, ◌>>=◌}
 use Rattle.journey_model.specs.declared.fault.Fault.{Fault}
 use Rattle.serde_json.specs.Data.{Data}
 use Rattle.service_day.specs.declared.zones.Rules.{Rules}
 use Rattle.siri_calls.specs.Calls.{call, calls}
 use Rattle.siri_calls.specs.Journeys.{Call}
-use Rattle.siri_json.specs.Shown.{ok_map, IsFaultOf}
+use Rattle.siri_json.specs.Shown.{IsFaultOf}
 use Rattle.siri_json.specs.declared.read_fault.ReadFault.{ReadFault}
 use Rattle.siri_json.specs.declared.read_fault.ReadFault.TheVariants.{Aside, Memory}
 

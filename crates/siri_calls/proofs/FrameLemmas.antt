@@ -3,13 +3,13 @@ use Rattle.std.proofs.Common.{◌≡◌, ◌∙◌, refl, sym, ap, Bool, true, f
 use Rattle.std.specs.List.{list_all, flat_map}
 use Rattle.std.proofs.lemmas.List.{append_assoc}
 use Rattle.std.proofs.lemmas.List.Folds.{list_all-append}
-use Rattle.gw_base.specs.Chains.{◌>>=◌}
+use Rattle.gw_base.specs.Chains.{ok_map, ◌>>=◌}
 use Rattle.gw_base.specs.declared.member.Member.{Member}
 use Rattle.json_tree.specs.Trees.{Tree, view}
 use Rattle.siri_json.specs.Forms.{is_object}
 use Rattle.siri_calls.specs.Frame.{Place, has_object, all_objects, frames_below, frame_place, frames_of}
 use Rattle.siri_json.specs.Frame.{repeated_under}
-use Rattle.siri_json.specs.Shown.{ok_map, IsFrameFault}
+use Rattle.siri_json.specs.Shown.{IsFrameFault}
 use Rattle.siri_json.specs.declared.delivery.DeliveryFault.{DeliveryFault}
 use Rattle.siri_json.specs.declared.delivery.DeliveryFault.TheVariants as delivery
 use Rattle.siri_json.proofs.TreeLemmas.{list_all-map}

@@ -6,7 +6,7 @@ use Rattle.std.specs.List.{list_any}
 use Rattle.std.specs.Option.{ok_or}
 use Rattle.std.specs.Prelude.{is_some, not, option_and_then}
 use Rattle.std.specs.Str.{bytes_eq}
-use Rattle.gw_base.specs.Chains.{◌>>=◌}
+use Rattle.gw_base.specs.Chains.{ok_map, ◌>>=◌}
 use Rattle.journey_model.specs.Matching.{call_place, first_place, fits_order, is_of_stop, place_after, stands_at}
 use Rattle.journey_model.specs.Runs.{Run}
 use Rattle.journey_model.specs.declared.fault.Fault.{Fault}
@@ -14,7 +14,6 @@ use Rattle.journey_model.specs.declared.fault.Fault.TheVariants.{OutOfOrder, Unk
 use Rattle.siri_calls.specs.Journeys.{Call}
 use Rattle.siri_calls.specs.Judged.{numbered, placed_calls, stop_named, stop_of_trip, stops_named}
 use Rattle.siri_calls.specs.MatchedCalls.{is_unknown, place_named, unplaced}
-use Rattle.siri_json.specs.Shown.{ok_map}
 use Rattle.stop_schedule.specs.declared.stop_times.StopRow.{StopRow}
 use Rattle.stop_schedule.proofs.IdLemmas.{and-right}
 use Rattle.siri_calls.proofs.PlaceLemmas.{any-split, is_some-position}

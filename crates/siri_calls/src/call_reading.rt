@@ -3,10 +3,11 @@
 ghost use Rattle.std.specs.Prelude.{◌≡◌, ◌++◌, map, Ok, Some, IfOk, IfErr, option_map};
 ghost use Rattle.std.specs.Option.{ForSome};
 ghost use Rattle.json_tree.specs.Trees.{view};
+ghost use Rattle.gw_base.specs.Chains.{ok_map};
 ghost use Rattle.gw_base.specs.Moments.{IsMoment};
 ghost use Rattle.siri_calls.specs.Calls as spec;
 ghost use Rattle.siri_calls.specs.Seen.{call_of, calls_of};
-ghost use Rattle.siri_json.specs.Shown.{ok_map, instant_of, trees_of, IsFaultOf};
+ghost use Rattle.siri_json.specs.Shown.{instant_of, trees_of, IsFaultOf};
 
 use crate::calls::Call;
 use gw_base::Member;

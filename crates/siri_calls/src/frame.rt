@@ -1,9 +1,10 @@
 //! The way down from the root of a delivery to its journeys. The functions meet `specs/Frame.antt`.
 ghost use Rattle.std.specs.Prelude.{◌≡◌, ◌++◌, map, Ok, IfErr, IfOk};
 ghost use Rattle.json_tree.specs.Trees.{view};
+ghost use Rattle.gw_base.specs.Chains.{ok_map};
 ghost use Rattle.siri_calls.specs.Frame as spec;
 ghost use Rattle.siri_calls.specs.Shown.{place_of, places_of};
-ghost use Rattle.siri_json.specs.Shown.{ok_map, IsFrameFault};
+ghost use Rattle.siri_json.specs.Shown.{IsFrameFault};
 
 use gw_base::Member;
 use json::Value;

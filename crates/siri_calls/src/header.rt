@@ -3,11 +3,12 @@
 ghost use Rattle.std.specs.Prelude.{◌≡◌, ◌∷◌, [], codes};
 ghost use Rattle.serde_json.specs.Find.{get};
 ghost use Rattle.json_tree.specs.Trees.{view};
+ghost use Rattle.gw_base.specs.Chains.{ok_map};
 ghost use Rattle.siri_json.specs.Fields.{form_at};
 ghost use Rattle.siri_json.specs.Forms as forms;
 ghost use Rattle.siri_calls.specs.Seen.{header_of};
 ghost use Rattle.siri_calls.specs.Shown.{place_of, tree_at};
-ghost use Rattle.siri_json.specs.Shown.{ok_map, instant_of, moment_form};
+ghost use Rattle.siri_json.specs.Shown.{instant_of, moment_form};
 ghost use Rattle.siri_calls.specs.Verdicts as spec;
 
 use crate::frame::Place;

@@ -1,9 +1,10 @@
 //! What a journey is by its header and its calls. The functions meet `specs/Judged.antt`.
 ghost use Rattle.std.specs.Prelude.{◌≡◌, ◌<◌, length, Ok, IfErr, IfOk};
+ghost use Rattle.gw_base.specs.Chains.{ok_map};
 ghost use Rattle.journey_model.specs.Records.{recorded};
 ghost use Rattle.siri_calls.specs.Judged as spec;
 ghost use Rattle.siri_calls.specs.Seen.{calls_of, header_of};
-ghost use Rattle.siri_json.specs.Shown.{IsFaultOf, ok_map};
+ghost use Rattle.siri_json.specs.Shown.{IsFaultOf};
 ghost use Rattle.siri_calls.specs.Servable.{IsServable};
 ghost use Rattle.siri_calls.specs.TripRuns.{run_over};
 

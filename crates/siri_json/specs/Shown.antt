@@ -1,6 +1,7 @@
 -- What the values of the reading show.
-use Rattle.std.specs.Prelude.{ℕ, ℤ, List, map, Option, option_map, Result, Ok, Err, ⊤, ◌≡◌}
+use Rattle.std.specs.Prelude.{ℕ, ℤ, List, map, Option, option_map, Result, Err, ⊤, ◌≡◌}
 use Rattle.gw_base.specs.declared.member.Member.{Member}
+use Rattle.gw_base.specs.Chains.{ok_map}
 use Rattle.journey_model.specs.declared.fault.Fault.{Fault}
 use Rattle.json_tree.specs.Trees.{Tree, view}
 use Rattle.serde_json.specs.Data.{Data}
@@ -39,11 +40,6 @@ trees_of trees = map view trees.now
 
 abbrev pub trees_form : Form (Bor (List Tree)) → Form (List Data)
 trees_form form = form_map trees_of form
-
--- an answer of what is shown
-abbrev pub ok_map : {A B E : Type 0} → (A → B) → Result A E → Result B E
-ok_map shown (Ok value) = Ok (shown value)
-ok_map shown (Err fault) = Err fault
 
 -- a text, a moment and a tree that may be missing, and ones that are required
 abbrev pub optional_text : Result (Option (Bor (List ℕ))) Fault → Result (Option (List ℕ)) Fault

@@ -1,10 +1,11 @@
 //! The way down from the root of a delivery. The functions meet `specs/Frame.antt`.
 ghost use Rattle.std.specs.Prelude.{◌≡◌, map};
 ghost use Rattle.json_tree.specs.Trees.{view};
+ghost use Rattle.gw_base.specs.Chains.{ok_map};
 ghost use Rattle.siri_json.specs.Fields.{member_form};
 ghost use Rattle.siri_json.specs.Forms.{object_form};
 ghost use Rattle.siri_json.specs.Frame as spec;
-ghost use Rattle.siri_json.specs.Shown.{ok_map, tree_form, trees_of};
+ghost use Rattle.siri_json.specs.Shown.{tree_form, trees_of};
 
 use crate::forms::{Form, is_object, none, object_form, objects, repeated};
 use gw_base::Member;

@@ -1,9 +1,9 @@
 -- What is read of trees, one after the other.
 use Rattle.std.proofs.Common.{◌≡◌, ◌∙◌, refl, ap, sym, List, ◌∷◌, ◌++◌, append_assoc, Result, Ok, Err}
-use Rattle.gw_base.specs.Chains.{◌>>=◌}
+use Rattle.gw_base.specs.Chains.{ok_map, ◌>>=◌}
 use Rattle.journey_model.specs.declared.fault.Fault.{Fault}
 use Rattle.serde_json.specs.Data.{Data}
-use Rattle.siri_json.specs.Shown.{ok_map, IsFaultOf}
+use Rattle.siri_json.specs.Shown.{IsFaultOf}
 use Rattle.siri_json.specs.declared.read_fault.ReadFault.{ReadFault}
 use Rattle.siri_json.specs.declared.read_fault.ReadFault.TheVariants.{Aside, Memory}
 use Rattle.siri_situations.specs.Steps.{gather}

@@ -2,7 +2,8 @@
 ghost use Rattle.std.specs.Prelude.{◌≡◌, ◌++◌, Ok, IfErr, IfOk, map};
 ghost use Rattle.std.specs.List.{list_all};
 ghost use Rattle.json_tree.specs.Trees.{view};
-ghost use Rattle.siri_json.specs.Shown.{ok_map, IsFaultOf};
+ghost use Rattle.gw_base.specs.Chains.{ok_map};
+ghost use Rattle.siri_json.specs.Shown.{IsFaultOf};
 ghost use Rattle.siri_situations.specs.Affected as spec;
 ghost use Rattle.siri_situations.specs.Shown.{all_seen};
 ghost use Rattle.siri_situations.specs.Steps.{gather};

@@ -1,7 +1,8 @@
 //! The way down from the root of a delivery to its situations. The functions meet `specs/Frame.antt`.
 ghost use Rattle.std.specs.Prelude.{◌≡◌, Ok, IfErr, IfOk, map};
 ghost use Rattle.json_tree.specs.Trees.{view};
-ghost use Rattle.siri_json.specs.Shown.{ok_map, trees_of, IsFrameFault};
+ghost use Rattle.gw_base.specs.Chains.{ok_map};
+ghost use Rattle.siri_json.specs.Shown.{trees_of, IsFrameFault};
 ghost use Rattle.siri_situations.specs.Frame as spec;
 ghost use Rattle.siri_situations.specs.Shown.{all_seen};
 ghost use Rattle.siri_situations.specs.Steps.{gather};

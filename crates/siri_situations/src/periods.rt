@@ -2,7 +2,8 @@
 ghost use Rattle.std.specs.Prelude.{◌≡◌, Ok, IfErr, IfOk, map, option_map, option_to_list};
 ghost use Rattle.std.specs.List.{list_all};
 ghost use Rattle.json_tree.specs.Trees.{view};
-ghost use Rattle.siri_json.specs.Shown.{ok_map, instant_of, IsFaultOf};
+ghost use Rattle.gw_base.specs.Chains.{ok_map};
+ghost use Rattle.siri_json.specs.Shown.{instant_of, IsFaultOf};
 ghost use Rattle.siri_situations.specs.Periods as spec;
 ghost use Rattle.siri_situations.specs.Steps.{gather};
 

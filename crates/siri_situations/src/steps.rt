@@ -1,7 +1,8 @@
 //! The way down from an object to what stands in it. The functions meet `specs/Steps.antt`.
 ghost use Rattle.std.specs.Prelude.{◌≡◌, ◌++◌, map, Ok, IfErr, IfOk, OnOk};
 ghost use Rattle.json_tree.specs.Trees.{view};
-ghost use Rattle.siri_json.specs.Shown.{ok_map, trees_of, IsFaultOf};
+ghost use Rattle.gw_base.specs.Chains.{ok_map};
+ghost use Rattle.siri_json.specs.Shown.{trees_of, IsFaultOf};
 ghost use Rattle.siri_situations.specs.Shown.{all_seen};
 ghost use Rattle.siri_situations.specs.Steps as spec;
 

@@ -11,7 +11,7 @@ use Rattle.stop_schedule.specs.declared.stop_times.StopRow.{StopRow}
 use Rattle.journey_model.proofs.Suppliers.{Rise}
 use Rattle.journey_model.specs.Dated.{run_of}
 use Rattle.journey_model.specs.Propagation.{propagated}
-use Rattle.journey_model.specs.Readings.{are_near, fits_trip, is_near}
+use Rattle.journey_model.specs.Readings.{are_near, fits_trip, is_near, is_skipped}
 use Rattle.journey_model.specs.Runs.{Run}
 use Rattle.journey_model.specs.Updates.{places}
 use Rattle.journey_model.specs.declared.context.DatedTrip.{DatedTrip}
@@ -21,7 +21,7 @@ use Rattle.journey_model.specs.declared.readings.JourneyReading.TheVariants.{Can
 use Rattle.journey_model.specs.declared.readings.StopReading.{StopReading}
 use Rattle.journey_model.specs.declared.readings.StopReading.TheVariants.{Absent, Skipped, Timed}
 use Rattle.sparse_planner.specs.Means.{HasPlace, IsLeastOf, Says}
-use Rattle.sparse_planner.specs.Shortest.{is_skipped, same_reading, shortest, update}
+use Rattle.sparse_planner.specs.Shortest.{same_reading, shortest, update}
 use Rattle.sparse_planner.proofs.Placing.{places-plan, places-rise, plan_places}
 use Rattle.sparse_planner.proofs.States.{delay_after, needs, plan_from, running, updates-plan}
 use Rattle.sparse_planner.proofs.Walks.{own, prop-walk, rise-lower, walk}

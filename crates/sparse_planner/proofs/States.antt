@@ -7,11 +7,11 @@ use Rattle.gw_base.proofs.Elements.{or_assoc, or_none}
 use Rattle.stop_schedule.specs.Planned.{planned}
 use Rattle.stop_schedule.specs.declared.stop_times.StopRow.{StopRow}
 use Rattle.journey_model.specs.Propagation.{later_by}
-use Rattle.journey_model.specs.Readings.{is_near}
+use Rattle.journey_model.specs.Readings.{is_near, is_skipped}
 use Rattle.journey_model.specs.Times.{is_delay}
 use Rattle.journey_model.specs.declared.readings.StopReading.{StopReading}
 use Rattle.journey_model.specs.declared.readings.StopReading.TheVariants.{Absent, Skipped, Timed}
-use Rattle.sparse_planner.specs.Shortest.{is_skipped, nearest, same_reading, supply, update, updates_from}
+use Rattle.sparse_planner.specs.Shortest.{nearest, same_reading, supply, update, updates_from}
 
 -- what a delay supplies to a stop
 abbrev pub running : ℤ × ℤ → Option ℤ → StopReading

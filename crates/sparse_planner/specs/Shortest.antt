@@ -12,11 +12,7 @@ use Rattle.journey_model.specs.declared.readings.JourneyReading.{JourneyReading}
 use Rattle.journey_model.specs.declared.readings.JourneyReading.TheVariants.{Cancelled, Stops}
 use Rattle.journey_model.specs.declared.readings.StopReading.{StopReading}
 use Rattle.journey_model.specs.declared.readings.StopReading.TheVariants.{Absent, Skipped, Timed}
-
-abbrev pub is_skipped : StopReading → Bool
-is_skipped Absent = false
-is_skipped Skipped = true
-is_skipped (Timed arrival departure) = false
+use Rattle.journey_model.specs.Readings.{is_skipped}
 
 abbrev pub same_reading : StopReading → StopReading → Bool
 same_reading Absent Absent = true

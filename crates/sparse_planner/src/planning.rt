@@ -5,7 +5,7 @@ ghost use Rattle.gw_base.specs.Moments.{IsMoment};
 ghost use Rattle.stop_schedule.specs.Planned.{planned};
 ghost use Rattle.journey_model.specs.Dated.{run_of};
 ghost use Rattle.journey_model.specs.Propagation.{later_by};
-ghost use Rattle.journey_model.specs.Readings.{are_near, fits_trip, is_near};
+ghost use Rattle.journey_model.specs.Readings.{are_near, fits_trip, is_near, is_skipped};
 ghost use Rattle.journey_model.specs.Times.{is_delay};
 ghost use Rattle.journey_model.specs.declared.readings.StopReading.TheVariants.{Absent, Skipped, Timed};
 ghost use Rattle.sparse_planner.specs.Means.{IsLeastOf, Says};
@@ -36,7 +36,7 @@ fn supplied(start: i64, row: &StopRow, delay: Option<i64>) -> StopReading
 // Whether a stop needs an update of its own: it is skipped, or reads otherwise than what is supplied to it.
 fn needs_update(reading: &StopReading, supplied: StopReading) -> bool
     ensures { result
-        ≡ (spec.is_skipped reading.now || not (spec.same_reading reading.now supplied)) }
+        ≡ (is_skipped reading.now || not (spec.same_reading reading.now supplied)) }
 {
     *reading == StopReading::Skipped || *reading != supplied
 }

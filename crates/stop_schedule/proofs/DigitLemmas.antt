@@ -4,7 +4,8 @@ use Rattle.std.specs.Str.{IsAscii, is_utf8}
 use Rattle.std.proofs.lemmas.Bool.{leb-true, false≢true}
 use Rattle.std.proofs.lemmas.Bool.Decides.{nat_tests}
 use Rattle.std.proofs.lemmas.Str.{IsUtf8-from_ascii, is_utf8-from_IsUtf8}
-use Rattle.stop_schedule.specs.Forms.{are_digits, clock, is_clock, is_digit, is_sixty, seconds, sequence}
+use Rattle.service_day.specs.Digits.{is_digit}
+use Rattle.stop_schedule.specs.Forms.{are_digits, clock, is_clock, is_sixty, seconds, sequence}
 use Rattle.stop_schedule.proofs.IdLemmas.{and-left, and-right}
 
 ascii-text : (text : List ℕ) → IsAscii text → is_utf8 text ≡ true

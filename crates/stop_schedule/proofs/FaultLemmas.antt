@@ -5,12 +5,13 @@ use Rattle.std.specs.Option.{option_or}
 use Rattle.std.specs.Bool.{MatchBool}
 use Rattle.std.specs.Prelude.{⊤}
 use Rattle.std.proofs.lemmas.Bool.Decides.{nat_tests}
+use Rattle.gw_base.specs.Chains.{ok_map}
 use Rattle.stop_schedule.specs.Faults.{all_text, first_fault}
 use Rattle.stop_schedule.specs.Layout.{columns}
 use Rattle.stop_schedule.specs.Limits.{row_limit}
 use Rattle.stop_schedule.specs.Columns.{column_name}
 use Rattle.stop_schedule.specs.Rows.{column}
-use Rattle.stop_schedule.specs.Sheet.{Row, nth, map_ok, place_then, places_of}
+use Rattle.stop_schedule.specs.Sheet.{Row, nth, place_then, places_of}
 use Rattle.stop_schedule.specs.declared.table_file.TableFile.{TableFile}
 use Rattle.stop_schedule.specs.declared.column.Column.{Column}
 use Rattle.stop_schedule.specs.declared.forms.Form.{Form}
@@ -25,8 +26,8 @@ first-no-text at (read ∷ later) row some none = rw none refl
 
 -- a place more before others
 pub one-place : (before : List ℕ) (place : ℕ) (answer : Result (List ℕ) TableFault)
-    → map_ok (λ later. before ++ later) (map_ok (λ places. place ∷ places) answer)
-    ≡ map_ok (λ later. (before ++ place ∷ []) ++ later) answer
+    → ok_map (λ later. before ++ later) (ok_map (λ places. place ∷ places) answer)
+    ≡ ok_map (λ later. (before ++ place ∷ []) ++ later) answer
 one-place before place (Ok later) = ap Ok (sym (append_assoc before (place ∷ []) later))
 one-place before place (Err fault) = refl
 
@@ -34,11 +35,11 @@ one-place before place (Err fault) = refl
 pub step-place : (file : TableFile) (names : Row) (items : List (Column × Form)) (i : ℕ) (d : Column × Form)
     (before : List ℕ) (place : ℕ) (all : Result (List ℕ) TableFault)
     → i < length items → column (column_name (get_or items i d).0) names ≡ Some place
-    → all ≡ map_ok (λ later. before ++ later) (places_of file names (drop i items))
-    → all ≡ map_ok (λ later. (before ++ place ∷ []) ++ later) (places_of file names (drop (i + 1) items))
+    → all ≡ ok_map (λ later. before ++ later) (places_of file names (drop i items))
+    → all ≡ ok_map (λ later. (before ++ place ∷ []) ++ later) (places_of file names (drop (i + 1) items))
 step-place file names items i d before place all within at so_far =
     let join : Result (List ℕ) TableFault → Result (List ℕ) TableFault =
-    λ answer. map_ok (λ later. before ++ later) answer in
+    λ answer. ok_map (λ later. before ++ later) answer in
     let cell : drop i items ≡ get_or items i d ∷ drop (i + 1) items = rw (add-one i) (drop-cons items i d within) in
     let rest = places_of file names (drop (i + 1) items) in
     so_far ∙ ap (λ later. join (places_of file names later)) cell

@@ -4,13 +4,10 @@ use Rattle.std.specs.List.{list_all}
 use Rattle.std.specs.Str.{bytes_eq}
 use Rattle.service_day.specs.DayTexts.{day_of}
 use Rattle.service_day.specs.declared.days.DayForm.TheVariants.{Compact}
+use Rattle.service_day.specs.Digits.{is_digit}
 use Rattle.stop_schedule.specs.Limits.{number_limit}
 use Rattle.stop_schedule.specs.declared.forms.Form.{Form}
 use Rattle.stop_schedule.specs.declared.forms.Form.TheVariants.{Any, Id, Flag, Exception, Date, Sequence, Time}
-
--- the byte is a decimal digit
-abbrev pub is_digit : ℕ → Bool
-is_digit byte = nat_le 48 byte && nat_le byte 57
 
 abbrev pub are_digits : List ℕ → Bool
 are_digits text = list_all is_digit text

@@ -2,6 +2,7 @@
 use Rattle.std.specs.Prelude.{◌≡◌, ◌≤◌, ⊤, ℕ, Bool, nat_le, List, [], ◌∷◌, map, length, slice_get, unwrap_or, Option, Some, None, Result, Ok, Err, if◌then◌else◌}
 use Rattle.std.specs.Bool.{MatchBool}
 use Rattle.gw_base.specs.Directory.{IsLonger}
+use Rattle.gw_base.specs.Chains.{ok_map}
 use Rattle.stop_schedule.specs.Answers.{is_free}
 use Rattle.stop_schedule.specs.Columns.{column_name}
 use Rattle.stop_schedule.specs.Fields.{field_of}
@@ -27,15 +28,10 @@ nth column row = unwrap_or (slice_get row column) []
 abbrev pub fields_at : List ℕ → List (List ℕ) → Row
 fields_at places fields = map (λ place. field_of place fields) places
 
--- what is made of the value of an answer that is no error
-abbrev pub map_ok : {A B E : Type 0} → (A → B) → Result A E → Result B E
-map_ok f (Ok value) = Ok (f value)
-map_ok f (Err fault) = Err fault
-
 -- a place before others, where there is one
 abbrev pub place_then : TableFile → Column → Option ℕ → Result (List ℕ) TableFault → Result (List ℕ) TableFault
 place_then file column None later = Err (NoColumn file column)
-place_then file column (Some place) later = map_ok (λ places. place ∷ places) later
+place_then file column (Some place) later = ok_map (λ places. place ∷ places) later
 
 -- the places of the columns by the names of the first record, or the first column that it doesn't name
 abbrev pub places_of : TableFile → List (List ℕ) → List (Column × Form) → Result (List ℕ) TableFault
@@ -45,8 +41,8 @@ places_of file names (read ∷ later) =
 
 -- the data rows by the records of a file, of which the first names the columns
 abbrev pub sheet_of : TableFile → List (List (List ℕ)) → Result (List Row) TableFault
-sheet_of file [] = map_ok (λ places. []) (places_of file [] (columns file))
-sheet_of file (names ∷ below) = map_ok (λ places. map (fields_at places) below) (places_of file names (columns file))
+sheet_of file [] = ok_map (λ places. []) (places_of file [] (columns file))
+sheet_of file (names ∷ below) = ok_map (λ places. map (fields_at places) below) (places_of file names (columns file))
 
 -- the data rows by the bytes of a file
 abbrev pub sheet_in : TableFile → List ℕ → Result (List Row) TableFault
@@ -54,7 +50,7 @@ sheet_in file bytes = if nat_le (length bytes) file_limit then sheet_of file (ro
 
 -- the rows that are left of what was opened
 abbrev pub left_of : Result RowsLeft TableFault → Result (List Row) TableFault
-left_of answer = map_ok (λ rows. rows.left) answer
+left_of answer = ok_map (λ rows. rows.left) answer
 
 -- the data rows of a file that may not be there; none of one that is not there or has a fault
 abbrev pub rows_in : Option (Result (List Row) TableFault) → List Row

@@ -1,5 +1,6 @@
 //! The forms of fields (GTFS Schedule reference, field types). The functions meet `specs/Forms.antt`.
 ghost use Rattle.std.specs.Prelude.{◌≡◌, ◌≤◌, length, IfSome};
+ghost use Rattle.service_day.specs.Digits.{is_digit};
 ghost use Rattle.stop_schedule.specs.Forms as spec;
 ghost use Rattle.stop_schedule.specs.Limits.{time_limit};
 
@@ -49,7 +50,7 @@ pub(crate) fn date(text: &str) -> Option<Day>
 // Whether a byte is a decimal digit.
 #[inline(always)]
 fn is_digit(byte: u8) -> bool
-    ensures { result ≡ spec.is_digit byte }
+    ensures { result ≡ is_digit byte }
 {
     byte >= b'0' && byte <= b'9'
 }

@@ -5,10 +5,11 @@ ghost use Rattle.std.specs.Bool.{MatchBool};
 ghost use Rattle.std.specs.Option.{MatchOption};
 ghost use Rattle.std.specs.Prelude.{true, false};
 ghost use Rattle.std.specs.Str.{is_utf8};
+ghost use Rattle.gw_base.specs.Chains.{ok_map};
 ghost use Rattle.gw_base.specs.Answers.{UnlessFree};
 ghost use Rattle.stop_schedule.specs.Answers.{HasFailed, is_free};
 ghost use Rattle.stop_schedule.specs.Rows.{rows};
-ghost use Rattle.stop_schedule.specs.Sheet.{left_of, map_ok, nth, places_of, sheet_of};
+ghost use Rattle.stop_schedule.specs.Sheet.{left_of, nth, places_of, sheet_of};
 ghost use Rattle.stop_schedule.specs.Layout.{columns as columns_of};
 
 use crate::layout::columns;
@@ -43,7 +44,7 @@ impl<'a> Model for Sheet<'a> {
 fn find_places(alloc: Global, rows: &Rows<'_>, file: TableFile) -> Result<Vec<usize>, TableFault>
     ensures no_failure { HasFailed result → ⊥ }
     ensures exact { UnlessFree is_free result
-        (λ answer. map_ok (λ places. places.items) answer ≡ places_of file rows.now.row (columns_of file)) }
+        (λ answer. ok_map (λ places. places.items) answer ≡ places_of file rows.now.row (columns_of file)) }
 {
     let mut places = Vec::new(alloc);
     for (column, _) in columns(file) {

@@ -1,8 +1,8 @@
 use Rattle.std.proofs.Common.{◌++◌, map, drop}
+use Rattle.gw_base.specs.Chains.{ok_map}
 use Rattle.json_tree.specs.Trees.{view}
 use Rattle.siri_calls.specs.Calls.{calls}
 use Rattle.siri_calls.specs.Seen.{calls_of}
-use Rattle.siri_json.specs.Shown.{ok_map}
 use Rattle.siri_calls.proofs.CallLemmas.{SoFar}
 use Rattle.siri_calls.proofs.call_reading.add_calls.Given as goal
 

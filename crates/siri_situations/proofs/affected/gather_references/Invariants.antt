@@ -1,5 +1,5 @@
 use Rattle.std.proofs.Common.{◌++◌, drop}
-use Rattle.siri_json.specs.Shown.{ok_map}
+use Rattle.gw_base.specs.Chains.{ok_map}
 use Rattle.stop_schedule.specs.Seen.{seen}
 use Rattle.siri_situations.specs.Affected.{reference}
 use Rattle.siri_situations.specs.Shown.{all_seen}
