@@ -1,3 +1,3 @@
 pub mod Delays
-pub mod Readings
+pub mod NearLemmas
 pub mod Suppliers

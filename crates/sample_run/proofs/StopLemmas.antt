@@ -11,7 +11,7 @@ use Rattle.journey_model.specs.declared.readings.DatedReading.{DatedReading}
 use Rattle.journey_model.specs.declared.readings.JourneyReading.{JourneyReading}
 use Rattle.journey_model.specs.declared.readings.JourneyReading.TheVariants.{Stops}
 use Rattle.journey_model.specs.declared.readings.StopReading.{StopReading}
-use Rattle.journey_model.proofs.Readings.{as_many}
+use Rattle.journey_model.proofs.NearLemmas.{as_many}
 use Rattle.propagation.specs.Feeds.{IsServable}
 
 -- so many as the timetable has

@@ -24,7 +24,7 @@ use Rattle.journey_model.specs.declared.readings.JourneyReading.{JourneyReading}
 use Rattle.journey_model.specs.declared.readings.DatedReading.{DatedReading}
 use Rattle.journey_model.specs.declared.readings.StopReading.{StopReading}
 use Rattle.propagation.specs.Feeds.{IsServable}
-use Rattle.journey_model.proofs.Readings.{are_moments}
+use Rattle.journey_model.proofs.NearLemmas.{are_moments}
 
 -- what is read of a feed fits its schedule
 pub servable_fits : (schedule : Schedule) (journeys : List DatedReading) → All (IsServable schedule) journeys

@@ -19,7 +19,7 @@ use Rattle.journey_model.specs.Times.{delay_fault, is_delay}
 use Rattle.journey_model.specs.declared.readings.JourneyReading.TheVariants.{Stops}
 use Rattle.journey_model.specs.declared.readings.StopReading.{StopReading}
 use Rattle.journey_model.specs.declared.readings.StopReading.TheVariants.{Absent, Skipped, Timed}
-use Rattle.journey_model.proofs.Readings.{are_moments}
+use Rattle.journey_model.proofs.NearLemmas.{are_moments}
 use Rattle.siri_calls.specs.Calls.{call, calls, event, statuses}
 use Rattle.siri_calls.specs.Written.DeliveryTree.{call_tree, call_trees_from}
 use Rattle.siri_json.specs.Fields.{optional_member, required_member}

@@ -16,7 +16,7 @@ use Rattle.journey_model.specs.Schedules.{Schedule}
 use Rattle.journey_model.specs.declared.readings.DatedReading.{DatedReading}
 use Rattle.journey_model.specs.declared.readings.StopReading.{StopReading}
 use Rattle.journey_model.specs.declared.readings.StopReading.TheVariants.{Absent, Skipped, Timed}
-use Rattle.journey_model.proofs.Readings.{planned_moments, are_moments}
+use Rattle.journey_model.proofs.NearLemmas.{planned_moments, are_moments}
 use Rattle.siri_calls.specs.Written.DeliveryTree.{call_tree, call_trees_from, delivery_tree, frame_tree, items_of, journey_of_run, journey_on, journey_tree, service_tree, stop_readings, timetable_tree}
 use Rattle.siri_calls.specs.Written.Sayable.{IsSayable}
 use Rattle.siri_calls.proofs.Written.SaidAgainIds.{id-at, IsUtf8-id}

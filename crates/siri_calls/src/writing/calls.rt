@@ -56,7 +56,7 @@ fn put_stop(out: &mut Bytes, order: u64, id: &str) -> Result<(), AllocError>
 }
 
 // Adds the call at a stop, counted from 1.
-#[tactic(auto, using(journey_model::proofs::Readings::are_moments))]
+#[tactic(auto, using(journey_model::proofs::NearLemmas::are_moments))]
 fn put_call(
     out: &mut Bytes,
     run: &TripRun<'_>,

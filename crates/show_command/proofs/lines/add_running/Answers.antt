@@ -3,7 +3,7 @@ use Rattle.std.proofs.Common.{◌≡◌, length, subst, true}
 use Rattle.stop_schedule.specs.Stops.{are_known}
 use Rattle.journey_model.specs.Readings.{are_near}
 use Rattle.journey_model.specs.Schedules.{Schedule}
-use Rattle.journey_model.proofs.Readings.{as_many}
+use Rattle.journey_model.proofs.NearLemmas.{as_many}
 use Rattle.show_command.proofs.LineLemmas.{fits_dated, known_held, moments, stops_dated}
 use Rattle.show_command.proofs.lines.add_running.Goals as goal
 

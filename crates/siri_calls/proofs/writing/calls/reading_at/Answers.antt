@@ -4,7 +4,7 @@ use Rattle.std.proofs.lemmas.Option.{slice_get-get_or}
 use Rattle.journey_model.specs.Readings.{fits_trip}
 use Rattle.journey_model.specs.declared.readings.JourneyReading.{JourneyReading}
 use Rattle.journey_model.specs.declared.readings.StopReading.TheVariants.{Absent}
-use Rattle.journey_model.proofs.Readings.{as_many}
+use Rattle.journey_model.proofs.NearLemmas.{as_many}
 use Rattle.siri_calls.proofs.Written.WrittenTimes.{skipped_there}
 use Rattle.siri_calls.proofs.writing.calls.reading_at.Goals as goal
 
