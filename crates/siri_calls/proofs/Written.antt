@@ -1,4 +1,4 @@
-mod PlainLemmas
+pub mod PlainLemmas
 pub mod SaidAgain
 pub mod SaidAgainCalls
 pub mod SaidAgainIds
