@@ -119,7 +119,7 @@ field-of a b e part = ap part (same-ok a b e)
 found-situation : (schedule : Schedule) (tree : Data) (one : Situation) (unknown : ℕ) → situation schedule tree ≡ Ok (one, unknown) → IsSayable schedule.table one
 found-situation schedule tree one unknown e =
     let table = schedule.table in
-    let said = parts-of (spec.said schedule.zone tree) (one, unknown)
+    let said = parts-of (spec.content schedule.zone tree) (one, unknown)
     (λ all. touched table tree >>= λ touches. (affected touches.0 >>= λ affects. Ok (situation_of all (senses.cause tree) touches.1 affects.0, affects.1))) e in
     let touches = parts-of (touched table tree) (one, unknown)
     (λ touches. affected touches.0 >>= λ affects. Ok (situation_of said.0 (senses.cause tree) touches.1 affects.0, affects.1)) said.2 in

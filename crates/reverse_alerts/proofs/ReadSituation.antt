@@ -46,7 +46,7 @@ words-by tree summary description first second = rw (first, second) refl
 said-by : (zone : Rules) (tree : Data) (number : List ℕ) (holds : List ValidPeriod) (summary description : Option (List ℕ))
     → head tree ≡ Ok (record { number = number; version = 0; served = true }) → periods zone tree ≡ Ok holds
     → words tree ≡ Ok (record { summary = summary; description = description })
-    → spec.said zone tree ≡ Ok (record { head = record { number = number; version = 0; served = true }; periods = holds; words = record { summary = summary; description = description } })
+    → spec.content zone tree ≡ Ok (record { head = record { number = number; version = 0; served = true }; periods = holds; words = record { summary = summary; description = description } })
 said-by zone tree number holds summary description a b c = rw (a, b, c) refl
 
 none-whole : (tree : Data) → get (codes "Version") tree ≡ None → optional_member whole Member.Version tree ≡ Ok None
@@ -56,7 +56,7 @@ none-text : (tree : Data) → get (codes "Progress") tree ≡ None → optional_
 none-text tree e = ap (λ found. optional Member.Progress (form_at text found)) e
 
 said-read : (zone : Rules) (table : Table) (moment : ℤ) (tree : Data) (one : Situation) → IsSaid table one → HasParts (trees_of table moment one) tree
-    → spec.said zone tree ≡ Ok (record {
+    → spec.content zone tree ≡ Ok (record {
       head = record { number = one.number; version = 0; served = true };
       periods = one.periods;
       words = record { summary = one.summary; description = one.description };
@@ -150,7 +150,7 @@ with_cause one number = record {
 }
 
 situation-by : (schedule : Schedule) (tree : Data) (one : Situation)
-    → spec.said schedule.zone tree ≡ Ok (record {
+    → spec.content schedule.zone tree ≡ Ok (record {
       head = record { number = one.number; version = 0; served = true };
       periods = one.periods;
       words = record { summary = one.summary; description = one.description };
