@@ -1,6 +1,7 @@
 -- The alert of a situation (GTFS Realtime reference, Alert, EntitySelector, TimeRange, TranslatedString), and its
 -- entity.
-use Rattle.std.specs.Prelude.{◌≡◌, ℕ, pos, false, List, [], ◌∷◌, ◌++◌, codes, length, map, Option, Some, None}
+use Rattle.std.specs.Prelude.{◌≡◌, ℕ, false, List, [], ◌∷◌, ◌++◌, codes, length, map, Option, Some, None}
+use Rattle.gw_base.specs.Enums.{trip_scheduled}
 use Rattle.gw_base.specs.declared.messages.Alert.{Alert}
 use Rattle.gw_base.specs.declared.messages.Entity.{Entity}
 use Rattle.gw_base.specs.declared.messages.Period.{Period}
@@ -24,7 +25,7 @@ abbrev pub stop_selector : List ℕ → Selector
 stop_selector stop_id = record { agency_id = None; route_id = None; trip = None; stop_id = Some stop_id }
 
 abbrev pub trip_on : List ℕ → List ℕ → TripDescriptor
-trip_on trip_id date = record { trip_id = Some trip_id; start_date = Some date; relation = pos 0; route_id = None }
+trip_on trip_id date = record { trip_id = Some trip_id; start_date = Some date; relation = trip_scheduled; route_id = None }
 
 abbrev pub trip_selector : List ℕ → List ℕ → Selector
 trip_selector trip_id date =

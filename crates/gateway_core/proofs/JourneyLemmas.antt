@@ -27,11 +27,12 @@ use Rattle.gateway_core.specs.Arrivals.{has_room, is_same_journey, is_within}
 use Rattle.gateway_core.specs.Deliveries.{taken}
 use Rattle.feed_index.specs.Drafts.{Drafted, after}
 use Rattle.gateway_core.specs.declared.keys.JourneyKey.{JourneyKey}
-use Rattle.gateway_core.specs.JourneySteps.{GathersItems, GathersJourneys, IsItemPut, IsPut, item_fault, item_step, journey_of, journey_verdict, key_order, numbered, seen_after}
-use Rattle.gateway_core.specs.Reports.{aside_from}
+use Rattle.gateway_core.specs.JourneySteps.{GathersItems, GathersJourneys, IsItemPut, IsPut, item_fault, item_step, journey_of, journey_verdict, key_order, seen_after}
+use Rattle.journey_model.specs.Reports.{aside_from, aside_at}
 use Rattle.gateway_core.specs.Standing.{JourneyEntry, KeepsJourneys, journey_entry, journey_seen}
 use Rattle.gateway_core.specs.Steps.{JourneysAfter, journey_counts, journey_fits, journey_kept, with_journey}
 use Rattle.gateway_core.specs.Taking.{journeys_with_room}
+use Rattle.journey_model.proofs.AsideLemmas.{aside-more}
 use Rattle.gateway_core.proofs.KeepsLemmas.{roomy-append}
 use Rattle.gateway_core.proofs.ReportLemmas.{taken_or_aside}
 use Rattle.gateway_core.proofs.RollLemmas.{all_within}
@@ -79,16 +80,6 @@ put_seen schedule old now rec key value bytes is key_is value_is bytes_are =
     ∙ ap (λ (b : List ℕ). with_journey (seen_after old) (journey_seen (record { key = journey_of rec; value = rec.at; bytes = b }))) bytes_are
 
 -- ---- reports
-
-pub aside-append : (number : ℕ) (faults : List (Option Fault)) (fault : Option Fault)
-    → aside_from number (faults ++ fault ∷ []) ≡ aside_from number faults ++ numbered (number + length faults) fault
-aside-append number [] None = refl
-aside-append number [] (Some fault) = ap (λ (n : ℕ). (n, fault) ∷ []) (omega arith)
-aside-append number (None ∷ faults) fault =
-    aside-append (number + 1) faults fault ∙ ap (λ (n : ℕ). aside_from (number + 1) faults ++ numbered n fault) (omega arith)
-aside-append number (Some one ∷ faults) fault =
-    ap (λ (rest : List (ℕ × Fault)). (number, one) ∷ rest)
-    (aside-append (number + 1) faults fault ∙ ap (λ (n : ℕ). aside_from (number + 1) faults ++ numbered n fault) (omega arith))
 
 -- what is without room keeps its place
 pub room-length : (window : DayStarts) (before : List Recorded) (verdicts : List (Result Recorded Fault)) → length (journeys_with_room window before verdicts) ≡ length verdicts
@@ -185,17 +176,17 @@ module _ (schedule : Schedule) (before : List Recorded) where
 
   -- one item more
   pub gathers_more : (items : List (Item JourneyRecord)) (one : Item JourneyRecord) (entries now : List JourneyEntry) (aside later : List (ℕ × Fault))
-      → AreServable schedule items → CanServe schedule one → IsItemPut schedule entries one → now ≡ item_step schedule entries one → later ≡ aside ++ numbered (length items) (item_fault entries one)
+      → AreServable schedule items → CanServe schedule one → IsItemPut schedule entries one → now ≡ item_step schedule entries one → later ≡ aside ++ aside_at (length items) (item_fault entries one)
       → GathersItems schedule before items entries aside → GathersItems schedule before (items ++ one ∷ []) now later
   gathers_more items one entries now aside later h its put now_is later_is so_far =
       let step = steps items one entries h its put so_far.entries_are in record {
         entries_are = subst (λ (es : List JourneyEntry). JourneysAfter schedule before (map (shown recorded) (items ++ one ∷ [])) es) (sym now_is) step.after;
         aside_are =
             later_is
-            ∙ ap (λ (front : List (ℕ × Fault)). front ++ numbered (length items) (item_fault entries one)) so_far.aside_are
-            ∙ ap (λ (n : ℕ). aside_from 0 (map result_err (with_room_of items)) ++ numbered n (item_fault entries one)) (sym (faults-length items) ∙ omega arith)
-            ∙ ap (λ (fault : Option Fault). aside_from 0 (map result_err (with_room_of items)) ++ numbered (0 + length (map result_err (with_room_of items))) fault) (sym step.fault_is)
-            ∙ sym (aside-append 0 (map result_err (with_room_of items)) (result_err step.last))
+            ∙ ap (λ (front : List (ℕ × Fault)). front ++ aside_at (length items) (item_fault entries one)) so_far.aside_are
+            ∙ ap (λ (n : ℕ). aside_from 0 (map result_err (with_room_of items)) ++ aside_at n (item_fault entries one)) (sym (faults-length items) ∙ omega arith)
+            ∙ ap (λ (fault : Option Fault). aside_from 0 (map result_err (with_room_of items)) ++ aside_at (0 + length (map result_err (with_room_of items))) fault) (sym step.fault_is)
+            ∙ sym (aside-more 0 (map result_err (with_room_of items)) (result_err step.last))
             ∙ ap (aside_from 0) (sym (map-append result_err (with_room_of items) (step.last ∷ [])))
             ∙ ap (λ (verdicts : List (Result Recorded Fault)). aside_from 0 (map result_err verdicts)) (sym step.with_one);
       }
@@ -260,9 +251,9 @@ pub place_left : {A : Type 0} (all rest : List A) (n : ℕ) (one : A) → drop n
 place_left all rest n one e = place one rest all n e
 
 -- at most one more is set aside
-pub one_aside : (aside later : List (ℕ × Fault)) (n : ℕ) (fault : Option Fault) → later ≡ aside ++ numbered n fault → length aside ≤ n → length later ≤ n + 1
-one_aside aside later n fault is few = omega (arith, ap length is, length-append aside (numbered n fault), at fault)
+pub one_aside : (aside later : List (ℕ × Fault)) (n : ℕ) (fault : Option Fault) → later ≡ aside ++ aside_at n fault → length aside ≤ n → length later ≤ n + 1
+one_aside aside later n fault is few = omega (arith, ap length is, length-append aside (aside_at n fault), at fault)
   where
-    at : (fault : Option Fault) → length (numbered n fault) ≤ 1
+    at : (fault : Option Fault) → length (aside_at n fault) ≤ 1
     at None = omega arith
     at (Some one) = omega arith

@@ -4,7 +4,7 @@ use Rattle.std.proofs.lemmas.List.Sums.{sum_by-cons}
 use Rattle.std.specs.Prelude.{is_none}
 use Rattle.std.specs.List.{count_by}
 use Rattle.journey_model.specs.declared.fault.Fault.{Fault}
-use Rattle.gateway_core.specs.Reports.{aside_from}
+use Rattle.journey_model.specs.Reports.{aside_from}
 
 abbrev one_if_none : Option Fault → ℕ
 one_if_none fault = cond (is_none fault) 1 0

@@ -21,12 +21,13 @@ use Rattle.siri_json.specs.declared.delivery.Item.{Item}
 use Rattle.stop_schedule.specs.Table.{Table}
 use Rattle.gateway_core.specs.Alerts.{alert_len}
 use Rattle.gateway_core.specs.Arrivals.{always, has_room, is_same_number}
-use Rattle.gateway_core.specs.Reports.{aside_from}
+use Rattle.journey_model.specs.Reports.{aside_from, aside_at}
 use Rattle.gateway_core.specs.SituationSteps.{GathersSituations, GathersVerdicts, IsVerdictServed, after_situation, item_verdict, situation_verdict, verdict_fault, verdict_step, with_alert}
 use Rattle.gateway_core.specs.Standing.{KeepsSituations, SituationEntry, situation_entry, situation_seen}
 use Rattle.gateway_core.specs.Steps.{SituationsAfter, situation_counts, situation_fits, situation_kept, with_situation}
 use Rattle.gateway_core.specs.Taking.{limited_verdict, situations_with_room, with_room}
 use Rattle.gateway_core.specs.declared.keys.Edition.{Edition}
+use Rattle.journey_model.proofs.AsideLemmas.{aside-more}
 use Rattle.gateway_core.proofs.KeepsLemmas.{roomy_aside}
 use Rattle.gateway_core.proofs.ReportLemmas.{taken_or_aside}
 use Rattle.gateway_core.proofs.RollLemmas.{filter_all}
@@ -40,20 +41,6 @@ pub alert_put : (table : Table) (entries : List SituationEntry) (one : Situation
     → with_situation entries (record { key = number; value = (one.version, one.served); bytes = alert }) ≡ with_alert table entries one
 alert_put table entries one number alert e is =
     ap (λ (entry : SituationEntry). with_situation entries entry) (λ i. record { key = e i; value = (one.version, one.served); bytes = is i })
-
--- ---- items that are set aside, by number
-
--- one more
-pub aside_more : (faults : List (Option Fault)) (number : ℕ) (last : Option Fault)
-    → aside_from number (faults ++ last ∷ []) ≡ aside_from number faults ++ aside_from (number + length faults) (last ∷ [])
-aside_more [] number last = ap (λ (n : ℕ). aside_from n (last ∷ [])) (omega arith)
-aside_more (None ∷ others) number last =
-    aside_more others (number + 1) last
-    ∙ ap (λ (n : ℕ). aside_from (number + 1) others ++ aside_from n (last ∷ [])) (omega arith)
-aside_more (Some fault ∷ others) number last =
-    ap (λ (rest : List (ℕ × Fault)). (number, fault) ∷ rest)
-    (aside_more others (number + 1) last
-    ∙ ap (λ (n : ℕ). aside_from (number + 1) others ++ aside_from n (last ∷ [])) (omega arith))
 
 -- there is one verdict for each
 pub length-with_room : {A : Type 0} (is_same : A → A → Bool) (counts : A → Bool) (limit : ℕ) (before : List A) (verdicts : List (Result A Fault))
@@ -75,13 +62,13 @@ length-with_room {A} is_same counts limit before (Ok one ∷ others) =
 module _ (table : Table) (before : List Situation) (so_far : List (Result Situation Fault)) (entries : List SituationEntry) (aside : List (ℕ × Fault)) (h : GathersVerdicts table before so_far entries aside) where
   left_aside : (verdict last : Result Situation Fault) (left : List SituationEntry) → SituationsAfter table before (so_far ++ verdict ∷ []) left
       → situations_with_room before (so_far ++ verdict ∷ []) ≡ situations_with_room before so_far ++ last ∷ []
-      → GathersVerdicts table before (so_far ++ verdict ∷ []) left (aside ++ aside_from (length so_far) (result_err last ∷ []))
+      → GathersVerdicts table before (so_far ++ verdict ∷ []) left (aside ++ aside_at (length so_far) (result_err last))
   left_aside verdict last left keeps has = record {
     entries_are = keeps;
     aside_are =
-        ap (λ (front : List (ℕ × Fault)). front ++ aside_from (length so_far) (result_err last ∷ [])) h.aside_are
-        ∙ ap (λ (n : ℕ). aside_from 0 (map result_err (situations_with_room before so_far)) ++ aside_from n (result_err last ∷ [])) count
-        ∙ sym (aside_more (map result_err (situations_with_room before so_far)) 0 (result_err last))
+        ap (λ (front : List (ℕ × Fault)). front ++ aside_at (length so_far) (result_err last)) h.aside_are
+        ∙ ap (λ (n : ℕ). aside_from 0 (map result_err (situations_with_room before so_far)) ++ aside_at n (result_err last)) count
+        ∙ sym (aside-more 0 (map result_err (situations_with_room before so_far)) (result_err last))
         ∙ ap (aside_from 0) (sym (map-append result_err (situations_with_room before so_far) (last ∷ [])))
         ∙ ap (λ (verdicts : List (Result Situation Fault)). aside_from 0 (map result_err verdicts)) (sym has);
   }
@@ -93,14 +80,14 @@ module _ (table : Table) (before : List Situation) (so_far : List (Result Situat
           ∙ sym (zero-add (length (map result_err (situations_with_room before so_far))))
 
   pub gathers_more : (verdict : Result Situation Fault) → IsVerdictServed table verdict
-      → GathersVerdicts table before (so_far ++ verdict ∷ []) (verdict_step table entries verdict) (aside ++ aside_from (length so_far) (verdict_fault entries verdict ∷ []))
+      → GathersVerdicts table before (so_far ++ verdict ∷ []) (verdict_step table entries verdict) (aside ++ aside_at (length so_far) (verdict_fault entries verdict))
   gathers_more (Err fault) served =
       left_aside (Err fault) (Err fault) entries (situation_aside table before so_far entries h.entries_are fault) (roomy_aside is_same_number always 5000 before so_far fault)
   gathers_more (Ok one) served = by (situation_fits entries one) refl (situation_counts (situation_kept entries one) one) refl
     where
       by : (fits : Bool) → situation_fits entries one ≡ fits → (counts : Bool) → situation_counts (situation_kept entries one) one ≡ counts
           → GathersVerdicts table before (so_far ++ Ok one ∷ []) (after_situation table entries one (if fits then Some counts else None))
-          (aside ++ aside_from (length so_far) (room_fault (if fits then Some counts else None) ∷ []))
+          (aside ++ aside_at (length so_far) (room_fault (if fits then Some counts else None)))
       by false e counts k =
           left_aside (Ok one) (Err Full) entries (situation_full table before so_far entries h.entries_are one e) (situation_verdict_full table before so_far entries h.entries_are one e)
       by true e true k =
@@ -125,14 +112,14 @@ gathers_none table before entries h = record {
 pub gathers_next : (table : Table) (before : List Situation) (items : List (Item Situation)) (i : ℕ) (item : Item Situation) (entries : List SituationEntry) (aside : List (ℕ × Fault))
     → i < length items → item ≡ get_or items i item → IsVerdictServed table (item_verdict table item) → GathersVerdicts table before (map (item_verdict table) (take i items)) entries aside
     → GathersVerdicts table before (map (item_verdict table) (take (i + 1) items)) (verdict_step table entries (item_verdict table item))
-    (aside ++ aside_from i (verdict_fault entries (item_verdict table item) ∷ []))
+    (aside ++ aside_at i (verdict_fault entries (item_verdict table item)))
 gathers_next table before items i item entries aside within is served h =
     subst
     (λ (n : ℕ). GathersVerdicts table before (map (item_verdict table) (take (i + 1) items)) (verdict_step table entries (item_verdict table item))
-    (aside ++ aside_from n (verdict_fault entries (item_verdict table item) ∷ []))) counted
+    (aside ++ aside_at n (verdict_fault entries (item_verdict table item)))) counted
     (subst
     (λ (verdicts : List (Result Situation Fault)). GathersVerdicts table before verdicts (verdict_step table entries (item_verdict table item))
-    (aside ++ aside_from (length (map (item_verdict table) (take i items))) (verdict_fault entries (item_verdict table item) ∷ []))) (sym more)
+    (aside ++ aside_at (length (map (item_verdict table) (take i items))) (verdict_fault entries (item_verdict table item)))) (sym more)
     (gathers_more table before (map (item_verdict table) (take i items)) entries aside h (item_verdict table item) served))
   where
     more : map (item_verdict table) (take (i + 1) items) ≡ map (item_verdict table) (take i items) ++ item_verdict table item ∷ []
@@ -150,7 +137,7 @@ pub gathers_aside : (table : Table) (before : List Situation) (items : List (Ite
     → GathersVerdicts table before (map (item_verdict table) (take (i + 1) items)) left (aside ++ (i, fault) ∷ [])
 gathers_aside table before items i item fault entries left aside within is served told step h =
     subst (λ (kept : List SituationEntry). GathersVerdicts table before (map (item_verdict table) (take (i + 1) items)) kept (aside ++ (i, fault) ∷ [])) (sym step)
-    (subst (λ (last : Option Fault). GathersVerdicts table before (map (item_verdict table) (take (i + 1) items)) (verdict_step table entries (item_verdict table item)) (aside ++ aside_from i (last ∷ [])))
+    (subst (λ (last : Option Fault). GathersVerdicts table before (map (item_verdict table) (take (i + 1) items)) (verdict_step table entries (item_verdict table item)) (aside ++ aside_at i last))
     (sym told) (gathers_next table before items i item entries aside within is served h))
 
 pub gathers_taken : (table : Table) (before : List Situation) (items : List (Item Situation)) (i : ℕ) (item : Item Situation) (entries left : List SituationEntry) (aside : List (ℕ × Fault))
@@ -161,7 +148,7 @@ gathers_taken table before items i item entries left aside within is served told
     subst (λ (kept : List SituationEntry). GathersVerdicts table before (map (item_verdict table) (take (i + 1) items)) kept aside) (sym step)
     (subst (λ (all : List (ℕ × Fault)). GathersVerdicts table before (map (item_verdict table) (take (i + 1) items)) (verdict_step table entries (item_verdict table item)) all)
     (append-nil aside)
-    (subst (λ (last : Option Fault). GathersVerdicts table before (map (item_verdict table) (take (i + 1) items)) (verdict_step table entries (item_verdict table item)) (aside ++ aside_from i (last ∷ [])))
+    (subst (λ (last : Option Fault). GathersVerdicts table before (map (item_verdict table) (take (i + 1) items)) (verdict_step table entries (item_verdict table item)) (aside ++ aside_at i last))
     (sym told) (gathers_next table before items i item entries aside within is served h)))
 
 -- ---- the verdict on a situation

@@ -20,7 +20,7 @@ use Rattle.siri_json.specs.declared.delivery.Item.TheVariants.{Taken, Aside}
 use Rattle.gateway_core.specs.Arrivals.{CanBeServed, journeys}
 use Rattle.gateway_core.specs.Deliveries.{taken}
 use Rattle.feed_index.specs.Drafts.{Drafted, after}
-use Rattle.gateway_core.specs.Reports.{aside_from}
+use Rattle.journey_model.specs.Reports.{aside_from}
 use Rattle.gateway_core.specs.Standing.{IsServed, JourneyEntry, journey_entry, journey_seen}
 use Rattle.gateway_core.specs.Steps.{JourneysAfter, journey_counts, journey_fits, journey_kept, with_journey}
 use Rattle.gateway_core.specs.Taking.{journeys_with_room, report_on}
@@ -74,11 +74,6 @@ item_fault entries (Aside fault) = Some fault
 abbrev pub IsItemPut : Schedule → List JourneyEntry → Item JourneyRecord → Type 0
 IsItemPut schedule entries (Taken one) = IsPut schedule (recorded one) (journey_verdict entries (recorded one))
 IsItemPut schedule entries (Aside fault) = ⊤
-
--- the number of an item with its fault, where it has one
-abbrev pub numbered : ℕ → Option Fault → List (ℕ × Fault)
-numbered number None = []
-numbered number (Some fault) = (number, fault) ∷ []
 
 -- after some items of a delivery: what is kept, and those that are set aside
 pub record GathersItems (schedule : Schedule) (before : List Recorded) (items : List (Item JourneyRecord))

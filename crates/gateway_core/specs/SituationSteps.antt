@@ -19,7 +19,7 @@ use Rattle.siri_json.specs.declared.delivery.Item.{Item}
 use Rattle.stop_schedule.specs.Table.{Table}
 use Rattle.gateway_core.specs.Deliveries.{taken}
 use Rattle.feed_index.specs.Drafts.{Drafted, after}
-use Rattle.gateway_core.specs.Reports.{aside_from}
+use Rattle.journey_model.specs.Reports.{aside_from}
 use Rattle.gateway_core.specs.Standing.{IsAlertServed, SituationEntry, situation_entry, situation_seen}
 use Rattle.gateway_core.specs.Steps.{SituationsAfter, situation_counts, situation_fits, situation_kept, with_situation}
 use Rattle.gateway_core.specs.Taking.{limited_verdict, limited_verdicts, report_on, situations_with_room}

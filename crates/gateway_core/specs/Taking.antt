@@ -31,7 +31,7 @@ use Rattle.gateway_core.specs.declared.accepted.FeedRefusal.TheVariants.{Differe
 use Rattle.gateway_core.specs.declared.setting.Setting.{Setting}
 use Rattle.siri_json.specs.declared.delivery.DeliveryFault.{DeliveryFault}
 use Rattle.siri_json.specs.declared.delivery.DeliveryFault.TheVariants.{NotJson, NotDelivery, Memory}
-use Rattle.gateway_core.specs.Reports.{aside_from}
+use Rattle.journey_model.specs.Reports.{aside_from}
 use Rattle.gateway_core.specs.Standing.{Kept, Stands}
 
 -- ---- reports

@@ -1,6 +1,7 @@
 //! The items of a delivery of journeys, gone through over what is kept. The functions meet `specs/JourneySteps.antt`.
 ghost use Rattle.std.specs.Prelude.{◌≡◌, ◌≤◌, ◌++◌, filter, length, List as Values, IfOk, OnOk};
 ghost use Rattle.journey_model.specs.Records.{Recorded, recorded};
+ghost use Rattle.journey_model.specs.Reports.{aside_at};
 ghost use Rattle.journey_model.specs.Schedules.{IsServable};
 ghost use Rattle.siri_calls.specs.Deliveries.{AreServable, CanServe};
 ghost use Rattle.gateway_core.specs.Arrivals.{is_within};
@@ -127,7 +128,7 @@ fn add_aside(
     number: u64,
     fault: Option<Fault>,
 ) -> Result<(), AllocError>
-    ensures { OnOk result (aside.new ≡ aside.old ++ spec.numbered number fault) }
+    ensures { OnOk result (aside.new ≡ aside.old ++ aside_at number fault) }
 {
     match fault {
         Some(fault) => aside.push((number, fault)),

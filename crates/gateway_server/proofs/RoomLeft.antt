@@ -19,7 +19,7 @@ use Rattle.journey_model.specs.declared.fault.Fault.TheVariants.{Full}
 use Rattle.journey_model.specs.declared.situation.Situation.{Situation}
 use Rattle.latest_store.specs.Latest.{has_number, is_of}
 use Rattle.gateway_core.specs.Arrivals.{always, firsts, has_room, is_same_journey, is_same_number}
-use Rattle.gateway_core.specs.Reports.{aside_from}
+use Rattle.journey_model.specs.Reports.{aside_from}
 use Rattle.gateway_core.specs.Taking.{report_on, with_room}
 use Rattle.gateway_core.proofs.FewerLemmas.{none_left, one_goes}
 use Rattle.gateway_server.specs.Completeness as completeness

@@ -1,3 +1,4 @@
+pub mod AsideLemmas
 pub mod Delays
 pub mod NearLemmas
 pub mod Suppliers

@@ -3,7 +3,9 @@ use Rattle.std.specs.Prelude.{◌&&◌, ◌||◌, ◌==◌, ◌+◌, ℕ, ℤ, p
 use Rattle.std.specs.List.{filter_map}
 use Rattle.std.specs.Option.{option_or}
 use Rattle.std.specs.Ordering.{int_eq}
+use Rattle.std.specs.Result.{result_err}
 use Rattle.std.specs.Str.{bytes_eq}
+use Rattle.gw_base.specs.Enums.{differential, trip_canceled, trip_scheduled}
 use Rattle.gw_base.specs.declared.messages.Entity.{Entity}
 use Rattle.gw_base.specs.declared.messages.Feed.{Feed}
 use Rattle.gw_base.specs.declared.messages.TripUpdate.{TripUpdate}
@@ -12,6 +14,7 @@ use Rattle.service_day.specs.Starts.{local_day}
 use Rattle.service_day.specs.Utc.{moment_if}
 use Rattle.service_day.specs.declared.days.DayForm.TheVariants.{Compact}
 use Rattle.journey_model.specs.Propagation.{propagated}
+use Rattle.journey_model.specs.Reports.{aside_from}
 use Rattle.journey_model.specs.Runs.{Run}
 use Rattle.journey_model.specs.Schedules.{Schedule, run_on}
 use Rattle.journey_model.specs.Updates.{filled_text, places}
@@ -24,7 +27,7 @@ use Rattle.journey_model.specs.declared.readings.StopReading.TheVariants.{Absent
 
 -- a feed that says only what has changed (GTFS Realtime reference, FeedHeader, incrementality DIFFERENTIAL)
 abbrev pub is_differential : Feed → Bool
-is_differential feed = int_eq feed.incrementality (pos 1)
+is_differential feed = int_eq feed.incrementality differential
 
 -- a timestamp, where it is a moment
 abbrev pub moment_in : Option ℕ → Option ℤ
@@ -57,10 +60,10 @@ day_named schedule feed trip update =
 
 -- CANCELED, or SCHEDULED
 abbrev pub is_cancelled : TripUpdate → Bool
-is_cancelled update = int_eq update.trip.relation (pos 3)
+is_cancelled update = int_eq update.trip.relation trip_canceled
 
 abbrev pub is_scheduled : TripUpdate → Bool
-is_scheduled update = int_eq update.trip.relation (pos 0)
+is_scheduled update = int_eq update.trip.relation trip_scheduled
 
 -- what updates say of a trip on a day, or their first fault
 abbrev pub stops_said : Run → TripUpdate → Result (List ℕ) Fault → Result JourneyReading Fault
@@ -112,8 +115,7 @@ entity_said schedule feed entity =
 abbrev pub readings : Schedule → Feed → List (Option (Result DatedReading Fault))
 readings schedule feed = map (entity_said schedule feed) feed.entities
 
--- of what entities say, what was read, what was passed, and what was set aside, each with the number of its entity,
--- from that number on
+-- of what entities say, what was read, what was passed, and what was set aside, each with the number of its entity
 abbrev pub given : {A : Type 0} → Option (Result A Fault) → Option A
 given None = None
 given (Some (Err fault)) = None
@@ -127,11 +129,12 @@ passed_count [] = 0
 passed_count (None ∷ said) = passed_count said + 1
 passed_count (Some one ∷ said) = passed_count said
 
-abbrev pub aside_from : {A : Type 0} → ℕ → List (Option (Result A Fault)) → List (ℕ × Fault)
-aside_from number [] = []
-aside_from number (None ∷ said) = aside_from (number + 1) said
-aside_from number (Some (Ok one) ∷ said) = aside_from (number + 1) said
-aside_from number (Some (Err fault) ∷ said) = (number, fault) ∷ aside_from (number + 1) said
+-- why what an entity says is set aside, where it is
+abbrev pub fault_said : {A : Type 0} → Option (Result A Fault) → Option Fault
+fault_said said = option_and_then result_err said
+
+abbrev pub aside_all : {A : Type 0} → List (Option (Result A Fault)) → List (ℕ × Fault)
+aside_all said = aside_from 0 (map fault_said said)
 
 -- the last reading of a trip on a day
 abbrev pub is_of : ℕ → ℤ → DatedReading → Bool

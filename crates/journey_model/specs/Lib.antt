@@ -6,6 +6,7 @@ pub mod Matching
 pub mod Propagation
 pub mod Readings
 pub mod Records
+pub mod Reports
 pub mod Runs
 pub mod Schedules
 pub mod Situations

@@ -1,8 +1,9 @@
 -- The updates of a trip: their places, and their times there (GTFS Realtime reference, StopTimeUpdate, StopTimeEvent).
-use Rattle.std.specs.Prelude.{◌||◌, ◌+◌, ℕ, ℤ, pos, ◌+ℤ◌, Bool, List, [], ◌∷◌, position, Option, Some, None, option_map, Result, Ok, Err, if◌then◌else◌}
+use Rattle.std.specs.Prelude.{◌||◌, ◌+◌, ℕ, ℤ, ◌+ℤ◌, Bool, List, [], ◌∷◌, position, Option, Some, None, option_map, Result, Ok, Err, if◌then◌else◌}
 use Rattle.std.specs.Option.{option_or}
 use Rattle.std.specs.Ordering.{int_eq}
 use Rattle.std.specs.Str.{bytes_eq}
+use Rattle.gw_base.specs.Enums.{stop_no_data, stop_scheduled, stop_skipped}
 use Rattle.gw_base.specs.declared.messages.Event.{Event}
 use Rattle.gw_base.specs.declared.messages.StopUpdate.{StopUpdate}
 use Rattle.gw_base.specs.Chains.{unless_fault, ◌>>=◌}
@@ -18,13 +19,13 @@ use Rattle.journey_model.specs.declared.matching.NamedStop.TheVariants.{Missing,
 
 -- the schedule_relationship of an update: SCHEDULED, SKIPPED or NO_DATA
 abbrev pub is_scheduled : StopUpdate → Bool
-is_scheduled update = int_eq update.relation (pos 0)
+is_scheduled update = int_eq update.relation stop_scheduled
 
 abbrev pub is_skipped : StopUpdate → Bool
-is_skipped update = int_eq update.relation (pos 1)
+is_skipped update = int_eq update.relation stop_skipped
 
 abbrev pub is_no_data : StopUpdate → Bool
-is_no_data update = int_eq update.relation (pos 2)
+is_no_data update = int_eq update.relation stop_no_data
 
 -- a text that isn't empty: an empty one counts as missing
 abbrev pub filled_text : Option (List ℕ) → Option (List ℕ)

@@ -1,6 +1,7 @@
 //! What journeys read as: the readings of stops and journeys, how calls and updates are matched to the stops of a
 //! trip, the faults for which an item is set aside, reports, and situations. The definitions of propagation and of
-//! what a feed says stand here, since several layers cite them. Nothing in this crate takes memory.
+//! what a feed says stand here, since several layers cite them. Nothing in this crate takes memory but the lines of a
+//! report.
 #![tactic(auto)]
 
 mod context;
@@ -17,6 +18,6 @@ pub use dates::date_text;
 pub use fault::{Fault, FaultText, fault_text};
 pub use matching::{MatchFault, NamedStop, match_call, match_update};
 pub use readings::{DatedReading, JourneyReading, JourneyRecord, StopReading};
-pub use report::Report;
+pub use report::{Report, add_report};
 pub use situation::{Ref, Situation, ValidPeriod};
 pub use times::{both_times, delay_fault, planned_times};

@@ -1,6 +1,7 @@
 -- The entity of a record (GTFS Realtime reference, FeedEntity, TripUpdate, TripDescriptor).
-use Rattle.std.specs.Prelude.{ℕ, ℤ, pos, Bool, false, List, [], ◌∷◌, ◌++◌, codes, unsigned_abs, Option, Some, None, if◌then◌else◌}
+use Rattle.std.specs.Prelude.{ℕ, ℤ, Bool, false, List, [], ◌∷◌, ◌++◌, codes, unsigned_abs, Option, Some, None, if◌then◌else◌}
 use Rattle.std.specs.List.{flat_map, list_all}
+use Rattle.gw_base.specs.Enums.{trip_canceled, trip_scheduled}
 use Rattle.gw_base.specs.declared.messages.Entity.{Entity}
 use Rattle.gw_base.specs.declared.messages.TripDescriptor.{TripDescriptor}
 use Rattle.service_day.specs.DayTexts.{compact_text}
@@ -20,8 +21,8 @@ journey_id date trip_id = date ++ codes ":" ++ trip_id
 
 -- the schedule_relationship of a journey: CANCELED, or SCHEDULED
 abbrev pub relation_of : JourneyReading → ℤ
-relation_of Cancelled = pos 3
-relation_of (Stops readings) = pos 0
+relation_of Cancelled = trip_canceled
+relation_of (Stops readings) = trip_scheduled
 
 -- the trip on that day
 abbrev pub descriptor : List ℕ → List ℕ → JourneyReading → TripDescriptor

@@ -12,11 +12,13 @@ use Rattle.std.proofs.Math.Bool.{and_comm}
 use Rattle.stop_schedule.proofs.IdLemmas.{and-left, and-right}
 use Rattle.gw_base.specs.declared.messages.Entity.{Entity}
 use Rattle.gw_base.specs.declared.messages.Feed.{Feed}
-use Rattle.journey_model.specs.FeedReadings.{aside_from, entity_said, given, given_all, is_of, last_of_each, last_reading, passed_count, readings}
+use Rattle.journey_model.specs.FeedReadings.{aside_all, entity_said, fault_said, given, given_all, is_of, last_of_each, last_reading, passed_count, readings}
+use Rattle.journey_model.specs.Reports.{aside_at}
 use Rattle.journey_model.specs.Schedules.{Schedule}
 use Rattle.journey_model.specs.declared.fault.Fault.{Fault}
 use Rattle.journey_model.specs.declared.readings.DatedReading.{DatedReading}
 use Rattle.journey_model.specs.declared.readings.JourneyReading.{JourneyReading}
+use Rattle.journey_model.proofs.AsideLemmas.{aside-all-more}
 
 -- what an entity says
 abbrev pub Said : Type 0
@@ -34,20 +36,6 @@ passed-push [] last = omega arith
 passed-push (None ∷ said) last = omega (arith, passed-push said last)
 passed-push (Some one ∷ said) last = passed-push said last
 
-aside-push : (number : ℕ) (said : List Said) (last : Said)
-    → aside_from number (said ++ last ∷ []) ≡ aside_from number said ++ aside_from (number + length said) (last ∷ [])
-aside-push number [] last = ap (λ from. aside_from from (last ∷ [])) (omega arith)
-aside-push number (None ∷ said) last =
-    aside-push (number + 1) said last
-    ∙ ap (λ from. aside_from (number + 1) said ++ aside_from from (last ∷ [])) (omega arith)
-aside-push number (Some (Ok one) ∷ said) last =
-    aside-push (number + 1) said last
-    ∙ ap (λ from. aside_from (number + 1) said ++ aside_from from (last ∷ [])) (omega arith)
-aside-push number (Some (Err fault) ∷ said) last =
-    ap (λ rest. (number, fault) ∷ rest)
-    (aside-push (number + 1) said last
-    ∙ ap (λ from. aside_from (number + 1) said ++ aside_from from (last ∷ [])) (omega arith))
-
 pub passed-most : (said : List Said) → passed_count said ≤ length said
 passed-most [] = omega arith
 passed-most (None ∷ said) = omega (arith, passed-most said)
@@ -61,7 +49,7 @@ pub record SortedTo (schedule : Schedule) (feed : Feed) (number : ℕ) (given : 
     (aside : List (ℕ × Fault)) : Type 0 where
   pub given_is : given ≡ given_all (said_to schedule feed number)
   pub passed_is : passed ≡ passed_count (said_to schedule feed number)
-  pub aside_is : aside ≡ aside_from 0 (said_to schedule feed number)
+  pub aside_is : aside ≡ aside_all (said_to schedule feed number)
   pub many : length (said_to schedule feed number) ≡ number
 
 pub sorted_none : (schedule : Schedule) (feed : Feed) → SortedTo schedule feed 0 [] 0 []
@@ -85,7 +73,7 @@ pub sorted_more : (schedule : Schedule) (feed : Feed) (number : ℕ) (given give
     → SortedTo schedule feed number given passed aside → number < length feed.entities
     → entity ≡ get_or feed.entities number entity → said ≡ entity_said schedule feed entity
     → given' ≡ given ++ given_all (said ∷ []) → passed' ≡ passed + passed_count (said ∷ [])
-    → aside' ≡ aside ++ aside_from number (said ∷ [])
+    → aside' ≡ aside ++ aside_at number (fault_said said)
     → SortedTo schedule feed (number + 1) given' passed' aside'
 sorted_more schedule feed number given given' passed passed' aside aside' entity said h within is says more_given
     more_passed more_aside =
@@ -96,8 +84,8 @@ sorted_more schedule feed number given given' passed passed' aside aside' entity
       passed_is = more_passed ∙ (rw (h.passed_is, grown) (sym (passed-push before said)));
       aside_is = more_aside
           ∙ (rw (h.aside_is, grown)
-          (sym (aside-push 0 before said
-          ∙ ap (λ from. aside_from 0 before ++ aside_from from (said ∷ [])) (omega (arith, h.many)))));
+          (sym (aside-all-more before said
+          ∙ ap (λ (at : ℕ). aside_all before ++ aside_at at (fault_said said)) h.many)));
       many = rw grown (length-push before said ∙ ap (λ n. n + 1) h.many);
     }
   where

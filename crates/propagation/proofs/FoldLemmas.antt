@@ -11,7 +11,8 @@ use Rattle.gw_base.specs.declared.messages.FeedHead.{FeedHead}
 use Rattle.gw_base.specs.declared.messages.TripUpdate.{TripUpdate}
 use Rattle.service_day.specs.DayTexts.{day_of}
 use Rattle.service_day.specs.declared.days.DayForm.TheVariants.{Compact}
-use Rattle.journey_model.specs.FeedReadings.{given, aside_from, day_by, day_named, entity_said, given_all, is_cancelled, is_scheduled, moment_in, passed_count, reading_said, readings, said_of_day, said_of_trip, said_on, trip_named, update_said, with_reading}
+use Rattle.journey_model.specs.Reports.{aside_from}
+use Rattle.journey_model.specs.FeedReadings.{given, aside_all, day_by, day_named, entity_said, fault_said, given_all, is_cancelled, is_scheduled, moment_in, passed_count, reading_said, readings, said_of_day, said_of_trip, said_on, trip_named, update_said, with_reading}
 use Rattle.journey_model.specs.Runs.{Run}
 use Rattle.journey_model.specs.Schedules.{Schedule, run_on}
 use Rattle.journey_model.specs.Updates.{filled_text}
@@ -165,7 +166,7 @@ late_given schedule feed number (Some one ∷ early) =
 
 late_aside : (schedule : Schedule) (feed : Feed) (number : ℕ) (early : List (Option EntitySaid))
     → filter_map (aside_late schedule feed) (numbered number early)
-    ≡ aside_from number (map (option_map (late_said schedule feed)) early)
+    ≡ aside_from number (map fault_said (map (option_map (late_said schedule feed)) early))
 late_aside schedule feed number [] = refl
 late_aside schedule feed number (None ∷ early) = late_aside schedule feed (number + 1) early
 late_aside schedule feed number (Some one ∷ early) =
@@ -173,9 +174,9 @@ late_aside schedule feed number (Some one ∷ early) =
   where
     by : (said : Result DatedReading Fault)
         → filter_map (aside_late schedule feed) (numbered (number + 1) early)
-        ≡ aside_from (number + 1) (map (option_map (late_said schedule feed)) early)
+        ≡ aside_from (number + 1) (map fault_said (map (option_map (late_said schedule feed)) early))
         → cons_option (aside_as number said) (filter_map (aside_late schedule feed) (numbered (number + 1) early))
-        ≡ aside_from number (Some said ∷ map (option_map (late_said schedule feed)) early)
+        ≡ aside_from number (map fault_said (Some said ∷ map (option_map (late_said schedule feed)) early))
     by (Ok reading) rest = rest
     by (Err fault) rest = ap (λ (more : List (ℕ × Fault)). (number, fault) ∷ more) rest
 
@@ -210,7 +211,7 @@ late_sorted schedule head fold entities sorted stands is_given is_passed is_asid
       passed = is_passed ∙ (ap (λ (held : Folded). held.passed) stands
           ∙ (late_passed schedule bare early ∙ ap passed_count same));
       aside = is_aside ∙ (ap (λ (held : Folded). filter_map (aside_late schedule bare) held.said) stands
-          ∙ (late_aside schedule bare 0 early ∙ ap (aside_from 0) same));
+          ∙ (late_aside schedule bare 0 early ∙ ap aside_all same));
     }
 
 -- what was held so far, sorted out once the header is known

@@ -6,7 +6,7 @@ use Rattle.std.specs.declared.cmp.Ordering.{Ordering}
 use Rattle.std.specs.Option.{option_to_list}
 use Rattle.std.specs.Ordering.{int_cmp, nat_cmp, ordering_then}
 use Rattle.gw_base.specs.declared.messages.Feed.{Feed}
-use Rattle.journey_model.specs.FeedReadings.{aside_from, given_all, is_of, last_of_each, last_reading, passed_count, readings}
+use Rattle.journey_model.specs.FeedReadings.{aside_all, given_all, is_of, last_of_each, last_reading, passed_count, readings}
 use Rattle.journey_model.specs.Schedules as schedules
 use Rattle.journey_model.specs.Schedules.{Schedule}
 use Rattle.journey_model.specs.declared.readings.DatedReading.{DatedReading}
@@ -31,4 +31,4 @@ pub record IsReading (schedule : Schedule) (feed : Feed) (found : FeedReading) :
   pub servable : All (IsServable schedule) found.journeys
   pub taken : found.report.taken ≡ length (given_all (readings schedule feed))
   pub passed : found.report.passed ≡ passed_count (readings schedule feed)
-  pub aside : found.report.aside ≡ aside_from 0 (readings schedule feed)
+  pub aside : found.report.aside ≡ aside_all (readings schedule feed)

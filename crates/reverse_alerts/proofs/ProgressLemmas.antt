@@ -1,5 +1,5 @@
 -- A delivery is written one entity after the other.
-use Rattle.std.proofs.Common.{◌≡◌, ◌∙◌, ℕ, ℤ, ◌+◌, ◌≤◌, ◌<◌, min, Bool, true, false, nat_lt, int_le, List, [], ◌∷◌, ◌++◌, length, drop, get_or, Option, Some, None, Ok, Err, refl, ap, sym, subst, append_assoc, arith, if◌then◌else◌}
+use Rattle.std.proofs.Common.{◌≡◌, ◌∙◌, ℕ, ℤ, ◌+◌, ◌≤◌, ◌<◌, min, Bool, true, false, nat_lt, int_le, List, [], ◌∷◌, ◌++◌, length, map, drop, get_or, Option, Some, None, Ok, Err, refl, ap, sym, subst, append_assoc, arith, if◌then◌else◌}
 use Rattle.std.proofs.lemmas.Bool.{and_parts}
 use Rattle.std.specs.List.{AllByRecursion, filter_map, sum_by}
 use Rattle.std.specs.Option.{option_or}
@@ -22,8 +22,9 @@ use Rattle.gw_base.specs.Chains.{unless_fault}
 use Rattle.stop_schedule.specs.Table.{Table}
 use Rattle.journey_model.specs.declared.fault.Fault.{Fault}
 use Rattle.journey_model.specs.declared.fault.Fault.TheVariants.{BadField}
+use Rattle.journey_model.specs.Reports.{aside_from}
 use Rattle.journey_model.specs.declared.report.Report.{Report}
-use Rattle.journey_model.specs.FeedReadings.{aside_from, given}
+use Rattle.journey_model.specs.FeedReadings.{aside_all, fault_said, given}
 use Rattle.reverse_alerts.specs.Kept.{all_named}
 use Rattle.reverse_alerts.specs.Progress.{Verdict, added_text, fault_by, no_report, none_named, with_passed, with_verdict}
 use Rattle.reverse_alerts.specs.Senses.{sense}
@@ -41,7 +42,7 @@ pub record LeftOf (table : Table) (moment : ℤ) (left : List Verdict) (passes :
   pub few : report.taken ≤ number
   pub passed_is : min (report.passed + passes) last_count ≡ passed
   pub within : report.passed ≤ last_count
-  pub aside_is : report.aside ++ aside_from number left ≡ aside
+  pub aside_is : report.aside ++ aside_from number (map fault_said left) ≡ aside
 
 later_is : (taken : ℕ) → nat_lt 0 (taken + 1) ≡ true
 later_is taken = grind (arith, nat_tests)
@@ -69,7 +70,7 @@ one_more table moment (Some (Err fault)) left more passes whole taken passed asi
       few = omega (arith, h.few);
       passed_is = omega (arith, h.passed_is);
       within = omega arith;
-      aside_is = append_assoc report.aside ((number, fault) ∷ []) (aside_from (number + 1) left) ∙ h.aside_is;
+      aside_is = append_assoc report.aside ((number, fault) ∷ []) (aside_from (number + 1) (map fault_said left)) ∙ h.aside_is;
     })
 one_more table moment (Some (Ok one)) left more passes whole taken passed aside number text text' report report' h text-is report-is =
     rw (text-is, report-is) (record {
@@ -88,7 +89,7 @@ one_more table moment (Some (Ok one)) left more passes whole taken passed aside 
 -- nothing so far
 pub none_yet : (table : Table) (moment : ℤ) (left : List Verdict) (passes : ℕ) (text : List ℕ)
     → LeftOf table moment left passes (text ++ situations_text false table moment (filter_map given left)) (length (filter_map given left)) (min passes last_count)
-    (aside_from 0 left) 0 text no_report
+    (aside_all left) 0 text no_report
 none_yet table moment left passes text = record {
   text_is = refl;
   taken_is = omega arith;
@@ -115,7 +116,7 @@ abbrev pub RunTo : Table → ℤ → List Entity → ℕ → List ℕ → Report
 RunTo table moment all number text report =
     LeftOf table moment (verdicts table (drop number all)) (sum_by (passed_in table) (drop number all))
     (head_text moment ++ situations_text false table moment (situations table all)) (length (situations table all)) (passed_count table all)
-    (aside_from 0 (verdicts table all)) number text report
+    (aside_all (verdicts table all)) number text report
 
 pub run_begins : (table : Table) (moment : ℤ) (all : List Entity) → RunTo table moment all 0 (head_text moment) no_report
 run_begins table moment all = none_yet table moment (verdicts table all) (sum_by (passed_in table) all) (head_text moment)
@@ -131,13 +132,13 @@ run_goes_on table moment all number entity text text' report report' within is h
     sum_by-drop_more (passed_in table) all number entity within ∙ ap (λ y. passed_in table y + sum_by (passed_in table) (drop (number + 1) all)) (sym is) in
     let whole = head_text moment ++ situations_text false table moment (situations table all) in
     let now : LeftOf table moment (entity_verdict table entity ∷ verdicts table (drop (number + 1) all)) (passed_in table entity + sum_by (passed_in table) (drop (number + 1) all))
-    whole (length (situations table all)) (passed_count table all) (aside_from 0 (verdicts table all)) number text report =
+    whole (length (situations table all)) (passed_count table all) (aside_all (verdicts table all)) number text report =
     subst (λ p. LeftOf table moment (entity_verdict table entity ∷ verdicts table (drop (number + 1) all)) p whole (length (situations table all)) (passed_count table all)
-    (aside_from 0 (verdicts table all)) number text report) sum
+    (aside_all (verdicts table all)) number text report) sum
     (subst (λ (l : List Entity). LeftOf table moment (verdicts table l) (sum_by (passed_in table) (drop number all)) whole (length (situations table all)) (passed_count table all)
-    (aside_from 0 (verdicts table all)) number text report) left h) in
+    (aside_all (verdicts table all)) number text report) left h) in
     one_more table moment (entity_verdict table entity) (verdicts table (drop (number + 1) all)) (passed_in table entity) (sum_by (passed_in table) (drop (number + 1) all))
-    whole (length (situations table all)) (passed_count table all) (aside_from 0 (verdicts table all)) number text text' report report' now text-is report-is
+    whole (length (situations table all)) (passed_count table all) (aside_all (verdicts table all)) number text text' report report' now text-is report-is
 
 -- the text and the report at the end
 pub run_ends : (table : Table) (moment : ℤ) (all : List Entity) (number : ℕ) (text : List ℕ) (report : Report) → length all ≤ number
@@ -146,9 +147,9 @@ pub run_ends : (table : Table) (moment : ℤ) (all : List Entity) (number : ℕ)
 run_ends table moment all number text report past h =
     let whole = head_text moment ++ situations_text false table moment (situations table all) in
     let none : drop number all ≡ [] = at_drop_all (λ l. l) all number past in
-    let done = all_done table moment whole (length (situations table all)) (passed_count table all) (aside_from 0 (verdicts table all)) number text report
+    let done = all_done table moment whole (length (situations table all)) (passed_count table all) (aside_all (verdicts table all)) number text report
     (subst (λ (l : List Entity). LeftOf table moment (verdicts table l) (sum_by (passed_in table) l) whole (length (situations table all)) (passed_count table all)
-    (aside_from 0 (verdicts table all)) number text report) none h) in
+    (aside_all (verdicts table all)) number text report) none h) in
     (sym (append_assoc text (93 ∷ []) tail_text) ∙ ap (λ l. l ++ tail_text) done.0 ∙ delivery table moment (situations table all), done.1)
 
 -- ---- an alert without a fault

@@ -1,8 +1,9 @@
 -- What an alert says that a situation can say again (GTFS Realtime reference, Alert, Cause, Effect, TimeRange,
 -- TranslatedString).
-use Rattle.std.specs.Prelude.{◌&&◌, ◌||◌, ℕ, ℤ, pos, Bool, is_none, int_le, List, [], ◌∷◌, map, Option, Some, None, if◌then◌else◌}
+use Rattle.std.specs.Prelude.{◌&&◌, ◌||◌, ℕ, ℤ, Bool, is_none, int_le, List, [], ◌∷◌, map, Option, Some, None, if◌then◌else◌}
 use Rattle.std.specs.List.{filter, list_any}
 use Rattle.std.specs.Ordering.{int_eq}
+use Rattle.gw_base.specs.Enums.{medical_emergency, modified_service, no_service, other_cause, significant_delays, technical_problem, unknown_cause, unknown_effect, weather}
 use Rattle.gw_base.specs.declared.messages.Alert.{Alert}
 use Rattle.gw_base.specs.declared.messages.Period.{Period}
 use Rattle.gw_base.specs.declared.messages.Translation.{Translation}
@@ -27,14 +28,16 @@ holding periods = if list_any is_open periods then [] else map valid_period peri
 -- MEDICAL_EMERGENCY 12 as OTHER_CAUSE, and all others as UNKNOWN_CAUSE 1
 abbrev pub cause_of : ℤ → ℤ
 cause_of cause =
-    if int_eq cause (pos 3) then pos 3 else
-    (if int_eq cause (pos 8) then pos 8 else
-    (if int_le (pos 2) cause && int_le cause (pos 12) then pos 2 else pos 1))
+    if int_eq cause technical_problem then technical_problem else
+    (if int_eq cause weather then weather else
+    (if int_le other_cause cause && int_le cause medical_emergency then other_cause else unknown_cause))
 
 -- the effect: NO_SERVICE 1, SIGNIFICANT_DELAYS 3, DETOUR 4, ADDITIONAL_SERVICE 5 and MODIFIED_SERVICE 6 as they are,
 -- and all others as UNKNOWN_EFFECT 8
 abbrev pub effect_of : ℤ → ℤ
-effect_of effect = if int_eq effect (pos 1) || (int_le (pos 3) effect && int_le effect (pos 6)) then effect else pos 8
+effect_of effect =
+    if int_eq effect no_service || (int_le significant_delays effect && int_le effect modified_service) then effect
+    else unknown_effect
 
 -- a text: that of the first translation, where it isn't empty
 abbrev pub first_text : List Translation → Option (List ℕ)

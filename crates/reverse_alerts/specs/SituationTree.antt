@@ -4,6 +4,7 @@
 use Rattle.std.specs.Prelude.{ℕ, ℤ, pos, List, [], ◌∷◌, ◌++◌, map, codes, Option, Some, None, if◌then◌else◌}
 use Rattle.std.specs.List.{filter}
 use Rattle.std.specs.Ordering.{int_eq}
+use Rattle.gw_base.specs.Enums.{additional_service, detour, modified_service, no_service, other_cause, significant_delays, technical_problem, weather}
 use Rattle.serde_json.specs.Data.{Data, string}
 use Rattle.serde_json.specs.Written.{compact_text}
 use Rattle.service_day.specs.DayTexts.{dashed_text}
@@ -69,11 +70,11 @@ affects_tree table refs = object_of (
 -- the word of an effect (Condition), which an unknown one lacks
 abbrev pub condition_of : ℤ → Option (List ℕ)
 condition_of effect =
-    if int_eq effect (pos 1) then Some (codes "noService") else
-    (if int_eq effect (pos 3) then Some (codes "delayed") else
-    (if int_eq effect (pos 4) then Some (codes "diverted") else
-    (if int_eq effect (pos 5) then Some (codes "additionalService") else
-    (if int_eq effect (pos 6) then Some (codes "altered") else None))))
+    if int_eq effect no_service then Some (codes "noService") else
+    (if int_eq effect significant_delays then Some (codes "delayed") else
+    (if int_eq effect detour then Some (codes "diverted") else
+    (if int_eq effect additional_service then Some (codes "additionalService") else
+    (if int_eq effect modified_service then Some (codes "altered") else None))))
 
 abbrev pub consequences_of : Option (List ℕ) → Named
 consequences_of None = []
@@ -86,9 +87,9 @@ consequences_of (Some condition) = (
 -- the member that is the reason of a cause, which an unknown one lacks
 abbrev pub reason_of : ℤ → Option (List ℕ)
 reason_of cause =
-    if int_eq cause (pos 3) then Some (codes "EquipmentReason") else
-    (if int_eq cause (pos 8) then Some (codes "EnvironmentReason") else
-    (if int_eq cause (pos 2) then Some (codes "MiscellaneousReason") else None))
+    if int_eq cause technical_problem then Some (codes "EquipmentReason") else
+    (if int_eq cause weather then Some (codes "EnvironmentReason") else
+    (if int_eq cause other_cause then Some (codes "MiscellaneousReason") else None))
 
 abbrev pub reason_member : Option (List ℕ) → Named
 reason_member None = []

@@ -16,7 +16,7 @@ use Rattle.journey_model.specs.declared.fault.Fault.TheVariants.{BadField, NoAff
 use Rattle.journey_model.specs.declared.report.Report.{Report}
 use Rattle.journey_model.specs.declared.situation.Ref.{Ref}
 use Rattle.journey_model.specs.declared.situation.Situation.{Situation}
-use Rattle.journey_model.specs.FeedReadings.{aside_from, given, given_all}
+use Rattle.journey_model.specs.FeedReadings.{aside_all, given, given_all}
 use Rattle.reverse_alerts.specs.Kept.{all_named, selectors_passed}
 use Rattle.reverse_alerts.specs.Senses.{Sense, sense}
 
@@ -98,7 +98,7 @@ abbrev pub report_on : Table → List Entity → Report
 report_on table entities = record {
   taken = length (situations table entities);
   passed = passed_count table entities;
-  aside = aside_from 0 (verdicts table entities);
+  aside = aside_all (verdicts table entities);
 }
 
 -- the alerts that are taken

@@ -18,7 +18,7 @@ use Rattle.journey_model.specs.declared.readings.JourneyReading.{JourneyReading}
 use Rattle.propagation.specs.Feeds.{IsReading, IsServable, journey_cmp}
 use Rattle.propagation.specs.declared.feeds.FeedReading.{FeedReading}
 use Rattle.sample_run.specs.Made.{made_day}
-use Rattle.sample_run.specs.Steps.{AreSaid, HasOneDay, after, head_said}
+use Rattle.sample_run.specs.Steps.{AreSaid, HasOneDay, after_trip, head_said}
 
 -- ---- one trip more
 
@@ -32,7 +32,7 @@ next_said said trip (one ∷ others) h = by (one.trip.0 == trip) refl
     by false e = h.1 trip (omega arith) (grind (arith, nat_tests, h.0))
 
 -- and of those after it
-pub after_said : (said : ℕ → Option JourneyReading) (trip : ℕ) (rest : List DatedReading) → AreSaid said trip rest → AreSaid said (trip + 1) (after trip rest)
+pub after_said : (said : ℕ → Option JourneyReading) (trip : ℕ) (rest : List DatedReading) → AreSaid said trip rest → AreSaid said (trip + 1) (after_trip trip rest)
 after_said said trip [] h = λ later from. h later (omega arith)
 after_said said trip (one ∷ others) h = by (one.trip.0 == trip) refl
   where

@@ -66,9 +66,9 @@ abbrev pub head_said : ℕ → List DatedReading → Option JourneyReading
 head_said trip [] = None
 head_said trip (one ∷ others) = if one.trip.0 == trip then Some one.reading else None
 
-abbrev pub after : ℕ → List DatedReading → List DatedReading
-after trip [] = []
-after trip (one ∷ others) = if one.trip.0 == trip then others else one ∷ others
+abbrev pub after_trip : ℕ → List DatedReading → List DatedReading
+after_trip trip [] = []
+after_trip trip (one ∷ others) = if one.trip.0 == trip then others else one ∷ others
 
 -- this is what readings, in the order of their trips, say of trips from a number on
 abbrev pub AreSaid : (ℕ → Option JourneyReading) → ℕ → List DatedReading → Type 0

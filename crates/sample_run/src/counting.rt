@@ -63,16 +63,16 @@ fn add_trip<'r>(
     requires servable { AllByRecursion (IsServable context.now) rest.now }
     requires few { IsWithin (stop_limit * trip) sum.old }
     requires room { trip < row_limit file.Trips }
-    ensures rest { result.now ≡ steps.after trip rest.now }
+    ensures rest { result.now ≡ steps.after_trip trip rest.now }
     ensures servable { AllByRecursion (IsServable context.now) result.now }
     ensures sum { sum.new ≡ plus sum.old
         (tally (stops_said context.now trip (steps.head_said trip rest.now))) }
     ensures few { IsWithin (stop_limit * (trip + 1)) sum.new }
 {
     match rest.split_first() {
-        Some((one, after)) if one.trip.0 == trip => {
+        Some((one, others)) if one.trip.0 == trip => {
             sum.add(&given(context, one));
-            after
+            others
         }
         _ => {
             sum.add(&not_given(context.table, TripNo(trip)));

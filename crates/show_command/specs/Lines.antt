@@ -1,15 +1,14 @@
--- What `show` prints of a feed that was read: a line for each cancelled journey and for each stop of the others, a line
--- for each entity that was set aside, and the line of counts.
-use Rattle.std.specs.Prelude.{ℕ, ℤ, List, ◌++◌, codes, decimal, length}
+-- What `show` prints of a feed that was read: a line for each cancelled journey and for each stop of the others, and the
+-- lines of the report on its entities.
+use Rattle.std.specs.Prelude.{ℕ, ℤ, List, [], ◌++◌, codes, decimal}
 use Rattle.std.specs.List.{enumerate_from, flat_map, zip}
 use Rattle.service_day.specs.DayTexts.{dashed_text}
 use Rattle.service_day.specs.Utc.{moment_text}
 use Rattle.stop_schedule.specs.Table.{Table}
 use Rattle.stop_schedule.specs.declared.stop_times.StopRow.{StopRow}
-use Rattle.journey_model.specs.FaultTexts.{fault_text}
 use Rattle.journey_model.specs.Ids.{id_of}
+use Rattle.journey_model.specs.Reports.{report_lines}
 use Rattle.journey_model.specs.Schedules.{Schedule}
-use Rattle.journey_model.specs.declared.fault.Fault.{Fault}
 use Rattle.journey_model.specs.declared.readings.DatedReading.{DatedReading}
 use Rattle.journey_model.specs.declared.readings.JourneyReading.{JourneyReading}
 use Rattle.journey_model.specs.declared.readings.JourneyReading.TheVariants.{Cancelled, Stops}
@@ -56,19 +55,6 @@ abbrev pub journey_lines : Table → DatedReading → List ℕ
 journey_lines table one =
     reading_lines table one.trip.0 (journey_name one.day (id_of table.trips one.trip.0)) one.reading
 
--- `aside I FAULT`, for the entity of that number
-abbrev pub aside_line : ℕ × Fault → List ℕ
-aside_line one = codes "aside " ++ decimal one.0 ++ codes " " ++ fault_text one.1 ++ codes "\n"
-
--- `taken T passed P aside N`
-abbrev pub count_line : ℕ → ℕ → ℕ → List ℕ
-count_line taken passed aside =
-    codes "taken " ++ decimal taken ++ codes " passed " ++ decimal passed ++ codes " aside " ++ decimal aside
-    ++ codes "\n"
-
--- what is shown of a feed: the journeys in the order in which they were read, the entities set aside, and the counts
+-- what is shown of a feed: the journeys in the order in which they were read, and the report on its entities
 abbrev pub shown : Schedule → FeedReading → List ℕ
-shown schedule feed =
-    flat_map (journey_lines schedule.table) feed.journeys
-    ++ flat_map aside_line feed.report.aside
-    ++ count_line feed.report.taken feed.report.passed (length feed.report.aside)
+shown schedule feed = flat_map (journey_lines schedule.table) feed.journeys ++ report_lines [] feed.report

@@ -6,8 +6,7 @@ ghost use Rattle.show_command.specs.Lines as spec;
 
 use crate::stop_lines::{add_cancelled, add_stops, journey_name};
 use gw_base::Bytes;
-use itoa::Buffer;
-use journey_model::{Context, DatedReading, Fault, JourneyReading, StopReading, fault_text};
+use journey_model::{Context, DatedReading, JourneyReading, StopReading, add_report};
 use propagation::FeedReading;
 use std::alloc::{AllocError, Global};
 
@@ -72,43 +71,6 @@ fn add_journeys(
     Ok(())
 }
 
-// Adds the line of an entity that is set aside.
-fn add_aside(lines: &mut Bytes, number: u64, fault: &Fault) -> Result<(), AllocError>
-    ensures { OnOk result (lines.new ≡ lines.old ++ spec.aside_line (number, fault.now)) }
-{
-    let mut digits = Buffer::new();
-    let text = fault_text(fault);
-    lines.extend(b"aside ")?;
-    lines.extend(digits.format(number).as_bytes())?;
-    lines.extend(b" ")?;
-    lines.extend(text.as_str().as_bytes())?;
-    lines.extend(b"\n")
-}
-
-// Adds the lines of the entities that are set aside.
-fn add_all_aside(lines: &mut Bytes, aside: &[(u64, Fault)]) -> Result<(), AllocError>
-    ensures { OnOk result (lines.new ≡ lines.old ++ flat_map spec.aside_line aside.now) }
-{
-    for (number, fault) in aside {
-        add_aside(lines, *number, fault)?;
-    }
-    Ok(())
-}
-
-// Adds the line of counts.
-fn add_counts(lines: &mut Bytes, taken: u64, passed: u64, aside: u64) -> Result<(), AllocError>
-    ensures { OnOk result (lines.new ≡ lines.old ++ spec.count_line taken passed aside) }
-{
-    let mut digits = Buffer::new();
-    lines.extend(b"taken ")?;
-    lines.extend(digits.format(taken).as_bytes())?;
-    lines.extend(b" passed ")?;
-    lines.extend(digits.format(passed).as_bytes())?;
-    lines.extend(b" aside ")?;
-    lines.extend(digits.format(aside).as_bytes())?;
-    lines.extend(b"\n")
-}
-
 /// What `show` prints of a feed that was read over that timetable, zone and window (GTFS Realtime reference, TripUpdate
 /// and StopTimeUpdate), each line with LF: for each journey `DAY TRIP cancelled`, or for each of its stops, numbered
 /// from 1, `DAY TRIP K STOP ARRIVAL DEPARTURE`, `DAY TRIP K STOP skipped` or `DAY TRIP K STOP absent`, days as
@@ -123,11 +85,8 @@ pub fn show_lines(
         reading.now.journeys }
     ensures { IfOk result (λ lines. lines ≡ spec.shown context.now reading.now) }
 {
-    let report = &reading.report;
-    let aside = report.aside.as_slice();
     let mut lines = Bytes::new(alloc);
     add_journeys(alloc, &mut lines, context, reading.journeys.as_slice())?;
-    add_all_aside(&mut lines, aside)?;
-    add_counts(&mut lines, report.taken, report.passed, aside.len() as u64)?;
+    add_report(&mut lines, b"", &reading.report)?;
     Ok(lines)
 }

@@ -1,8 +1,9 @@
 -- The shortest list of updates that says how the stops of a trip read (GTFS Realtime reference, StopTimeUpdate).
-use Rattle.std.specs.Prelude.{◌||◌, ◌&&◌, ℤ, pos, ◌-ℤ◌, Bool, true, false, not, List, [], ◌∷◌, ◌++◌, Option, Some, None, if◌then◌else◌}
+use Rattle.std.specs.Prelude.{◌||◌, ◌&&◌, ℤ, ◌-ℤ◌, Bool, true, false, not, List, [], ◌∷◌, ◌++◌, Option, Some, None, if◌then◌else◌}
 use Rattle.std.specs.List.{zip}
 use Rattle.std.specs.Option.{option_or}
 use Rattle.std.specs.Ordering.{int_eq}
+use Rattle.gw_base.specs.Enums.{stop_no_data, stop_scheduled, stop_skipped}
 use Rattle.gw_base.specs.declared.messages.Event.{Event}
 use Rattle.gw_base.specs.declared.messages.StopUpdate.{StopUpdate}
 use Rattle.stop_schedule.specs.Planned.{planned}
@@ -55,15 +56,15 @@ event planned time = Some (record { delay = Some (time -ℤ planned); time = Som
 -- the update of a stop: SKIPPED, NO_DATA where it is absent, or both events
 abbrev pub update : ℤ → StopRow → StopReading → StopUpdate
 update start row Absent =
-    record { sequence = Some row.sequence; arrival = None; departure = None; stop_id = None; relation = pos 2 }
+    record { sequence = Some row.sequence; arrival = None; departure = None; stop_id = None; relation = stop_no_data }
 update start row Skipped =
-    record { sequence = Some row.sequence; arrival = None; departure = None; stop_id = None; relation = pos 1 }
+    record { sequence = Some row.sequence; arrival = None; departure = None; stop_id = None; relation = stop_skipped }
 update start row (Timed arrival departure) = record {
   sequence = Some row.sequence;
   arrival = event (planned start row).0 arrival;
   departure = event (planned start row).1 departure;
   stop_id = None;
-  relation = pos 0;
+  relation = stop_scheduled;
 }
 
 -- the updates of stops that stand after others

@@ -8,7 +8,6 @@ use Rattle.std.proofs.lemmas.Bool.Decides.{nat_tests}
 use Rattle.gw_base.specs.Chains.{ok_map}
 use Rattle.stop_schedule.specs.Faults.{all_text, first_fault}
 use Rattle.stop_schedule.specs.Layout.{columns}
-use Rattle.stop_schedule.specs.Limits.{row_limit}
 use Rattle.stop_schedule.specs.Columns.{column_name}
 use Rattle.stop_schedule.specs.Rows.{column}
 use Rattle.stop_schedule.specs.Sheet.{Row, nth, place_then, places_of}
@@ -16,7 +15,6 @@ use Rattle.stop_schedule.specs.declared.table_file.TableFile.{TableFile}
 use Rattle.stop_schedule.specs.declared.column.Column.{Column}
 use Rattle.stop_schedule.specs.declared.forms.Form.{Form}
 use Rattle.stop_schedule.specs.declared.table_fault.TableFault.{TableFault}
-use Rattle.stop_schedule.specs.declared.table_file.TableFile.TheVariants.{Agency, Stops, Routes, Trips, Calendar, CalendarDates, Frequencies, StopTimes}
 
 -- where the first of some columns has no text, not all have
 pub first-no-text : (at : ℕ) (columns : List (Column × Form)) (row : Row) → 0 < length columns
@@ -47,16 +45,6 @@ step-place file names items i d before place all within at so_far =
     ∙ one-place before place rest
 
 -- ---- one row more
-
-pub few-rows : (file : TableFile) → row_limit file ≤ 4000000
-few-rows Agency = omega arith
-few-rows Stops = omega arith
-few-rows Routes = omega arith
-few-rows Trips = omega arith
-few-rows Calendar = omega arith
-few-rows CalendarDates = omega arith
-few-rows Frequencies = omega arith
-few-rows StopTimes = omega arith
 
 pub both-none : (first second : Option TableFault) → first ≡ None → second ≡ None → option_or first second ≡ None
 both-none first second one two = rw (one, two) refl

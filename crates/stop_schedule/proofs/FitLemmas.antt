@@ -15,6 +15,7 @@ use Rattle.stop_schedule.specs.Carrying.{Candidate, Carries, IsOf, Lists, candid
 use Rattle.stop_schedule.specs.Held.{are_in_range, is_in_range}
 use Rattle.stop_schedule.specs.Ids.{are_ids, has_id}
 use Rattle.stop_schedule.specs.Keeping.{HasTrips, all_loaded, are_below, are_loaded, are_times, is_loaded}
+use Rattle.stop_schedule.specs.Limits.{stop_limit, time_limit}
 use Rattle.stop_schedule.specs.Rising.{all_greater, is_rising}
 use Rattle.stop_schedule.specs.StopTimes.{filled, filled_from, nearest, or_further, stop_row, time_between, times_or}
 use Rattle.stop_schedule.specs.Stops.{are_known, are_rising, are_stops_of, are_timed, is_timed}
@@ -50,14 +51,14 @@ all-reverse test (x ∷ xs) all =
 
 FoundFew : Option (ℕ × (ℕ × ℕ)) → Type 0
 FoundFew None = ⊤
-FoundFew (Some found) = (found.1.0 ≤ 359999) × (found.1.1 ≤ 359999)
+FoundFew (Some found) = (found.1.0 ≤ time_limit) × (found.1.1 ≤ time_limit)
 
 few-further : (times : Option (ℕ × ℕ)) (later : Option (ℕ × (ℕ × ℕ))) → are_times times ≡ true → FoundFew later
     → FoundFew (or_further times later)
 unfolding FoundFew
 few-further (Some times) later few more = (
-  leb-true times.0 359999 (and-left (nat_le times.0 359999) _ few),
-  leb-true times.1 359999 (and-right (nat_le times.0 359999) _ few),
+  leb-true times.0 time_limit (and-left (nat_le times.0 time_limit) _ few),
+  leb-true times.1 time_limit (and-right (nat_le times.0 time_limit) _ few),
 )
 few-further None None few more = tt
 few-further None (Some found) few more = more
@@ -77,7 +78,7 @@ part-of span back ahead =
     let more : span * (back + 1) ≤ span * (back + ahead + 2) = mul-le-mul_left span less in omega (arith, more))
 
 between-few : (before after : Option (ℕ × (ℕ × ℕ))) → FoundFew before → FoundFew after
-    → time_between before after ≤ 359999
+    → time_between before after ≤ time_limit
 unfolding FoundFew
 between-few None after first last = omega arith
 between-few (Some before) None first last = omega arith
@@ -87,9 +88,9 @@ between-few (Some before) (Some after) first last =
     let to = last.0 in
     omega (arith, part, from, to)
 
-timed-or : (times : Option (ℕ × ℕ)) (between : ℕ) → are_times times ≡ true → between ≤ 359999
-    → (nat_le (times_or times between).0 359999 && nat_le (times_or times between).1 359999) ≡ true
-timed-or None between few less = both_true (le-leb between 359999 less) (le-leb between 359999 less)
+timed-or : (times : Option (ℕ × ℕ)) (between : ℕ) → are_times times ≡ true → between ≤ time_limit
+    → (nat_le (times_or times between).0 time_limit && nat_le (times_or times between).1 time_limit) ≡ true
+timed-or None between few less = both_true (le-leb between time_limit less) (le-leb between time_limit less)
 timed-or (Some times) between few less = few
 
 -- ---- the stops of a trip with their times
@@ -141,10 +142,10 @@ as-long all place (stop ∷ rest) = ap (λ n. suc n) (as-long all (place + 1) re
 stops-fit : (stops : ℕ) (held : List LoadedStop) → are_loaded stops held ≡ true
     → are_stops_of stops (filled held) ≡ true
 stops-fit stops held good =
-    let few = and-left (nat_le (length held) 250) _ good in
-    let rest = and-right (nat_le (length held) 250) _ good in
+    let few = and-left (nat_le (length held) stop_limit) _ good in
+    let rest = and-right (nat_le (length held) stop_limit) _ good in
     let each = and-right (is_rising held) _ rest in
-    let long : nat_le (length (filled held)) 250 ≡ true = rw (as-long held 0 held) few in
+    let long : nat_le (length (filled held)) stop_limit ≡ true = rw (as-long held 0 held) few in
     both_true long (both_true (rising held 0 held (and-left (is_rising held) _ rest))
     (both_true (each-known stops held 0 held each) (each-timed stops held each 0 held each)))
 

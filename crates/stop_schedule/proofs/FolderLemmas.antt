@@ -297,8 +297,8 @@ answered sheets fault = unless_fault (option_or fault (option_map UntimedEnd (un
 pub reads_of : (sheets : Sheets) (result : Result Timetable TableFault) → files_fault sheets ≡ None
     → Assembles sheets result → Reads (unless_fault (folder_fault sheets) (table_of sheets)) result
 reads_of sheets (Ok table) none told =
-    ap (answered sheets) none ∙ ap (λ (row : Option ℕ). unless_fault (option_map UntimedEnd row) (table_of sheets))
-    told.0 ∙ ap (λ (table : Table). Ok table) (sym told.1)
+    ap (answered sheets) none ∙ ap (λ (fault : Option TableFault). unless_fault fault (table_of sheets)) told.0
+    ∙ ap (λ (table : Table). Ok table) (sym told.1)
 reads_of sheets (Err fault) none told =
     said-of (is_free fault) (option_map UntimedEnd (untimed_in sheets) ≡ Some fault)
     (unless_fault (folder_fault sheets) (table_of sheets) ≡ Err fault)

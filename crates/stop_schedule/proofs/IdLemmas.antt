@@ -17,6 +17,7 @@ use Rattle.std.proofs.Math.Bool.{and-false, or-true}
 use Rattle.std.specs.Cmp.{both_ways}
 use Rattle.std.specs.Cmp.Derive.{both_true}
 use Rattle.stop_schedule.specs.Ids.{are_distinct, are_ids, has_id, has_id_len, is_id}
+use Rattle.stop_schedule.specs.Limits.{id_limit, number_limit}
 
 pub bytes_eq-refl : (id : List ℕ) → bytes_eq id id ≡ true
 bytes_eq-refl id = (bytes_eq-Decides id id).1 refl
@@ -128,14 +129,14 @@ pub id-at-has-bytes : (ids : List (List ℕ)) (place : ℕ) (id : List ℕ) → 
 id-at-has-bytes ids place id good at =
     let sound = id-at ids place id (and-left _ _ good) at in
     leb-true 1 (length id)
-    (and-left (nat_le 1 (length id)) (nat_le (length id) 200) (and-left (has_id_len id) (is_utf8 id) sound))
+    (and-left (nat_le 1 (length id)) (nat_le (length id) id_limit) (and-left (has_id_len id) (is_utf8 id) sound))
 
 pub id-at-is-short : (ids : List (List ℕ)) (place : ℕ) (id : List ℕ) → are_ids ids ≡ true
-    → slice_get ids place ≡ Some id → length id ≤ 200
+    → slice_get ids place ≡ Some id → length id ≤ id_limit
 id-at-is-short ids place id good at =
     let sound = id-at ids place id (and-left _ _ good) at in
-    leb-true (length id) 200
-    (and-right (nat_le 1 (length id)) (nat_le (length id) 200) (and-left (has_id_len id) (is_utf8 id) sound))
+    leb-true (length id) id_limit
+    (and-right (nat_le 1 (length id)) (nat_le (length id) id_limit) (and-left (has_id_len id) (is_utf8 id) sound))
 
 -- the place of an id that stands at a place is that place
 pub place-of-id-at : (ids : List (List ℕ)) (place : ℕ) (id : List ℕ) → are_ids ids ≡ true
@@ -195,8 +196,8 @@ id-of-place ids place id at =
     let same : id ≡ get_or ids place [] = (bytes_eq-Decides id (get_or ids place [])).0 found.1 in
     slice_get-get_or ids place [] found.0 ∙ ap Some (sym same)
 
-pub one-more : (before after : ℕ) (added : Bool) → after ≡ before + cond added 1 0 → before < 4294967295
-    → after ≤ 4294967295
+pub one-more : (before after : ℕ) (added : Bool) → after ≡ before + cond added 1 0 → before < number_limit
+    → after ≤ number_limit
 one-more before after true is few = omega arith
 one-more before after false is few = omega arith
 

@@ -3,6 +3,7 @@ use Rattle.std.proofs.Common.{◌≡◌, ◌<◌, ℕ, zero, suc, true, false, n
 use Rattle.std.specs.Cmp.Derive.{both_true}
 use Rattle.std.proofs.lemmas.Bool.{le-leb, ltb-true}
 use Rattle.stop_schedule.specs.Keeping.{all_loaded, are_below, are_loaded, is_loaded}
+use Rattle.stop_schedule.specs.Limits.{stop_limit}
 use Rattle.stop_schedule.specs.Rising.{has_sequence, is_rising}
 use Rattle.stop_schedule.specs.StopTimes.{placed}
 use Rattle.stop_schedule.specs.declared.stop_times.LoadedStop.{LoadedStop}
@@ -20,11 +21,11 @@ none-loaded stops n by_trip is = rw is (none stops n)
 
 pub loaded-placed : (stops : ℕ) (stop : LoadedStop) (held : List LoadedStop) → is_loaded stops stop ≡ true
     → are_loaded stops held ≡ true
-    → length held < 250 → has_sequence stop.sequence held ≡ false → are_loaded stops (placed stop held) ≡ true
+    → length held < stop_limit → has_sequence stop.sequence held ≡ false → are_loaded stops (placed stop held) ≡ true
 loaded-placed stops stop held one all few none_has =
-    let rest = and-right (nat_le (length held) 250) _ all in
+    let rest = and-right (nat_le (length held) stop_limit) _ all in
     let long : length (placed stop held) ≡ suc (length held) = length-placed stop held in
-    both_true (le-leb (length (placed stop held)) 250 (omega arith))
+    both_true (le-leb (length (placed stop held)) stop_limit (omega arith))
     (both_true (rising-placed stop held (and-left (is_rising held) _ rest) none_has)
     (all-placed (is_loaded stops) stop held one (and-right (is_rising held) _ rest)))
 

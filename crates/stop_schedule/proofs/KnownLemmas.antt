@@ -7,6 +7,7 @@ use Rattle.std.proofs.lemmas.Bool.Decides.{nat_tests}
 use Rattle.stop_schedule.specs.Faults.{Fits}
 use Rattle.stop_schedule.specs.Forms.{seconds, sequence}
 use Rattle.stop_schedule.specs.Ids.{are_ids, has_id_len}
+use Rattle.stop_schedule.specs.Limits.{id_limit, row_limit}
 use Rattle.stop_schedule.specs.Sheet.{Row, nth}
 use Rattle.stop_schedule.specs.declared.table_file.TableFile.TheVariants.{StopTimes}
 use Rattle.stop_schedule.proofs.DigitLemmas.{seconds-is-text, sequence-is-text}
@@ -21,7 +22,7 @@ known-some : (ids : List (List ℕ)) (place : ℕ) (id : List ℕ) → are_ids i
 known-some ids place id good at = let some = id-at-has-bytes ids place id good at in grind (arith, nat_tests, some)
 
 known-short : (ids : List (List ℕ)) (place : ℕ) (id : List ℕ) → are_ids ids ≡ true → slice_get ids place ≡ Some id
-    → nat_lt 200 (length id) ≡ false
+    → nat_lt id_limit (length id) ≡ false
 known-short ids place id good at = let short = id-at-is-short ids place id good at in grind (arith, nat_tests, short)
 
 -- it has no fault by its fields
@@ -29,7 +30,7 @@ pub known-fits : (trips stops : List (List ℕ)) (row : Row) (number trip stop :
     → are_ids stops ≡ true
     → slice_get trips trip ≡ Some (nth 0 row) → slice_get stops stop ≡ Some (nth 2 row)
     → is_some (sequence (nth 1 row)) ≡ true
-    → is_some (seconds (nth 3 row)) ≡ true → is_some (seconds (nth 4 row)) ≡ true → number ≤ 4000000
+    → is_some (seconds (nth 3 row)) ≡ true → is_some (seconds (nth 4 row)) ≡ true → number ≤ row_limit StopTimes
     → Fits StopTimes number row
 known-fits trips stops row number trip stop good_trips good_stops trip_at stop_at sequence_is arrival departure
     counted = record {

@@ -17,6 +17,7 @@ use Rattle.stop_schedule.specs.Causes.{same_trip, stop_time_fault}
 use Rattle.stop_schedule.specs.Forms.{sequence}
 use Rattle.stop_schedule.specs.Holding.{HoldsStops}
 use Rattle.stop_schedule.specs.Ids.{are_distinct, has_id}
+use Rattle.stop_schedule.specs.Limits.{stop_limit}
 use Rattle.stop_schedule.specs.Rising.{has_sequence, is_rising}
 use Rattle.stop_schedule.specs.Sheet.{Row, nth}
 use Rattle.stop_schedule.specs.StopTimes.{in_sequence, is_of_trip, loaded, placed, sequence_of, stops_in, times}
@@ -142,16 +143,16 @@ pub unknown-trip : (trips stops : List (List ℕ)) (before : List Row) (row : Ro
 unknown-trip trips stops before row known lacks = rw (none-unknown trips row before known lacks, lacks) refl
 
 pub too-many : (trips stops : List (List ℕ)) (before : List Row) (row : Row)
-    → 250 ≤ length (stops_in stops before (nth 0 row))
+    → stop_limit ≤ length (stops_in stops before (nth 0 row))
     → stop_time_fault trips stops before row ≡ Some (Limit StopTimes (length before + 1))
 too-many trips stops before row many =
     let count = count-in stops before row in
-    let over : nat_le 250 (length (filter (same_trip row) before)) ≡ true = grind (arith, nat_tests, count, many) in
+    let over : nat_le stop_limit (length (filter (same_trip row) before)) ≡ true = grind (arith, nat_tests, count, many) in
     rw over refl
 
 module _ (trips stops : List (List ℕ)) (before : List Row) (row : Row)
-    (few : length (stops_in stops before (nth 0 row)) < 250) (of_trip : has_id (nth 0 row) trips ≡ true) where
-  within : nat_le 250 (length (filter (same_trip row) before)) ≡ false
+    (few : length (stops_in stops before (nth 0 row)) < stop_limit) (of_trip : has_id (nth 0 row) trips ≡ true) where
+  within : nat_le stop_limit (length (filter (same_trip row) before)) ≡ false
   within = let count = count-in stops before row in grind (arith, nat_tests, count, few)
 
   pub unknown-stop : has_id (nth 2 row) stops ≡ false

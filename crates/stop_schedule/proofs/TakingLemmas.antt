@@ -12,7 +12,7 @@ use Rattle.stop_schedule.specs.declared.table_fault.TableFault.{TableFault}
 use Rattle.stop_schedule.proofs.FaultLemmas.{fault-here, next-row, said-of}
 
 -- no file has more rows than that
-pub few-rows : (number : ℕ) (file : TableFile) → number ≤ row_limit file → number ≤ 4000000
+pub few-rows : (number : ℕ) (file : TableFile) → number ≤ row_limit file → number ≤ row_limit StopTimes
 few-rows number Agency within = omega (arith, within)
 few-rows number Stops within = omega (arith, within)
 few-rows number Routes within = omega (arith, within)

@@ -1,6 +1,7 @@
 -- What reading a file of a folder answers.
-use Rattle.std.specs.Prelude.{◌≡◌, Bool, List, Option, None, Some, Result, Ok, Err, is_some, option_map, ⊤}
-use Rattle.std.specs.Bool.{MatchBool}
+use Rattle.std.specs.Prelude.{◌≡◌, Bool, List, Option, Result, is_some, option_map, ⊤}
+use Rattle.gw_base.specs.Answers.{UnlessFree}
+use Rattle.gw_base.specs.Chains.{ok_map}
 use Rattle.stop_schedule.specs.Answers.{Finds, is_free}
 use Rattle.stop_schedule.specs.Faults.{optional_fault, needed_fault}
 use Rattle.stop_schedule.specs.Sheet.{Row, rows_in}
@@ -37,13 +38,11 @@ IsAssembled (UntimedEnd row) = ⊤
 IsAssembled Memory = ⊤
 IsAssembled fault = ⊥
 
--- what comes after all files: the timetable where each end has times, or else the least row of an end without; want of
--- memory says nothing
+-- what comes after all files: the timetable, or else the least row of an end without times
 abbrev pub Assembles : Sheets → Result Timetable TableFault → Type 0
-Assembles sheets (Ok table) = (untimed_in sheets ≡ None) × (seen table ≡ table_of sheets)
-Assembles sheets (Err fault) = MatchBool (is_free fault) ⊤ (option_map UntimedEnd (untimed_in sheets) ≡ Some fault)
+Assembles sheets result =
+    Finds (option_map UntimedEnd (untimed_in sheets)) (λ table. seen table ≡ table_of sheets) result
 
--- an answer says what a folder means: its timetable, or its first fault; a free fault says nothing
+-- an answer says what a folder means: its timetable, or its first fault
 abbrev pub Reads : Result Table TableFault → Result Timetable TableFault → Type 0
-Reads meaning (Ok table) = meaning ≡ Ok (seen table)
-Reads meaning (Err fault) = MatchBool (is_free fault) ⊤ (meaning ≡ Err fault)
+Reads meaning result = UnlessFree is_free result (λ answer. meaning ≡ ok_map seen answer)

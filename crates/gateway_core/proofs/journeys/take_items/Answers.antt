@@ -1,10 +1,11 @@
 -- One item more is gone through.
 use Rattle.std.proofs.Common.{◌∙◌, ◌++◌, ap, arith, List, reverse, subst, sym, take, ℕ, Option}
+use Rattle.journey_model.specs.Reports.{aside_at}
 use Rattle.journey_model.specs.declared.fault.Fault.{Fault}
 use Rattle.journey_model.specs.declared.readings.JourneyRecord.{JourneyRecord}
 use Rattle.siri_calls.specs.Deliveries.{CanServe}
 use Rattle.siri_json.specs.declared.delivery.Item.{Item}
-use Rattle.gateway_core.specs.JourneySteps.{GathersItems, item_fault, numbered, seen_after}
+use Rattle.gateway_core.specs.JourneySteps.{GathersItems, item_fault, seen_after}
 use Rattle.gateway_core.proofs.JourneyLemmas.{front_left, gathers_more, next_holds, next_left, one_aside, place_left, rest_left}
 use Rattle.gateway_core.proofs.journeys.take_items.Goals as goal
 
@@ -26,7 +27,7 @@ loop-item-preserved c =
           (gathers_more schedule before (take n c.args.items) one (seen_after c.loop-item.draft) (seen_after c.take_item.new.draft) c.loop-item.aside c.add_aside.new.aside
           holds.0 holds.1 c.in_ok-fault.ensures.put c.in_ok-fault.ensures.entries
           (c.in_ok-add_aside.ensures
-          ∙ ap (λ (fault : Option Fault). c.loop-item.aside ++ numbered n fault) c.in_ok-fault.ensures.fault
-          ∙ ap (λ (k : ℕ). c.loop-item.aside ++ numbered k (item_fault (seen_after c.loop-item.draft) one)) (sym (place_left c.args.items rest n one there)))
+          ∙ ap (λ (fault : Option Fault). c.loop-item.aside ++ aside_at n fault) c.in_ok-fault.ensures.fault
+          ∙ ap (λ (k : ℕ). c.loop-item.aside ++ aside_at k (item_fault (seen_after c.loop-item.draft) one)) (sym (place_left c.args.items rest n one there)))
           (c.loop-item.invariant.gathered before h));
     }

@@ -1,6 +1,6 @@
 use Rattle.std.proofs.Common.{◌∙◌, None, Some, Ok, Err, sym, ap, arith}
 use Rattle.std.proofs.lemmas.List.{append-nil}
-use Rattle.journey_model.specs.FeedReadings.{given_all, passed_count, aside_from}
+use Rattle.journey_model.specs.FeedReadings.{aside_all, given_all, passed_count}
 use Rattle.propagation.proofs.FeedLemmas.{said_to, sorted_none, sorted_more, sorted_all, passed-most}
 use Rattle.propagation.proofs.feeds.sorted_out.Goals as goal
 use Rattle.propagation.proofs.feeds.sorted_out.Goals.{in-None, in-Some-Ok+in_ok-push-in-Some-Ok, in-Some-Err+in_ok-push-in-Some-Err}
@@ -60,5 +60,5 @@ returns c =
     record {
       given = so_far.given_is ∙ ap given_all all;
       passed = so_far.passed_is ∙ ap passed_count all;
-      aside = so_far.aside_is ∙ ap (aside_from 0) all;
+      aside = so_far.aside_is ∙ ap aside_all all;
     }

@@ -14,7 +14,7 @@ returns-in-Some-clause-exact c sheets held =
 pub returns-clause-exact : goal.returns-clause-exact
 returns-clause-exact c sheets held =
     let carries = rw (c.as_slice.ensures.value, c.as_slice-2.ensures.value) at c.in_ok-all.ensures in (
-      sym (untimed_of sheets c.args.folder c.in_ok-all.all held carries) ∙ c.in_default.is,
+      ap (option_map UntimedEnd) (sym (untimed_of sheets c.args.folder c.in_ok-all.all held carries) ∙ c.in_default.is),
       shown_of sheets c.args.folder c.in_ok-trips.trips c.in_ok-all.all held
           (rw c.as_slice-3.ensures.value at c.in_ok-trips.ensures) carries,
     )

@@ -1,9 +1,10 @@
 use Rattle.std.proofs.Common.{◌∙◌, ◌<◌, sym, arith, ap}
 use Rattle.stop_schedule.specs.Forms.{small}
+use Rattle.stop_schedule.specs.Limits.{number_limit}
 use Rattle.stop_schedule.proofs.FormLemmas.{too-great}
 use Rattle.stop_schedule.proofs.forms.number.Goals as goal
 
 pub returns-then-value : goal.returns-then-value
 returns-then-value c =
-    let over : 4294967295 < c.loop-rest.value = omega arith in
+    let over : number_limit < c.loop-rest.value = omega arith in
     sym (ap small c.loop-rest.invariant ∙ too-great c.loop-rest.value c.loop-rest.rest.now over)

@@ -3,6 +3,7 @@ use Rattle.std.proofs.Common.{◌≡◌, ◌∙◌, ◌<◌, ◌≤◌, ◌+◌,
 use Rattle.std.specs.Option.{option_map}
 use Rattle.std.proofs.lemmas.List.{map-set}
 use Rattle.std.proofs.lemmas.Option.{slice_get-get_or, slice_get-map}
+use Rattle.stop_schedule.specs.Limits.{stop_limit}
 use Rattle.stop_schedule.specs.TripStops.{stops_kept}
 use Rattle.stop_schedule.specs.Rising.{has_sequence, is_rising}
 use Rattle.stop_schedule.specs.Sheet.{nth}
@@ -26,7 +27,7 @@ returns-then-len-ge-MAX_STOPS-clause-puts c = λ trips stops before row known co
     ∙ ap (option_map stops_kept) (slice_get-get_or items trip held there ∙ ap Some (sym c.in-Some.ensures.value)) in
     let held_is = held-at trips stops (map stops_kept items) before holds trip (nth 0 row) (stops_kept held)
     known.trip_at stands in
-    let many : 250 ≤ length (stops_in stops before (nth 0 row)) =
+    let many : stop_limit ≤ length (stops_in stops before (nth 0 row)) =
     rw (← held_is) (omega (arith, c.len.ensures, c.if-len-ge-MAX_STOPS.true)) in
     rw counted (too-many trips stops before row many)
 
@@ -41,7 +42,7 @@ returns-else-branch-clause-puts c = λ trips stops before row known counted hold
     ∙ ap (option_map stops_kept) (slice_get-get_or items trip held there ∙ ap Some (sym c.in-Some.ensures.value)) in
     let held_is = held-at trips stops (map stops_kept items) before holds trip (nth 0 row) (stops_kept held)
     known.trip_at stands in
-    let few : length (stops_in stops before (nth 0 row)) < 250 = rw (← held_is) (omega arith) in
+    let few : length (stops_in stops before (nth 0 row)) < stop_limit = rw (← held_is) (omega arith) in
     let sequence_is : c.args.loaded.sequence ≡ sequence_of row =
     ap (λ (stop : LoadedStop). stop.sequence) known.loaded_is in
     let rising = all-at is_rising (map stops_kept items) trip (stops_kept held) holds.rising stands in
@@ -61,7 +62,7 @@ returns-then-branch-clause-puts c = λ trips stops before row known counted hold
     ∙ ap (option_map stops_kept) (slice_get-get_or items trip held there ∙ ap Some (sym c.in-Some.ensures.value)) in
     let held_is = held-at trips stops (map stops_kept items) before holds trip (nth 0 row) (stops_kept held)
     known.trip_at stands in
-    let few : length (stops_in stops before (nth 0 row)) < 250 = rw (← held_is) (omega arith) in
+    let few : length (stops_in stops before (nth 0 row)) < stop_limit = rw (← held_is) (omega arith) in
     let of_trip = has-at trips trip (nth 0 row) known.trip_at in
     let sequence_is : c.args.loaded.sequence ≡ sequence_of row =
     ap (λ (stop : LoadedStop). stop.sequence) known.loaded_is in
@@ -93,9 +94,9 @@ returns-then-branch-clause-loaded c = λ stops good all.
     ∙ ap (option_map stops_kept) (slice_get-get_or items trip held there ∙ ap Some (sym c.in-Some.ensures.value)) in
     let loaded = all-at (are_loaded stops) (map stops_kept items) trip (stops_kept held) all stands in
     let rising = and-left (is_rising (stops_kept held)) _
-    (and-right (nat_le (length (stops_kept held)) 250) _ loaded) in
+    (and-right (nat_le (length (stops_kept held)) stop_limit) _ loaded) in
     let places = rw c.if-branch.true at (c.in_ok-add.ensures rising) in
-    let few : length (stops_kept held) < 250 = omega arith in
+    let few : length (stops_kept held) < stop_limit = omega arith in
     let one : are_loaded stops (stops_kept c.add.new.self) ≡ true =
     rw places.1 (loaded-placed stops c.args.loaded (stops_kept held) good loaded few places.0) in
     rw (map-set stops_kept items trip c.add.new.self)

@@ -1,6 +1,7 @@
 use Rattle.std.proofs.Common.{◌≡◌, ◌≤◌, ◌+◌, [], List, length}
 use Rattle.stop_schedule.specs.Limits.{row_limit}
 use Rattle.stop_schedule.specs.Sheet.{Row}
+use Rattle.stop_schedule.specs.declared.table_file.TableFile.TheVariants.{StopTimes}
 use Rattle.stop_schedule.proofs.TakingLemmas.{SoFar}
 use Rattle.stop_schedule.proofs.taking.take_rows.Given as goal
 
@@ -8,7 +9,7 @@ use Rattle.stop_schedule.proofs.taking.take_rows.Given as goal
 abbrev pub invariant-loop-number : goal.invariant-loop-number
 invariant-loop-number g l = (done : List Row) × record {
   number : l.number ≡ length done;
-  few : l.number ≤ 4000000;
+  few : l.number ≤ row_limit StopTimes;
   limit : l.number ≤ row_limit (g.T.TakesRows.file_of l.fn.taker);
   keeps : g.T.TakesRows.Keeps l.taker (l.number + 1);
   same_given : g.T.TakesRows.given l.taker ≡ g.T.TakesRows.given l.fn.taker;

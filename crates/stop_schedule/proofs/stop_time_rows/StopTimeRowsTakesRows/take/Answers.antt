@@ -2,6 +2,7 @@ use Rattle.std.proofs.Common.{◌≡◌, ◌∙◌, ◌<◌, ◌≤◌, true, fa
 use Rattle.std.specs.Str.{is_utf8}
 use Rattle.std.proofs.lemmas.Bool.{leb-true}
 use Rattle.std.proofs.lemmas.Bool.Decides.{nat_tests}
+use Rattle.stop_schedule.specs.Limits.{stop_limit}
 use Rattle.stop_schedule.specs.TripStops.{stops_kept}
 use Rattle.stop_schedule.specs.Holding.{HoldsStops}
 use Rattle.stop_schedule.specs.Ids.{has_id}
@@ -28,7 +29,7 @@ returns-then-is_full-clause-takes c = λ start before kept counted.
     let held = stops_in stops before (nth 0 row) in
     let full = (rw c.as_slice.ensures.value at c.is_full.ensures) held
     (stands-in trips stops by_trip before holds c.in-Some.trip (nth 0 row) c.in-Some.ensures.at) in
-    let many : 250 ≤ length held = leb-true 250 (length held) (sym full ∙ c.if-is_full.true) in
+    let many : stop_limit ≤ length held = leb-true stop_limit (length held) (sym full ∙ c.if-is_full.true) in
     rw counted (too-many trips stops before row many)
 
 pub returns-in_default-find_in-clause-takes : goal.returns-in_default-find_in-clause-takes
@@ -41,8 +42,8 @@ returns-in_default-find_in-clause-takes c = λ start before kept counted.
     let held = stops_in stops before (nth 0 row) in
     let full = (rw c.as_slice.ensures.value at c.is_full.ensures) held
     (stands-in trips stops by_trip before holds c.in-Some.trip (nth 0 row) c.in-Some.ensures.at) in
-    let not_full : nat_le 250 (length held) ≡ false = sym full ∙ c.if-is_full.false in
-    let few : length held < 250 = grind (arith, nat_tests, not_full) in
+    let not_full : nat_le stop_limit (length held) ≡ false = sym full ∙ c.if-is_full.false in
+    let few : length held < stop_limit = grind (arith, nat_tests, not_full) in
     let text : is_utf8 (nth 0 row) ≡ true = and-left (is_utf8 (nth 0 row)) _ c.requires.fits.texts in
     let of_trip : has_id (nth 0 row) trips ≡ true = sym (c.in-Some.ensures.found text) in
     let stop_text : is_utf8 (nth 2 row) ≡ true =
