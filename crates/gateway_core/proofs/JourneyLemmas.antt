@@ -23,7 +23,7 @@ use Rattle.feed_index.specs.Entries.{put, value_at}
 use Rattle.feed_index.specs.declared.entry.Entry.{Entry}
 use Rattle.latest_store.specs.Entities.{entity}
 use Rattle.latest_store.specs.Latest.{is_later}
-use Rattle.gateway_core.specs.Arrivals.{has_room, is_same_journey, is_within}
+use Rattle.gateway_core.specs.Arrivals.{has_room, is_same_journey, is_within, most_journeys}
 use Rattle.gateway_core.specs.Deliveries.{taken}
 use Rattle.feed_index.specs.Drafts.{Drafted, after}
 use Rattle.gateway_core.specs.declared.keys.JourneyKey.{JourneyKey}
@@ -53,18 +53,18 @@ module _ (entries : List (Entry JourneyKey Instant)) (rec : JourneyRecord) where
   verdict_found old counts found is =
       ap (λ (b : Bool). Some b) (is ∙ sym (journey_counts_found entries rec old found)) ∙ sym (verdict_by true (journey_fits_found entries rec old found))
 
-  pub verdict_new : (long : ℕ) → None ≡ value_at key_order entries (journey_of rec) → long ≡ length entries → long < 50000
+  pub verdict_new : (long : ℕ) → None ≡ value_at key_order entries (journey_of rec) → long ≡ length entries → long < most_journeys
       → Some true ≡ journey_verdict (map journey_seen entries) (recorded rec)
   verdict_new long new is few =
       ap (λ (b : Bool). Some b) (sym (journey_counts_new entries rec new))
-      ∙ sym (verdict_by true (journey_fits_new entries rec new ∙ ap (λ (n : ℕ). nat_lt n 50000) (sym is) ∙ lt-ltb long 50000 few))
+      ∙ sym (verdict_by true (journey_fits_new entries rec new ∙ ap (λ (n : ℕ). nat_lt n most_journeys) (sym is) ∙ lt-ltb long most_journeys few))
 
-  pub verdict_full : (long : ℕ) → None ≡ value_at key_order entries (journey_of rec) → long ≡ length entries → 50000 ≤ long
+  pub verdict_full : (long : ℕ) → None ≡ value_at key_order entries (journey_of rec) → long ≡ length entries → most_journeys ≤ long
       → None ≡ journey_verdict (map journey_seen entries) (recorded rec)
   verdict_full long new is many =
-      sym (verdict_by false (journey_fits_new entries rec new ∙ ap (λ (n : ℕ). nat_lt n 50000) (sym is) ∙ not_less long many))
+      sym (verdict_by false (journey_fits_new entries rec new ∙ ap (λ (n : ℕ). nat_lt n most_journeys) (sym is) ∙ not_less long many))
     where
-      not_less : (n : ℕ) → 50000 ≤ n → nat_lt n 50000 ≡ false
+      not_less : (n : ℕ) → most_journeys ≤ n → nat_lt n most_journeys ≡ false
       not_less n h = grind (arith, nat_tests)
 
 -- a record that is put at its journey
@@ -86,7 +86,7 @@ pub room-length : (window : DayStarts) (before : List Recorded) (verdicts : List
 room-length window before [] = refl
 room-length window before (Err fault ∷ others) = ap (λ (n : ℕ). suc n) (room-length window before others)
 room-length window before (Ok one ∷ others) =
-    by (has_room is_same_journey (is_within window) 50000 before one) (room-length window (before ++ one ∷ []) others) (room-length window before others)
+    by (has_room is_same_journey (is_within window) most_journeys before one) (room-length window (before ++ one ∷ []) others) (room-length window before others)
   where
     by : (b : Bool) → length (journeys_with_room window (before ++ one ∷ []) others) ≡ length others → length (journeys_with_room window before others) ≡ length others
         → length (cond b (Ok one ∷ journeys_with_room window (before ++ one ∷ []) others) (Err Full ∷ journeys_with_room window before others)) ≡ suc (length others)
@@ -123,7 +123,7 @@ module _ (schedule : Schedule) (before : List Recorded) where
     fault_is = refl;
     with_one =
         ap (journeys_with_room schedule.window before) (map-append (shown recorded) items (Aside fault ∷ []))
-        ∙ roomy-append is_same_journey (is_within schedule.window) 50000 before (map (shown recorded) items) (Err fault ∷ []);
+        ∙ roomy-append is_same_journey (is_within schedule.window) most_journeys before (map (shown recorded) items) (Err fault ∷ []);
     after =
         subst (λ (so_far : List (Result Recorded Fault)). JourneysAfter schedule before so_far entries) (sym (map-append (shown recorded) items (Aside fault ∷ [])))
         (journey_aside schedule before (map (shown recorded) items) entries keeps fault);

@@ -21,7 +21,8 @@ use Rattle.alert_map.specs.Alerts.{alert_message}
 use Rattle.latest_store.specs.Latest.{has_number, is_newer}
 use Rattle.wire_fields.specs.Spelling.{varint}
 use Rattle.wire_fields.proofs.Varints.{length-varint_10}
-use Rattle.gateway_core.specs.Arrivals.{Arrival, admit, admitted_situations, always, firsts, has_room, is_same_number, situations_of}
+use Rattle.gateway_core.specs.Alerts.{alert_limit}
+use Rattle.gateway_core.specs.Arrivals.{Arrival, admit, admitted_situations, always, firsts, has_room, is_same_number, situations_of, most_numbers}
 use Rattle.gateway_core.specs.Feeds.{has_lesser_number}
 use Rattle.gateway_core.specs.Standing.{IsAlertServed, Kept, SituationEntry, Stands, journey_seen, served, situation_entry}
 use Rattle.gateway_core.specs.Winners.{IsKeyed}
@@ -97,10 +98,10 @@ module _ {A Q : Type 0} (cmp : Q → Q → Ordering) (key_of : A → Q) (is_its 
       by true room more same = more room
       by false room more same = same
 
-few_numbers : (arrivals : List Arrival) → length (firsts is_same_number (admitted_situations arrivals)) ≤ 5000
+few_numbers : (arrivals : List Arrival) → length (firsts is_same_number (admitted_situations arrivals)) ≤ most_numbers
 few_numbers [] = omega arith
 few_numbers (one ∷ earlier) =
-    few_admitted (slice_cmp nat_cmp) (λ (one : Situation). one.number) has_number is_newer numbers has_lesser_number numbers_by_key always each 5000
+    few_admitted (slice_cmp nat_cmp) (λ (one : Situation). one.number) has_number is_newer numbers has_lesser_number numbers_by_key always each most_numbers
     (admitted_situations earlier) (situations_of one.gives) (few_numbers earlier)
   where
     each : (all : List Situation) → AllByRecursion (λ (one : Situation). always one ≡ true) all
@@ -113,7 +114,7 @@ module _ (table : Table) where
   alert_short : (one : Situation) → IsAlertServed table one → length (written (alert_message table one)) ≤ 65556
   alert_short one good =
       let body = feed_entity (alert_message table one) in
-      let short : length (feed_entity (alert_message table one)) ≤ 65536 = good.short in
+      let short : length (feed_entity (alert_message table one)) ≤ alert_limit = good.short in
       let tag = length-varint_10 18 (omega arith) in
       let size = length-varint_10 (length (feed_entity (alert_message table one))) (omega arith) in
       let whole = length-append (varint 18 ++ varint (length (feed_entity (alert_message table one)))) (feed_entity (alert_message table one)) in

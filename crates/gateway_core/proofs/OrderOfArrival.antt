@@ -12,7 +12,7 @@ use Rattle.service_day.specs.Windows.{DayStarts}
 use Rattle.journey_model.specs.Records.{Recorded}
 use Rattle.journey_model.specs.declared.situation.Situation.{Situation}
 use Rattle.latest_store.specs.Latest.{HasLatest, HasNewest, has_number, is_later, is_newer, is_of, was_later}
-use Rattle.gateway_core.specs.Arrivals.{Arrival, admit, admitted, admitted_situations, always, firsts, is_same_journey, is_same_number, is_within, moments_of, present, records_of, schedule_at, situations_of, window_at}
+use Rattle.gateway_core.specs.Arrivals.{Arrival, admit, admitted, admitted_situations, always, firsts, is_same_journey, is_same_number, is_within, moments_of, present, records_of, schedule_at, situations_of, window_at, most_journeys, most_numbers}
 use Rattle.gateway_core.specs.Feeds.{IsFeedOf, comes_before, entities_of, has_lesser_number}
 use Rattle.gateway_core.specs.Recording.{AreDecided, ArriveAlike, IsRebuiltOf, every_record, every_situation}
 use Rattle.gateway_core.specs.Winners.{has_key, key_cmp, key_of}
@@ -29,24 +29,24 @@ use Rattle.gateway_core.specs.Deliveries.{schedule_over}
 in_first : {X : Type 0} (t : X → Bool) (xs ys : List X) → list_any t xs ≡ true → list_any t (xs ++ ys) ≡ true
 in_first t xs ys e = list_any-append t xs ys ∙ or_left (list_any t xs) (list_any t ys) e
 
-module _ (setting : Setting) (total : List Recorded) (few : length (firsts is_same_journey total) ≤ 50000) where
+module _ (setting : Setting) (total : List Recorded) (few : length (firsts is_same_journey total) ≤ most_journeys) where
   pub all_records_admitted : (arrivals : List Arrival) → ((key : ℤ × ℕ) → list_any (has_key key) (every_record arrivals) ≡ true → list_any (has_key key) total ≡ true)
       → admitted setting arrivals ≡ every_record arrivals
   all_records_admitted [] among = refl
   all_records_admitted (one ∷ earlier) among =
-      ap (λ (before : List Recorded). admit is_same_journey (is_within (window_at setting (one.moment ∷ moments_of earlier))) 50000 before (records_of one.gives))
+      ap (λ (before : List Recorded). admit is_same_journey (is_within (window_at setting (one.moment ∷ moments_of earlier))) most_journeys before (records_of one.gives))
       (all_records_admitted earlier (λ key e. among key (in_first (has_key key) (every_record earlier) (records_of one.gives) e)))
-      ∙ admit_each key_cmp key_of has_key was_later journeys comes_before journeys_by_key (is_within (window_at setting (one.moment ∷ moments_of earlier))) 50000 total few
+      ∙ admit_each key_cmp key_of has_key was_later journeys comes_before journeys_by_key (is_within (window_at setting (one.moment ∷ moments_of earlier))) most_journeys total few
       (every_record earlier) (records_of one.gives) among
 
-module _ (total : List Situation) (few : length (firsts is_same_number total) ≤ 5000) where
+module _ (total : List Situation) (few : length (firsts is_same_number total) ≤ most_numbers) where
   pub all_situations_admitted : (arrivals : List Arrival) → ((number : List ℕ) → list_any (has_number number) (every_situation arrivals) ≡ true → list_any (has_number number) total ≡ true)
       → admitted_situations arrivals ≡ every_situation arrivals
   all_situations_admitted [] among = refl
   all_situations_admitted (one ∷ earlier) among =
-      ap (λ (before : List Situation). admit is_same_number always 5000 before (situations_of one.gives))
+      ap (λ (before : List Situation). admit is_same_number always most_numbers before (situations_of one.gives))
       (all_situations_admitted earlier (λ number e. among number (in_first (has_number number) (every_situation earlier) (situations_of one.gives) e)))
-      ∙ admit_each (slice_cmp nat_cmp) (λ (one : Situation). one.number) has_number is_newer numbers has_lesser_number numbers_by_key always 5000 total few
+      ∙ admit_each (slice_cmp nat_cmp) (λ (one : Situation). one.number) has_number is_newer numbers has_lesser_number numbers_by_key always most_numbers total few
       (every_situation earlier) (situations_of one.gives) among
 
 -- ---- the same counts

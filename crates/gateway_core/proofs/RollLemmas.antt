@@ -20,7 +20,7 @@ use Rattle.journey_model.specs.Schedules.{IsServable, Schedule, run_from}
 use Rattle.journey_model.specs.declared.fault.Fault.{Fault}
 use Rattle.journey_model.specs.declared.fault.Fault.TheVariants.{Full}
 use Rattle.latest_store.specs.Entities.{entity, messages_on}
-use Rattle.gateway_core.specs.Arrivals.{Arrival, EachCanBeServed, admit, admitted, first_after, first_day, has_room, is_same_journey, is_within, journeys, kept_from, moments_of, present, records_of, schedule_at, window_at}
+use Rattle.gateway_core.specs.Arrivals.{Arrival, EachCanBeServed, admit, admitted, first_after, first_day, has_room, is_same_journey, is_within, journeys, kept_from, moments_of, present, records_of, schedule_at, window_at, most_journeys}
 use Rattle.gateway_core.specs.Deliveries.{taken}
 use Rattle.gateway_core.specs.Feeds.{are_ordered_by, comes_before}
 use Rattle.gateway_core.specs.Taking.{with_room}
@@ -126,7 +126,7 @@ pub admitted_end : (setting : Setting) (arrivals : List Arrival) → EachCanBeSe
     → AllByRecursion (EndsBefore (first_day setting (moments_of arrivals)) (length setting.window.starts)) (admitted setting arrivals)
 admitted_end setting [] h = tt
 admitted_end setting (one ∷ earlier) h =
-    all_admitted Ends is_same_journey (is_within (window_at setting (one.moment ∷ moments_of earlier))) 50000 (admitted setting earlier) (records_of one.gives)
+    all_admitted Ends is_same_journey (is_within (window_at setting (one.moment ∷ moments_of earlier))) most_journeys (admitted setting earlier) (records_of one.gives)
     (all_weaker (EndsBefore (first_day setting (moments_of earlier)) (length setting.window.starts)) Ends
     (ends_later (first_day setting (moments_of earlier)) (first_day setting (one.moment ∷ moments_of earlier)) (length setting.window.starts) (first_rises setting one.moment (moments_of earlier)))
     (admitted setting earlier) (admitted_end setting earlier h.1))
@@ -160,20 +160,20 @@ pub present_journeys : (setting : Setting) (moment : ℤ) (verdicts : List (Resu
     → EachCanBeServed setting (record { moment = moment; gives = journeys (taken verdicts) } ∷ earlier)
     → present setting (record { moment = moment; gives = journeys (taken verdicts) } ∷ earlier)
     ≡ filter (is_within (window_at setting (moment ∷ moments_of earlier))) (present setting earlier)
-    ++ taken (with_room is_same_journey (is_within (window_at setting (moment ∷ moments_of earlier))) 50000 (admitted setting earlier) verdicts)
+    ++ taken (with_room is_same_journey (is_within (window_at setting (moment ∷ moments_of earlier))) most_journeys (admitted setting earlier) verdicts)
 present_journeys setting moment verdicts earlier h =
-    ap (filter within) (admits is_same_journey within 50000 (admitted setting earlier) verdicts)
+    ap (filter within) (admits is_same_journey within most_journeys (admitted setting earlier) verdicts)
     ∙ filter-append within (admitted setting earlier) new
     ∙ ap (λ (left : List Recorded). left ++ filter within new) (present_rolls setting (record { moment = moment; gives = journeys (taken verdicts) }) earlier h.1)
     ∙ ap (λ (more : List Recorded). filter within (present setting earlier) ++ more)
-    (filter_all within new (all_with_room (λ r. within r ≡ true) is_same_journey within 50000 (admitted setting earlier) verdicts
+    (filter_all within new (all_with_room (λ r. within r ≡ true) is_same_journey within most_journeys (admitted setting earlier) verdicts
     (all_within (schedule_at setting (moment ∷ moments_of earlier)) (taken verdicts) h.0.servable)))
   where
     within : Recorded → Bool
     within = is_within (window_at setting (moment ∷ moments_of earlier))
 
     new : List Recorded
-    new = taken (with_room is_same_journey (is_within (window_at setting (moment ∷ moments_of earlier))) 50000 (admitted setting earlier) verdicts)
+    new = taken (with_room is_same_journey (is_within (window_at setting (moment ∷ moments_of earlier))) most_journeys (admitted setting earlier) verdicts)
 
 -- ---- what the window left behind stands in front
 

@@ -13,6 +13,7 @@ use Rattle.journey_model.specs.declared.readings.JourneyRecord.{JourneyRecord}
 use Rattle.journey_model.specs.declared.situation.Situation.{Situation}
 use Rattle.latest_store.specs.Latest.{is_later}
 use Rattle.service_day.specs.declared.moments.Instant.{Instant}
+use Rattle.gateway_core.specs.Arrivals.{most_journeys, most_numbers}
 use Rattle.gateway_core.specs.Keeping.{at_key}
 use Rattle.gateway_core.specs.Standing.{JourneyEntry, SituationEntry, journey_seen, situation_seen}
 use Rattle.gateway_core.specs.Steps.{journey_counts, journey_fits, journey_kept, situation_counts, situation_fits, situation_kept, with_journey, with_situation}
@@ -82,7 +83,7 @@ module _ (entries : List (Entry JourneyKey Instant)) where
 
     pub journey_fits_found : journey_fits (map journey_seen entries) (recorded rec) ≡ true
     journey_fits_found =
-        ap (λ (b : Bool). b || nat_lt (length (map journey_seen entries)) 50000)
+        ap (λ (b : Bool). b || nat_lt (length (map journey_seen entries)) most_journeys)
         (some_value (λ e. e.value) (journey_kept (map journey_seen entries) (recorded rec)) (old.secs, old.nanos) there)
 
     pub journey_counts_found : journey_counts (journey_kept (map journey_seen entries) (recorded rec)) (recorded rec)
@@ -98,10 +99,10 @@ module _ (entries : List (Entry JourneyKey Instant)) where
         no_value (λ e. e.value) (journey_kept (map journey_seen entries) (recorded rec))
         (journey_value (key_at rec) ∙ ap (option_map (λ (v : Instant). (v.secs, v.nanos))) (sym new))
 
-    pub journey_fits_new : journey_fits (map journey_seen entries) (recorded rec) ≡ nat_lt (length entries) 50000
+    pub journey_fits_new : journey_fits (map journey_seen entries) (recorded rec) ≡ nat_lt (length entries) most_journeys
     journey_fits_new =
-        ap (λ (kept : Option JourneyEntry). is_some kept || nat_lt (length (map journey_seen entries)) 50000) not_there
-        ∙ ap (λ (n : ℕ). nat_lt n 50000) journeys_long
+        ap (λ (kept : Option JourneyEntry). is_some kept || nat_lt (length (map journey_seen entries)) most_journeys) not_there
+        ∙ ap (λ (n : ℕ). nat_lt n most_journeys) journeys_long
 
     pub journey_counts_new : journey_counts (journey_kept (map journey_seen entries) (recorded rec)) (recorded rec) ≡ true
     journey_counts_new = ap (λ (kept : Option JourneyEntry). journey_counts kept (recorded rec)) not_there
@@ -130,7 +131,7 @@ module _ (entries : List (Entry (List ℕ) Edition)) where
 
     pub situation_fits_found : situation_fits (map situation_seen entries) one ≡ true
     situation_fits_found =
-        ap (λ (b : Bool). b || nat_lt (length (map situation_seen entries)) 5000)
+        ap (λ (b : Bool). b || nat_lt (length (map situation_seen entries)) most_numbers)
         (some_value (λ e. e.value) (situation_kept (map situation_seen entries) one) (old.version, old.served) known)
 
     pub situation_counts_found : situation_counts (situation_kept (map situation_seen entries) one) one ≡ not (nat_lt one.version old.version)
@@ -145,10 +146,10 @@ module _ (entries : List (Entry (List ℕ) Edition)) where
         no_value (λ e. e.value) (situation_kept (map situation_seen entries) one)
         (situation_value one.number ∙ ap (option_map (λ (v : Edition). (v.version, v.served))) (sym new))
 
-    pub situation_fits_new : situation_fits (map situation_seen entries) one ≡ nat_lt (length entries) 5000
+    pub situation_fits_new : situation_fits (map situation_seen entries) one ≡ nat_lt (length entries) most_numbers
     situation_fits_new =
-        ap (λ (kept : Option SituationEntry). is_some kept || nat_lt (length (map situation_seen entries)) 5000) unknown
-        ∙ ap (λ (n : ℕ). nat_lt n 5000) situations_long
+        ap (λ (kept : Option SituationEntry). is_some kept || nat_lt (length (map situation_seen entries)) most_numbers) unknown
+        ∙ ap (λ (n : ℕ). nat_lt n most_numbers) situations_long
 
     pub situation_counts_new : situation_counts (situation_kept (map situation_seen entries) one) one ≡ true
     situation_counts_new = ap (λ (kept : Option SituationEntry). situation_counts kept one) unknown

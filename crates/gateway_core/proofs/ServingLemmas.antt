@@ -20,7 +20,7 @@ use Rattle.latest_store.specs.Entities.{entity, messages}
 use Rattle.latest_store.specs.Latest.{was_later}
 use Rattle.latest_store.specs.Reads.{SaysItself}
 use Rattle.gateway_core.specs.Alerts.{alerts}
-use Rattle.gateway_core.specs.Arrivals.{Arrival, EachCanBeServed, admitted, admitted_situations, is_same_journey, is_within, moments_of, present, records_of, schedule_at, window_at}
+use Rattle.gateway_core.specs.Arrivals.{Arrival, EachCanBeServed, admitted, admitted_situations, is_same_journey, is_within, moments_of, present, records_of, schedule_at, window_at, most_journeys}
 use Rattle.gateway_core.specs.Feeds.{IsFeedOf, comes_before, entities_of}
 use Rattle.gateway_core.specs.Gives.{GivesEach}
 use Rattle.gateway_core.specs.Recording.{IsRebuiltOf}
@@ -139,7 +139,7 @@ ServableIn setting later one = is_within (window_at setting later) one ≡ true 
 admitted_servable : (setting : Setting) (later : List ℤ) (arrivals : List Arrival) → EachCanBeServed setting arrivals → AllByRecursion (ServableIn setting later) (admitted setting arrivals)
 admitted_servable setting later [] judged = tt
 admitted_servable setting later (one ∷ earlier) judged =
-    all_admitted (ServableIn setting later) is_same_journey (is_within (window_at setting (one.moment ∷ moments_of earlier))) 50000 (admitted setting earlier) (records_of one.gives)
+    all_admitted (ServableIn setting later) is_same_journey (is_within (window_at setting (one.moment ∷ moments_of earlier))) most_journeys (admitted setting earlier) (records_of one.gives)
     (admitted_servable setting later earlier judged.1)
     (all_weaker (λ (each : Recorded). IsServable (schedule_at setting (one.moment ∷ moments_of earlier)) each.trip each.day each.reading) (ServableIn setting later)
     (λ each servable within. servable_stays setting (one.moment ∷ moments_of earlier) later each servable within) (records_of one.gives) judged.0.servable)

@@ -21,7 +21,7 @@ use Rattle.siri_json.specs.declared.delivery.Item.TheVariants.{Taken, Aside}
 use Rattle.siri_json.specs.declared.delivery.Delivery.{Delivery}
 use Rattle.stop_schedule.specs.Seen.{seen}
 use Rattle.stop_schedule.specs.Table.{Table}
-use Rattle.gateway_core.specs.Alerts.{alert_len}
+use Rattle.gateway_core.specs.Alerts.{alert_len, alert_limit}
 use Rattle.gateway_core.specs.Arrivals.{Arrival, admitted, admitted_situations, is_within, moments_of, schedule_at, window_at}
 use Rattle.gateway_core.specs.Deliveries.{schedule_over, taken}
 use Rattle.gateway_core.specs.SituationSteps.{GathersSituations, IsRefused, TakesBody, item_verdict}
@@ -35,7 +35,7 @@ use Rattle.gateway_core.proofs.StandingLemmas.{stands_situations}
 -- what is taken refers to what is there
 known_taken : (table : Table) (items : List (Item Situation)) → ReferToKnown table items → AllByRecursion (λ (one : Situation). AreKnown table one.refs) (taken (map (item_verdict table) items))
 known_taken table [] h = tt
-known_taken table (Taken one ∷ items) h = by (nat_le (alert_len table one) 65536) (known_taken table items h.1)
+known_taken table (Taken one ∷ items) h = by (nat_le (alert_len table one) alert_limit) (known_taken table items h.1)
   where
     by : (fits : Bool) → AllByRecursion (λ (each : Situation). AreKnown table each.refs) (taken (map (item_verdict table) items))
         → AllByRecursion (λ (each : Situation). AreKnown table each.refs) (taken ((if fits then Ok one else Err (EntityTooLong (alert_len table one))) ∷ map (item_verdict table) items))

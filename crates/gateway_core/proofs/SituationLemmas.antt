@@ -19,8 +19,8 @@ use Rattle.journey_model.specs.declared.report.Report.{Report}
 use Rattle.journey_model.specs.declared.situation.Situation.{Situation}
 use Rattle.siri_json.specs.declared.delivery.Item.{Item}
 use Rattle.stop_schedule.specs.Table.{Table}
-use Rattle.gateway_core.specs.Alerts.{alert_len}
-use Rattle.gateway_core.specs.Arrivals.{always, has_room, is_same_number}
+use Rattle.gateway_core.specs.Alerts.{alert_len, alert_limit}
+use Rattle.gateway_core.specs.Arrivals.{always, has_room, is_same_number, most_numbers}
 use Rattle.journey_model.specs.Reports.{aside_from, aside_at}
 use Rattle.gateway_core.specs.SituationSteps.{GathersSituations, GathersVerdicts, IsVerdictServed, after_situation, item_verdict, situation_verdict, verdict_fault, verdict_step, with_alert}
 use Rattle.gateway_core.specs.Standing.{KeepsSituations, SituationEntry, situation_entry, situation_seen}
@@ -75,14 +75,14 @@ module _ (table : Table) (before : List Situation) (so_far : List (Result Situat
     where
       count : length so_far ≡ 0 + length (map result_err (situations_with_room before so_far))
       count =
-          sym (length-with_room is_same_number always 5000 before so_far)
+          sym (length-with_room is_same_number always most_numbers before so_far)
           ∙ sym (length-map (situations_with_room before so_far) result_err)
           ∙ sym (zero-add (length (map result_err (situations_with_room before so_far))))
 
   pub gathers_more : (verdict : Result Situation Fault) → IsVerdictServed table verdict
       → GathersVerdicts table before (so_far ++ verdict ∷ []) (verdict_step table entries verdict) (aside ++ aside_at (length so_far) (verdict_fault entries verdict))
   gathers_more (Err fault) served =
-      left_aside (Err fault) (Err fault) entries (situation_aside table before so_far entries h.entries_are fault) (roomy_aside is_same_number always 5000 before so_far fault)
+      left_aside (Err fault) (Err fault) entries (situation_aside table before so_far entries h.entries_are fault) (roomy_aside is_same_number always most_numbers before so_far fault)
   gathers_more (Ok one) served = by (situation_fits entries one) refl (situation_counts (situation_kept entries one) one) refl
     where
       by : (fits : Bool) → situation_fits entries one ≡ fits → (counts : Bool) → situation_counts (situation_kept entries one) one ≡ counts
@@ -153,24 +153,24 @@ gathers_taken table before items i item entries left aside within is served told
 
 -- ---- the verdict on a situation
 
-limit_tested : (len : ℕ) → len ≤ 65536 → nat_le len 65536 ≡ true
+limit_tested : (len : ℕ) → len ≤ alert_limit → nat_le len alert_limit ≡ true
 limit_tested len h = grind (arith, nat_tests)
 
-limit_passed : (len : ℕ) → 65536 < len → nat_le len 65536 ≡ false
+limit_passed : (len : ℕ) → alert_limit < len → nat_le len alert_limit ≡ false
 limit_passed len h = grind (arith, nat_tests)
 
 -- by the length of its alert
-pub within_limit : (table : Table) (one : Situation) (len : ℕ) → len ≡ alert_len table one → len ≤ 65536 → limited_verdict table (Ok one) ≡ Ok one
+pub within_limit : (table : Table) (one : Situation) (len : ℕ) → len ≡ alert_len table one → len ≤ alert_limit → limited_verdict table (Ok one) ≡ Ok one
 within_limit table one len is few =
     ap (λ (fits : Bool). if fits then Ok one else Err (EntityTooLong (alert_len table one))) (limit_tested (alert_len table one) (omega (arith, is, few)))
 
-pub over_limit : (table : Table) (one : Situation) (len : ℕ) → len ≡ alert_len table one → 65536 < len → limited_verdict table (Ok one) ≡ Err (EntityTooLong len)
+pub over_limit : (table : Table) (one : Situation) (len : ℕ) → len ≡ alert_len table one → alert_limit < len → limited_verdict table (Ok one) ≡ Err (EntityTooLong len)
 over_limit table one len is many =
     ap (λ (fits : Bool). if fits then Ok one else Err (EntityTooLong (alert_len table one))) (limit_passed (alert_len table one) (omega (arith, is, many)))
     ∙ ap (λ (n : ℕ). Err (EntityTooLong n)) (sym is)
 
 -- one that isn't too long means itself
-pub served_within : (table : Table) (one : Situation) (len : ℕ) (alert : List ℕ) → len ≡ alert_len table one → len ≤ 65536 → alert ≡ written (alert_message table one)
+pub served_within : (table : Table) (one : Situation) (len : ℕ) (alert : List ℕ) → len ≡ alert_len table one → len ≤ alert_limit → alert ≡ written (alert_message table one)
     → ((before : List ℕ) (given : Feed) → MeansFeed before given → MeansFeed (before ++ alert) (with_entity given (alert_message table one)))
     → IsVerdictServed table (limited_verdict table (Ok one))
 served_within table one len alert is few same means =
@@ -181,7 +181,7 @@ served_within table one len alert is few same means =
       short = omega (arith, is, few);
     })
 
-pub served_over : (table : Table) (one : Situation) (len : ℕ) → len ≡ alert_len table one → 65536 < len → IsVerdictServed table (limited_verdict table (Ok one))
+pub served_over : (table : Table) (one : Situation) (len : ℕ) → len ≡ alert_len table one → alert_limit < len → IsVerdictServed table (limited_verdict table (Ok one))
 served_over table one len is many = subst (IsVerdictServed table) (sym (over_limit table one len is many)) tt
 
 -- by what is found under its number
@@ -195,10 +195,10 @@ module _ (entries : List (Entry (List ℕ) Edition)) (one : Situation) where
   no_less : (a b : ℕ) → not (nat_lt b a) ≡ nat_le a b
   no_less a b = grind (arith, nat_tests)
 
-  room_tested : (count : ℕ) → count < 5000 → nat_lt count 5000 ≡ true
+  room_tested : (count : ℕ) → count < most_numbers → nat_lt count most_numbers ≡ true
   room_tested count h = grind (arith, nat_tests)
 
-  room_passed : (count : ℕ) → 5000 ≤ count → nat_lt count 5000 ≡ false
+  room_passed : (count : ℕ) → most_numbers ≤ count → nat_lt count most_numbers ≡ false
   room_passed count h = grind (arith, nat_tests)
 
   pub verdict_over : (old : Edition) → Some old ≡ value_at (slice_cmp nat_cmp) entries one.number
@@ -208,13 +208,13 @@ module _ (entries : List (Entry (List ℕ) Edition)) (one : Situation) where
       (situation_counts_found entries one old found ∙ no_less old.version one.version)
 
   module _ (count : ℕ) (new : None ≡ value_at (slice_cmp nat_cmp) entries one.number) (is : count ≡ length entries) where
-    pub verdict_free : count < 5000 → Some true ≡ situation_verdict (map situation_seen entries) one
+    pub verdict_free : count < most_numbers → Some true ≡ situation_verdict (map situation_seen entries) one
     verdict_free few =
-        by_test true true (situation_fits_new entries one new ∙ ap (λ (n : ℕ). nat_lt n 5000) (sym is) ∙ room_tested count few) (situation_counts_new entries one new)
+        by_test true true (situation_fits_new entries one new ∙ ap (λ (n : ℕ). nat_lt n most_numbers) (sym is) ∙ room_tested count few) (situation_counts_new entries one new)
 
-    pub verdict_full : 5000 ≤ count → None ≡ situation_verdict (map situation_seen entries) one
+    pub verdict_full : most_numbers ≤ count → None ≡ situation_verdict (map situation_seen entries) one
     verdict_full many =
-        by_test false true (situation_fits_new entries one new ∙ ap (λ (n : ℕ). nat_lt n 5000) (sym is) ∙ room_passed count many) (situation_counts_new entries one new)
+        by_test false true (situation_fits_new entries one new ∙ ap (λ (n : ℕ). nat_lt n most_numbers) (sym is) ∙ room_passed count many) (situation_counts_new entries one new)
 
 -- ---- lists
 
@@ -239,7 +239,7 @@ report_of table before items seen_items passed entries aside report same h taken
     counted : length (map result_err (situations_with_room before (map (item_verdict table) items))) ≡ length items
     counted =
         length-map (situations_with_room before (map (item_verdict table) items)) result_err
-        ∙ length-with_room is_same_number always 5000 before (map (item_verdict table) items)
+        ∙ length-with_room is_same_number always most_numbers before (map (item_verdict table) items)
         ∙ length-map items (item_verdict table)
 
     all : report.taken ≡ count_by is_none (map result_err (situations_with_room before (map (item_verdict table) items)))

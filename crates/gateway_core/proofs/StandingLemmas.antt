@@ -15,7 +15,7 @@ use Rattle.stop_schedule.specs.Seen.{seen}
 use Rattle.gw_base.specs.declared.messages.Feed as feeds
 use Rattle.reverse_calls.specs.Siri.{IsSiri}
 use Rattle.latest_store.specs.Latest.{has_number, is_newer, was_later}
-use Rattle.gateway_core.specs.Arrivals.{Arrival, CanBeServed, EachCanBeServed, admitted, admitted_situations, always, feed, first_day, is_same_number, is_within, journeys, moments_of, present, schedule_at, situations, window_at}
+use Rattle.gateway_core.specs.Arrivals.{Arrival, CanBeServed, EachCanBeServed, admitted, admitted_situations, always, feed, first_day, is_same_number, is_within, journeys, moments_of, present, schedule_at, situations, window_at, most_numbers}
 use Rattle.gateway_core.specs.Deliveries.{taken}
 use Rattle.gateway_core.specs.Feeds.{comes_before, has_lesser_number}
 use Rattle.gateway_core.specs.Keeping.{AreLatest}
@@ -203,7 +203,7 @@ stands_situations old now arrivals moment verdicts h can setting window keeps ne
       situations_are =
           subst (λ (all : List Situation). KeepsSituations (seen old.setting.table) all now.situations)
           (ap (λ (left : List Situation). left ++ taken (situations_with_room (admitted_situations arrivals) verdicts)) (filter_all always (admitted_situations arrivals) (each (admitted_situations arrivals)))
-          ∙ sym (admits is_same_number always 5000 (admitted_situations arrivals) verdicts)) newest;
+          ∙ sym (admits is_same_number always most_numbers (admitted_situations arrivals) verdicts)) newest;
       text_is = h.text_is;
     })
   where
