@@ -2,9 +2,6 @@
 use Rattle.std.specs.Prelude.{ℤ, pos}
 
 -- FeedHeader.Incrementality
-abbrev pub full_dataset : ℤ
-full_dataset = pos 0
-
 abbrev pub differential : ℤ
 differential = pos 1
 

@@ -1,9 +1,8 @@
 -- What the entities of a feed say that come one by one, before its header is known (GTFS Realtime reference,
 -- FeedMessage, whose header may come last).
-use Rattle.std.specs.Prelude.{◌≡◌, ◌+◌, ℕ, Bool, List, [], ◌∷◌, length, map, Option, Some, None, is_none, is_some, option_map, Result, Ok, Err, if◌then◌else◌}
+use Rattle.std.specs.Prelude.{◌≡◌, ◌+◌, ℕ, pos, Bool, List, [], ◌∷◌, length, map, Option, Some, None, is_none, is_some, option_map, Result, Ok, Err, if◌then◌else◌}
 use Rattle.std.specs.List.{filter}
 use Rattle.std.specs.Option.{option_or}
-use Rattle.gw_base.specs.Enums.{full_dataset}
 use Rattle.gw_base.specs.declared.messages.Entity.{Entity}
 use Rattle.gw_base.specs.declared.messages.Feed.{Feed}
 use Rattle.gw_base.specs.declared.messages.FeedHead.{FeedHead}
@@ -28,7 +27,7 @@ feed_with head entities =
 
 -- a feed of that timestamp that says nothing else
 abbrev pub bare_feed : Option ℕ → Feed
-bare_feed timestamp = record { version = []; incrementality = full_dataset; timestamp = timestamp; entities = [] }
+bare_feed timestamp = record { version = []; incrementality = pos 0; timestamp = timestamp; entities = [] }
 
 -- the update names its service day (GTFS Realtime reference, TripDescriptor: start_date)
 abbrev pub is_dated : TripUpdate → Bool
