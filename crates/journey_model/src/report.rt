@@ -33,6 +33,16 @@ fn add_aside(lines: &mut Bytes, lead: &[u8], number: u64, fault: &Fault) -> Resu
     lines.extend(b"\n")
 }
 
+// Adds the lines of the items that are set aside.
+fn add_all_aside(lines: &mut Bytes, lead: &[u8], aside: &[(u64, Fault)]) -> Result<(), AllocError>
+    ensures { OnOk result (lines.new ≡ lines.old ++ flat_map (spec.aside_line lead.now) aside.now) }
+{
+    for (number, fault) in aside {
+        add_aside(lines, lead, *number, fault)?;
+    }
+    Ok(())
+}
+
 // Adds the line of counts.
 fn add_counts(
     lines: &mut Bytes,
@@ -60,8 +70,6 @@ pub fn add_report(lines: &mut Bytes, lead: &[u8], report: &Report) -> Result<(),
     ensures { OnOk result (lines.new ≡ lines.old ++ spec.report_lines lead.now report.now) }
 {
     let aside = report.aside.as_slice();
-    for (number, fault) in aside {
-        add_aside(lines, lead, *number, fault)?;
-    }
+    add_all_aside(lines, lead, aside)?;
     add_counts(lines, lead, report.taken, report.passed, aside.len() as u64)
 }
