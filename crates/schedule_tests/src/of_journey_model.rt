@@ -5,7 +5,6 @@ use journey_model::{
 };
 use service_day::{DayForm, read_day};
 use std::process::Abort;
-use std::test::Fail;
 use stop_schedule::{StopNo, StopRow, TripNo};
 
 // Faults with their texts.
@@ -21,12 +20,16 @@ static TEXTS: [(Fault, &str); 6] = [
     ),
 ];
 
-#[test]
-fn faults_have_their_texts(rt: HostRuntime) -> Result<(), Fail> {
-    for (fault, text) in TEXTS.iter() {
+// Each fault has that text.
+fn each_text(rt: &impl Abort, texts: &[(Fault, &str)]) {
+    for (fault, text) in texts {
         assert_eq!(rt; fault_text(fault).as_str(), *text);
     }
-    Ok(())
+}
+
+#[test]
+fn faults_have_their_texts(rt: HostRuntime) {
+    each_text(&rt, &TEXTS);
 }
 
 // A trip that stops twice at its first stop.
@@ -62,7 +65,9 @@ fn loop_trip(rt: &impl Abort) -> DatedTrip<'static> {
 }
 
 // Calls: the place of the one before, the stop, its order, and the place.
-static CALLS: [(Option<u32>, u32, Option<u64>, Option<u32>); 6] = [
+type Call = (Option<u32>, u32, Option<u64>, Option<u32>);
+
+static CALLS: [Call; 6] = [
     (None, 0, None, Some(0)),
     (None, 0, Some(3), Some(2)),
     (None, 0, Some(2), Some(0)),
@@ -71,16 +76,22 @@ static CALLS: [(Option<u32>, u32, Option<u64>, Option<u32>); 6] = [
     (None, 7, Some(u64::MAX), None),
 ];
 
-#[test]
-fn calls_have_their_places(rt: HostRuntime) {
-    let dated = loop_trip(&rt);
-    for (after, stop, order, place) in CALLS.iter() {
-        assert_eq!(rt; match_call(&dated, *after, StopNo(*stop), *order), *place);
+// Each call has that place.
+fn each_call(rt: &impl Abort, dated: &DatedTrip<'_>, calls: &[Call]) {
+    for (after, stop, order, place) in calls {
+        assert_eq!(rt; match_call(dated, *after, StopNo(*stop), *order), *place);
     }
 }
 
+#[test]
+fn calls_have_their_places(rt: HostRuntime) {
+    each_call(&rt, &loop_trip(&rt), &CALLS);
+}
+
 // Updates: the place of the one before, the sequence, the stop that is named, and the place or why it has none.
-static UPDATES: [(Option<u32>, Option<u32>, NamedStop, Result<u32, MatchFault>); 8] = [
+type Update = (Option<u32>, Option<u32>, NamedStop, Result<u32, MatchFault>);
+
+static UPDATES: [Update; 8] = [
     (None, Some(2), NamedStop::Missing, Ok(1)),
     (None, Some(2), NamedStop::Known(StopNo(1)), Ok(1)),
     (
@@ -111,10 +122,14 @@ static UPDATES: [(Option<u32>, Option<u32>, NamedStop, Result<u32, MatchFault>);
     (None, None, NamedStop::Missing, Err(MatchFault::UnknownStop)),
 ];
 
+// Each update has that place, or none for that fault.
+fn each_update(rt: &impl Abort, dated: &DatedTrip<'_>, updates: &[Update]) {
+    for (after, sequence, named, place) in updates {
+        assert_eq!(rt; match_update(dated, *after, *sequence, *named), *place);
+    }
+}
+
 #[test]
 fn updates_have_their_places(rt: HostRuntime) {
-    let dated = loop_trip(&rt);
-    for (after, sequence, named, place) in UPDATES.iter() {
-        assert_eq!(rt; match_update(&dated, *after, *sequence, *named), *place);
-    }
+    each_update(&rt, &loop_trip(&rt), &UPDATES);
 }

@@ -3,7 +3,7 @@ mod moments;
 mod zones;
 
 use service_day::*;
-use std::test::Fail;
+use std::process::Abort;
 
 // Day numbers and weekdays from Python's `datetime.date`.
 const DAYS: [(&str, &str, i32, u8); 15] = [
@@ -24,21 +24,33 @@ const DAYS: [(&str, &str, i32, u8); 15] = [
     ("9999-12-31", "99991231", 2_932_896, 4),
 ];
 
-#[test]
-fn days_are_read_and_written(rt: HostRuntime) -> Result<(), Fail> {
-    for (dashed, compact, number, weekday) in DAYS {
-        let day = read_day(dashed, DayForm::Dashed).expect(&rt, "a day");
-        assert_eq!(rt; day.number(), number);
-        assert_eq!(rt; day.weekday(), weekday);
-        assert_eq!(rt; read_day(compact, DayForm::Compact), Some(day));
-        assert_eq!(rt; read_day(dashed, DayForm::Either), Some(day));
-        assert_eq!(rt; read_day(compact, DayForm::Either), Some(day));
-        assert!(rt; read_day(compact, DayForm::Dashed).is_none());
-        assert!(rt; read_day(dashed, DayForm::Compact).is_none());
-        assert!(rt; day_text(day).as_slice() == dashed.as_bytes());
-        assert!(rt; day_compact(day).as_slice() == compact.as_bytes());
+// The day of a row is read in both forms.
+fn is_read(rt: &impl Abort, day: Day, dashed: &str, compact: &str) {
+    assert_eq!(rt; read_day(compact, DayForm::Compact), Some(day), "{compact}");
+    assert_eq!(rt; read_day(dashed, DayForm::Either), Some(day), "{dashed}");
+    assert_eq!(rt; read_day(compact, DayForm::Either), Some(day), "{compact}");
+    assert!(rt; read_day(compact, DayForm::Dashed).is_none(), "{compact}");
+    assert!(rt; read_day(dashed, DayForm::Compact).is_none(), "{dashed}");
+}
+
+// Each day is read and written so.
+fn each_day(rt: &impl Abort, days: &[(&str, &str, i32, u8)]) {
+    for (dashed, compact, number, weekday) in days {
+        let day = read_day(dashed, DayForm::Dashed).expect(rt, "a day");
+        assert_eq!(rt; day.number(), *number, "{dashed}");
+        assert_eq!(rt; day.weekday(), *weekday, "{dashed}");
+        is_read(rt, day, dashed, compact);
+        assert!(rt; day_text(day).as_slice() == dashed.as_bytes(), "{dashed}");
+        assert!(rt;
+            day_compact(day).as_slice() == compact.as_bytes(),
+            "{compact}"
+        );
     }
-    Ok(())
+}
+
+#[test]
+fn days_are_read_and_written(rt: HostRuntime) {
+    each_day(&rt, &DAYS);
 }
 
 // A day of the table, how many days later, and the day there, if there is one.
@@ -51,12 +63,20 @@ const LATER: [(i32, Option<i32>); 6] = [
     (-739_007, None),
 ];
 
+// So many days later it is that day.
+fn each_is_later(rt: &impl Abort, day: Day, later: &[(i32, Option<i32>)]) {
+    for (days, number) in later {
+        assert!(rt;
+            day.plus(*days).map(|later| later.number()) == *number,
+            "{days}"
+        );
+    }
+}
+
 #[test]
 fn days_are_counted_on_and_back(rt: HostRuntime) {
     let day = read_day("20240501", DayForm::Compact).expect(&rt, "a day");
-    for (days, number) in LATER {
-        assert!(rt; day.plus(days).map(|later| later.number()) == number);
-    }
+    each_is_later(&rt, day, &LATER);
 }
 
 // Texts that are no date in any form.
@@ -132,14 +152,18 @@ const NO_DAYS: [&str; 69] = [
     "20240５1",
 ];
 
-#[test]
-fn other_texts_are_no_days(rt: HostRuntime) -> Result<(), Fail> {
-    for text in NO_DAYS {
-        assert!(rt; read_day(text, DayForm::Dashed).is_none());
-        assert!(rt; read_day(text, DayForm::Compact).is_none());
-        assert!(rt; read_day(text, DayForm::Either).is_none());
+// None is a day in any form.
+fn none_is_a_day(rt: &impl Abort, texts: &[&str]) {
+    for text in texts {
+        assert!(rt; read_day(text, DayForm::Dashed).is_none(), "{text}");
+        assert!(rt; read_day(text, DayForm::Compact).is_none(), "{text}");
+        assert!(rt; read_day(text, DayForm::Either).is_none(), "{text}");
     }
-    Ok(())
+}
+
+#[test]
+fn other_texts_are_no_days(rt: HostRuntime) {
+    none_is_a_day(&rt, &NO_DAYS);
 }
 
 // Seconds from Python's `calendar.timegm`.
@@ -158,15 +182,20 @@ const MOMENTS: [(&str, i64); 12] = [
     ("9998-12-31T23:59:59Z", 253_370_764_799),
 ];
 
-#[test]
-fn moments_are_read_and_written(rt: HostRuntime) -> Result<(), Fail> {
-    for (text, secs) in MOMENTS {
-        assert_eq!(rt; read_utc(text), Some(secs));
+// Each moment is read and written so.
+fn each_moment(rt: &impl Abort, moments: &[(&str, i64)]) {
+    for (text, secs) in moments {
+        let secs = *secs;
+        assert_eq!(rt; read_utc(text), Some(secs), "{text}");
         if secs >= 0 && secs <= 253_370_764_799 {
-            assert!(rt; write_moment(secs).as_slice() == text.as_bytes());
+            assert!(rt; write_moment(secs).as_slice() == text.as_bytes(), "{text}");
         }
     }
-    Ok(())
+}
+
+#[test]
+fn moments_are_read_and_written(rt: HostRuntime) {
+    each_moment(&rt, &MOMENTS);
 }
 
 // Texts that name no moment of the years 1970 to 9998.
@@ -222,10 +251,14 @@ const NO_MOMENTS: [&str; 49] = [
     "2024-05-01T06:00:\u{664}Z",
 ];
 
-#[test]
-fn other_texts_are_no_moments(rt: HostRuntime) -> Result<(), Fail> {
-    for text in NO_MOMENTS {
-        assert!(rt; read_utc(text).is_none());
+// None is a moment.
+fn none_is_a_moment(rt: &impl Abort, texts: &[&str]) {
+    for text in texts {
+        assert!(rt; read_utc(text).is_none(), "{text}");
     }
-    Ok(())
+}
+
+#[test]
+fn other_texts_are_no_moments(rt: HostRuntime) {
+    none_is_a_moment(&rt, &NO_MOMENTS);
 }

@@ -1,5 +1,6 @@
 //! Moment texts.
 use service_day::*;
+use std::process::Abort;
 use std::test::Fail;
 
 // Seconds and nanoseconds from Python's `datetime` and `zoneinfo`, without an offset in Europe/Berlin.
@@ -75,22 +76,55 @@ const NO_MOMENTS: [&str; 45] = [
     "0000-01-01T00:00:00Z",
 ];
 
+// Each text is that instant.
+fn each_instant(rt: &impl Abort, zone: &Zone, moments: &[(&str, i64, u32)]) {
+    for (text, secs, nanos) in moments {
+        let instant = read_moment(text, zone).expect(rt, "a moment");
+        assert_eq!(rt; instant.secs, *secs, "{text}");
+        assert_eq!(rt; instant.nanos, *nanos, "{text}");
+    }
+}
+
+// None is a moment.
+fn none_is_a_moment(rt: &impl Abort, zone: &Zone, texts: &[&str]) {
+    for text in texts {
+        assert_eq!(rt;
+            read_moment(text, zone),
+            Err(MomentFault::NotMoment),
+            "{text}"
+        );
+    }
+}
+
 #[test]
 fn moments_are_read_in_a_zone(rt: HostRuntime) -> Result<(), Fail> {
     let zone = Zone::from_rule("CET-1CEST,M3.5.0,M10.5.0/3").expect(&rt, "a zone");
-    for (text, secs, nanos) in MOMENTS {
-        let instant = read_moment(text, &zone).expect(&rt, "a moment");
-        assert_eq!(rt; instant.secs, secs);
-        assert_eq!(rt; instant.nanos, nanos);
-    }
-    for text in NO_MOMENTS {
-        assert_eq!(rt; read_moment(text, &zone), Err(MomentFault::NotMoment));
-    }
+    each_instant(&rt, &zone, &MOMENTS);
+    none_is_a_moment(&rt, &zone, &NO_MOMENTS);
     let early = read_moment("2024-05-01T06:01:00.5Z", &zone);
     let late = read_moment("2024-05-01T06:01:00.75Z", &zone);
     assert!(rt; early.expect(&rt, "early") < late.expect(&rt, "late"));
     Ok(())
 }
+
+// Each day starts then, or isn't in the window.
+fn each_start(rt: &impl Abort, window: &Window, starts: &[(&str, Option<i64>)]) {
+    for (text, start) in starts {
+        let day = read_day(text, DayForm::Dashed).expect(rt, "a day");
+        assert_eq!(rt; window.start_of(day), *start, "{text}");
+    }
+}
+
+// Days about the spring change of 2024, and their starts in a window of three.
+static SPRING: [(&str, Option<i64>); 7] = [
+    ("2024-03-29", None),
+    ("2024-03-30", Some(1_711_753_200)),
+    ("2024-03-31", Some(1_711_836_000)),
+    ("2024-04-01", Some(1_711_922_400)),
+    ("2024-04-02", None),
+    ("0001-01-01", None),
+    ("9999-12-31", None),
+];
 
 #[test]
 fn a_window_over_the_spring_change(rt: HostRuntime) -> Result<(), Fail> {
@@ -102,18 +136,6 @@ fn a_window_over_the_spring_change(rt: HostRuntime) -> Result<(), Fail> {
     let window = Window::make(&zone, first, 3)?;
     assert!(rt; window.first() == first);
     assert_eq!(rt; window.days(), 3);
-    let starts = [
-        ("2024-03-29", None),
-        ("2024-03-30", Some(1_711_753_200)),
-        ("2024-03-31", Some(1_711_836_000)),
-        ("2024-04-01", Some(1_711_922_400)),
-        ("2024-04-02", None),
-        ("0001-01-01", None),
-        ("9999-12-31", None),
-    ];
-    for (text, start) in starts {
-        let day = read_day(text, DayForm::Dashed).expect(&rt, "a day");
-        assert_eq!(rt; window.start_of(day), start);
-    }
+    each_start(&rt, &window, &SPRING);
     Ok(())
 }

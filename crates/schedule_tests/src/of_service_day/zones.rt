@@ -1,6 +1,7 @@
 //! Zones, and the starts of days in them.
 use service_day::*;
-use std::test::Fail;
+use std::alloc::Global;
+use std::process::Abort;
 
 /// Europe/Berlin
 const BERLIN: &str = "CET-1CEST,M3.5.0,M10.5.0/3";
@@ -167,50 +168,63 @@ const LOCAL_DATES: [(&str, i64, &str); 30] = [
     (SANTIAGO, 1_717_992_000, "2024-06-10"),
 ];
 
-#[test]
-fn local_times_of_five_zones(rt: HostRuntime) -> Result<(), Fail> {
-    assert!(rt; has_times(BERLIN, &BERLIN_TIMES));
-    assert!(rt; has_times(NEW_YORK, &NEW_YORK_TIMES));
-    assert!(rt; has_times(SYDNEY, &SYDNEY_TIMES));
-    assert!(rt; has_times(LORD_HOWE, &LORD_HOWE_TIMES));
-    assert!(rt; has_times(SANTIAGO, &SANTIAGO_TIMES));
-    Ok(())
-}
-
-fn has_times(rule: &str, times: &[(&str, i64)]) -> bool {
-    let Ok(zone) = Zone::from_rule(rule) else {
-        return false;
-    };
+// Each local time is that second in the zone.
+fn each_local_time(rt: &impl Abort, zone: &Zone, times: &[(&str, i64)]) {
     for (text, secs) in times {
-        match read_moment(text, &zone) {
-            Ok(instant) => {
-                if instant.secs != *secs || instant.nanos != 0 {
-                    return false;
-                }
-            }
-            Err(_) => return false,
-        }
+        let instant = read_moment(text, zone).expect(rt, "a moment");
+        assert_eq!(rt; instant.secs, *secs, "{text}");
+        assert_eq!(rt; instant.nanos, 0, "{text}");
     }
-    true
+}
+
+// The same in the zone of a rule.
+fn each_by_rule(rt: &impl Abort, rule: &str, times: &[(&str, i64)]) {
+    let zone = Zone::from_rule(rule).expect(rt, "a zone");
+    each_local_time(rt, &zone, times);
 }
 
 #[test]
-fn day_starts_of_five_zones(rt: HostRuntime) -> Result<(), Fail> {
-    for (rule, date, secs) in STARTS {
-        let zone = Zone::from_rule(rule).expect(&rt, "a zone");
-        let day = read_day(date, DayForm::Dashed).expect(&rt, "a day");
-        assert_eq!(rt; start_if_service_day(&zone, day), Some(secs));
+fn local_times_of_five_zones(rt: HostRuntime) {
+    each_by_rule(&rt, BERLIN, &BERLIN_TIMES);
+    each_by_rule(&rt, NEW_YORK, &NEW_YORK_TIMES);
+    each_by_rule(&rt, SYDNEY, &SYDNEY_TIMES);
+    each_by_rule(&rt, LORD_HOWE, &LORD_HOWE_TIMES);
+    each_by_rule(&rt, SANTIAGO, &SANTIAGO_TIMES);
+}
+
+// Each day starts then in the zone of its rule.
+fn each_start(rt: &impl Abort, starts: &[(&str, &str, i64)]) {
+    for (rule, date, secs) in starts {
+        let zone = Zone::from_rule(rule).expect(rt, "a zone");
+        let day = read_day(date, DayForm::Dashed).expect(rt, "a day");
+        assert_eq!(rt;
+            start_if_service_day(&zone, day),
+            Some(*secs),
+            "{rule} {date}"
+        );
     }
-    Ok(())
 }
 
 #[test]
-fn local_dates_of_five_zones(rt: HostRuntime) -> Result<(), Fail> {
-    for (rule, secs, date) in LOCAL_DATES {
-        let zone = Zone::from_rule(rule).expect(&rt, "a zone");
-        assert_eq!(rt; day_if_moment(&zone, secs), read_day(date, DayForm::Dashed));
+fn day_starts_of_five_zones(rt: HostRuntime) {
+    each_start(&rt, &STARTS);
+}
+
+// Each moment is of that day in the zone of its rule.
+fn each_local_date(rt: &impl Abort, dates: &[(&str, i64, &str)]) {
+    for (rule, secs, date) in dates {
+        let zone = Zone::from_rule(rule).expect(rt, "a zone");
+        assert_eq!(rt;
+            day_if_moment(&zone, *secs),
+            read_day(date, DayForm::Dashed),
+            "{rule} {secs}"
+        );
     }
-    Ok(())
+}
+
+#[test]
+fn local_dates_of_five_zones(rt: HostRuntime) {
+    each_local_date(&rt, &LOCAL_DATES);
 }
 
 fn start_if_service_day(zone: &Zone, day: Day) -> Option<i64> {
@@ -247,18 +261,19 @@ const IN_BOGOTA: [(&str, i64); 7] = [
     ("2024-05-01T08:00:00", 1_714_568_400),
 ];
 
+// A file that is cut short is refused, wherever it is.
+fn each_front_is_refused(rt: &impl Abort, alloc: Global, file: &[u8]) {
+    for end in 0..file.len() {
+        assert!(rt; is_refused(Zone::from_file(alloc, &file[..end])), "{end}");
+    }
+}
+
 #[test]
-fn a_zone_file_is_read_whole_or_refused(rt: HostRuntime) -> Result<(), Fail> {
+fn a_zone_file_is_read_whole_or_refused(rt: HostRuntime) {
     let zone = Zone::from_file(rt.alloc(), BOGOTA).expect(&rt, "a zone");
-    for (text, secs) in IN_BOGOTA {
-        let instant = read_moment(text, &zone).expect(&rt, "a moment");
-        assert_eq!(rt; instant.secs, secs);
-    }
-    for end in 0..BOGOTA.len() {
-        assert!(rt; is_refused(Zone::from_file(rt.alloc(), &BOGOTA[..end])));
-    }
+    each_local_time(&rt, &zone, &IN_BOGOTA);
+    each_front_is_refused(&rt, rt.alloc(), BOGOTA);
     assert!(rt; is_refused(Zone::from_file(rt.alloc(), b"\0")));
-    Ok(())
 }
 
 // Texts that are no POSIX rule.
@@ -281,18 +296,27 @@ const WIDE_RULES: [(&str, i64); 3] = [
     ("AAA-24", 1_711_670_400),
 ];
 
-#[test]
-fn rules_out_of_form_are_refused(rt: HostRuntime) -> Result<(), Fail> {
-    for text in NO_RULES {
-        assert!(rt; is_refused(Zone::from_rule(text)));
+// None is a rule.
+fn each_is_refused(rt: &impl Abort, texts: &[&str]) {
+    for text in texts {
+        assert!(rt; is_refused(Zone::from_rule(text)), "{text}");
     }
+}
+
+// The day starts then in the zone of each rule.
+fn starts_by_each(rt: &impl Abort, day: Day, rules: &[(&str, i64)]) {
+    for (rule, secs) in rules {
+        let zone = Zone::from_rule(rule).expect(rt, "a zone");
+        assert_eq!(rt; start_if_service_day(&zone, day), Some(*secs), "{rule}");
+    }
+}
+
+#[test]
+fn rules_out_of_form_are_refused(rt: HostRuntime) {
+    each_is_refused(&rt, &NO_RULES);
     assert!(rt; Zone::from_rule("CET-1CEST,M3.5.0/-167,M10.5.0/167").is_ok());
     let day = read_day("2024-03-30", DayForm::Dashed).expect(&rt, "a day");
-    for (rule, secs) in WIDE_RULES {
-        let zone = Zone::from_rule(rule).expect(&rt, "a zone");
-        assert_eq!(rt; start_if_service_day(&zone, day), Some(secs));
-    }
-    Ok(())
+    starts_by_each(&rt, day, &WIDE_RULES);
 }
 
 fn is_refused(read: Result<Zone, ZoneFault>) -> bool {

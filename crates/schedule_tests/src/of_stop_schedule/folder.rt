@@ -97,14 +97,23 @@ fn other_of<'a>(others: &[Other<'a>], file: TableFile) -> Option<Given<'a>> {
     None
 }
 
-// The sample's files with these in their place.
-fn files_with(alloc: Global, others: &[Other]) -> Result<List<(Text, Bytes)>, AllocError> {
+// These files with others in their place.
+fn files_of(
+    alloc: Global,
+    sample: &[(TableFile, &[u8])],
+    others: &[Other],
+) -> Result<List<(Text, Bytes)>, AllocError> {
     let mut files = List::new(alloc);
-    for (file, rows) in SAMPLE.iter() {
+    for (file, rows) in sample {
         let given = other_of(others, *file).unwrap_or(Given::Rows(rows));
         push_given(alloc, &mut files, (*file, given))?;
     }
     Ok(files)
+}
+
+// The sample's files with these in their place.
+fn files_with(alloc: Global, others: &[Other]) -> Result<List<(Text, Bytes)>, AllocError> {
+    files_of(alloc, &SAMPLE, others)
 }
 
 /// What is read of the sample with these files in place of its own. The read of that number fails.
