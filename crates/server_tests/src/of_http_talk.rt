@@ -574,14 +574,24 @@ fn refusals_are_answered_by_the_table(rt: HostRuntime) {
     each_is_answered(&rt, &REFUSALS);
 }
 
-#[test]
-fn faults_and_other_answers_have_their_texts(rt: HostRuntime) {
-    for (fault, text) in &FAULTS {
+/// Each fault of a body has that text.
+fn each_text(rt: &impl Abort, faults: &[(BodyFault, &str)]) {
+    for (fault, text) in faults {
         let told = refusal_text(&Refusal::Body(*fault));
         assert!(rt; told.as_slice() == text.as_bytes(), "{text}");
     }
-    for (answer, len, head) in &ANSWERS {
+}
+
+/// Each answer of that length has that head.
+fn each_head(rt: &impl Abort, answers: &[(Answer, u64, &str)]) {
+    for (answer, len, head) in answers {
         let made = answer_head(answer, *len);
         assert!(rt; made.as_slice() == head.as_bytes(), "{head}");
     }
+}
+
+#[test]
+fn faults_and_other_answers_have_their_texts(rt: HostRuntime) {
+    each_text(&rt, &FAULTS);
+    each_head(&rt, &ANSWERS);
 }

@@ -108,12 +108,17 @@ fn feeds_are_read(rt: HostRuntime) {
     try_read(&rt, rt.alloc(), &READ);
 }
 
+// Each feed is refused so by both commands.
+fn each_is_refused(rt: &impl Abort, alloc: Global, refused: &[(&'static [u8], &'static str)]) {
+    for (feed, err) in refused {
+        assert_feed(rt, alloc, SHOW, Some(feed), (65, b"", err));
+        assert_feed(rt, alloc, TO_SIRI, Some(feed), (65, b"", err));
+    }
+}
+
 #[test]
 fn feeds_are_refused(rt: HostRuntime) {
-    for (feed, err) in REFUSED.iter() {
-        assert_feed(&rt, rt.alloc(), SHOW, Some(feed), (65, b"", err));
-        assert_feed(&rt, rt.alloc(), TO_SIRI, Some(feed), (65, b"", err));
-    }
+    each_is_refused(&rt, rt.alloc(), &REFUSED);
     assert_feed(
         &rt,
         rt.alloc(),
