@@ -6,31 +6,9 @@ use alert_map::{alert_entity, entity_body_len};
 use gw_base::{Bytes, List, Text};
 use journey_model::{Ref, Situation, ValidPeriod};
 use std::alloc::{AllocError, Global};
-use std::process::Abort;
 use std::test::Fail;
 use stop_schedule::{RouteNo, Timetable};
-use test_folder::read_folder;
-
-static FOLDER: [(&str, &[u8]); 6] = [
-    ("g/agency.txt", b"agency_timezone\nEurope/Paris\n"),
-    ("g/stops.txt", b"stop_id\nA\n"),
-    ("g/routes.txt", b"route_id\nR1\nR2\n"),
-    ("g/trips.txt", b"route_id,service_id,trip_id\nR1,D,T1\n"),
-    (
-        "g/calendar.txt",
-        b"service_id,monday,tuesday,wednesday,thursday,friday,saturday,sunday,start_date,end_date\n\
-          D,1,1,1,1,1,1,1,20240301,20240630\n",
-    ),
-    (
-        "g/stop_times.txt",
-        b"trip_id,arrival_time,departure_time,stop_id,stop_sequence\nT1,08:00:00,08:00:00,A,10\n",
-    ),
-];
-
-// The timetable of the folder.
-fn table(rt: &impl Abort, alloc: Global) -> Timetable {
-    read_folder(alloc, &FOLDER).ok().expect(rt, "a timetable")
-}
+use test_folder::sample;
 
 // The alert of the route R1 from 2024-05-01T00:00:00Z on: a technical problem with significant delays, `Late`.
 const ENTITY: &[u8] =
@@ -86,7 +64,7 @@ fn entity_of(alloc: Global, table: &Timetable, route: RouteNo) -> Result<Bytes, 
 
 #[test]
 fn a_situation_is_written_as_its_entity(rt: HostRuntime) -> Result<(), Fail> {
-    let table = table(&rt, rt.alloc());
+    let table = sample(rt.alloc()).expect(&rt, "a timetable");
     let route = table.find_route("R1").expect(&rt, "a route");
     let bytes = entity_of(rt.alloc(), &table, route)?;
     assert_eq!(rt; bytes.as_slice(), ENTITY);

@@ -1,13 +1,11 @@
-//! The record of a cancelled journey over a small folder, and which of two records counts.
+//! The record of a cancelled journey over the sample folder, and which of two records counts.
 use gw_base::Bytes;
 use journey_model::{Context, JourneyReading, JourneyRecord};
 use latest_store::{prepare_record, record_entity, wins};
 use service_day::{DayForm, Instant, read_day};
 use std::alloc::Global;
-use std::process::Abort;
 use std::test::Fail;
-use stop_schedule::Timetable;
-use test_folder::{paris, read_folder, window};
+use test_folder::{paris, sample, window};
 
 #[test]
 fn of_two_equal_records_the_later_arrival_wins(rt: HostRuntime) {
@@ -18,34 +16,13 @@ fn of_two_equal_records_the_later_arrival_wins(rt: HostRuntime) {
     assert!(rt; !wins(&later, &first));
 }
 
-static FOLDER: [(&str, &[u8]); 6] = [
-    ("g/agency.txt", b"agency_timezone\nEurope/Paris\n"),
-    ("g/stops.txt", b"stop_id\nA\nB\n"),
-    ("g/routes.txt", b"route_id\nR1\n"),
-    ("g/trips.txt", b"route_id,service_id,trip_id\nR1,D,T1\n"),
-    (
-        "g/calendar_dates.txt",
-        b"service_id,date,exception_type\nD,20240501,1\n",
-    ),
-    (
-        "g/stop_times.txt",
-        b"trip_id,arrival_time,departure_time,stop_id,stop_sequence\nT1,08:00:00,08:00:00,A,10\n\
-          T1,08:10:00,08:10:00,B,20\n",
-    ),
-];
-
-// The timetable of the folder.
-fn table(rt: &impl Abort, alloc: Global) -> Timetable {
-    read_folder(alloc, &FOLDER).ok().expect(rt, "a timetable")
-}
-
 // The entity of T1, cancelled on 2024-05-01 and recorded at 06:00:00Z (made by hand from GTFS Realtime's message).
 const CANCELLED: &[u8] =
     b"\x12\x27\x0a\x0b20240501:T1\x1a\x18\x0a\x10\x0a\x02T1\x1a\x0820240501\x20\x03\x20\xe0\xb4\xc7\xb1\x06";
 
 // The entity of a trip that is cancelled on a day; None where it doesn't run on it, or the day isn't in the window.
-fn cancelled(alloc: Global, context: &Context<'_>, day: &str) -> Option<Bytes> {
-    let trip = context.table.find_trip("T1")?;
+fn cancelled(alloc: Global, context: &Context<'_>, trip: &str, day: &str) -> Option<Bytes> {
+    let trip = context.table.find_trip(trip)?;
     let day = read_day(day, DayForm::Compact)?;
     if !context.table.runs(trip, day) || context.dated(trip, day).is_none() {
         return None;
@@ -70,7 +47,7 @@ fn cancelled(alloc: Global, context: &Context<'_>, day: &str) -> Option<Bytes> {
 #[test]
 fn a_record_has_its_entity(rt: HostRuntime) -> Result<(), Fail> {
     let alloc = rt.alloc();
-    let table = table(&rt, alloc);
+    let table = sample(alloc).expect(&rt, "a timetable");
     let zone = paris().expect(&rt, "a zone");
     let window = window(&zone, 2).expect(&rt, "a window");
     let context = Context {
@@ -78,8 +55,8 @@ fn a_record_has_its_entity(rt: HostRuntime) -> Result<(), Fail> {
         zone: &zone,
         window: &window,
     };
-    let bytes = cancelled(alloc, &context, "20240501").expect(&rt, "an entity");
+    let bytes = cancelled(alloc, &context, "T1", "20240501").expect(&rt, "an entity");
     assert_eq!(rt; bytes.as_slice(), CANCELLED);
-    assert!(rt; cancelled(alloc, &context, "20240502").is_none());
+    assert!(rt; cancelled(alloc, &context, "T2", "20240501").is_none());
     Ok(())
 }

@@ -1,4 +1,3 @@
 //! What updates and feeds say over a small folder.
 mod feeds;
-mod folder;
 mod updates;

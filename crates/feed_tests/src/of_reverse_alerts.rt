@@ -1,3 +1,2 @@
 //! Feeds of alerts, and the situations that they become.
 mod feeds;
-mod folder;

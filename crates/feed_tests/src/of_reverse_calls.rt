@@ -1,4 +1,4 @@
-//! A feed of one trip that is a minute late, over a small folder: its delivery and its report.
+//! A feed of one trip that is a minute late, over the sample folder: its delivery and its report.
 use gw_base::{
     Bytes, Entity, Event, Feed, List, Moment, StopUpdate, Text, TripDescriptor, TripUpdate,
 };
@@ -6,30 +6,7 @@ use journey_model::Context;
 use propagation::readings_of;
 use reverse_calls::{siri_of, siri_of_readings};
 use std::alloc::{AllocError, Global};
-use std::process::Abort;
-use stop_schedule::Timetable;
-use test_folder::{paris, read_folder, window};
-
-static FOLDER: [(&str, &[u8]); 6] = [
-    ("g/agency.txt", b"agency_timezone\nEurope/Paris\n"),
-    ("g/stops.txt", b"stop_id\nA\nB\n"),
-    ("g/routes.txt", b"route_id\nR1\n"),
-    ("g/trips.txt", b"route_id,service_id,trip_id\nR1,D,T1\n"),
-    (
-        "g/calendar_dates.txt",
-        b"service_id,date,exception_type\nD,20240501,1\n",
-    ),
-    (
-        "g/stop_times.txt",
-        b"trip_id,arrival_time,departure_time,stop_id,stop_sequence\nT1,08:00:00,08:00:00,A,10\n\
-          T1,08:10:00,08:11:00,B,20\n",
-    ),
-];
-
-// The timetable of the folder.
-fn table(rt: &impl Abort, alloc: Global) -> Timetable {
-    read_folder(alloc, &FOLDER).ok().expect(rt, "a timetable")
-}
+use test_folder::{paris, sample, window};
 
 // The delivery, made by hand from SIRI's members.
 const DELIVERY: &[u8] =
@@ -40,8 +17,11 @@ const DELIVERY: &[u8] =
       \"ExpectedDepartureTime\":\"2024-05-01T06:01:00Z\",\"Order\":1,\"StopPointRef\":\"A\"},\
       {\"AimedArrivalTime\":\"2024-05-01T06:10:00Z\",\"AimedDepartureTime\":\"2024-05-01T06:11:00Z\",\
       \"ExpectedArrivalTime\":\"2024-05-01T06:11:00Z\",\"ExpectedDepartureTime\":\"2024-05-01T06:12:00Z\",\
-      \"Order\":2,\"StopPointRef\":\"B\"}]},\"FramedVehicleJourneyRef\":{\"DataFrameRef\":\"2024-05-01\",\
-      \"DatedVehicleJourneyRef\":\"T1\"},\"IsCompleteStopSequence\":true,\"LineRef\":\"R1\",\
+      \"Order\":2,\"StopPointRef\":\"B\"},{\"AimedArrivalTime\":\"2024-05-01T06:20:00Z\",\
+      \"AimedDepartureTime\":\"2024-05-01T06:20:00Z\",\"ExpectedArrivalTime\":\"2024-05-01T06:21:00Z\",\
+      \"ExpectedDepartureTime\":\"2024-05-01T06:21:00Z\",\"Order\":3,\"StopPointRef\":\"C\"}]},\
+      \"FramedVehicleJourneyRef\":{\"DataFrameRef\":\"2024-05-01\",\"DatedVehicleJourneyRef\":\"T1\"},\
+      \"IsCompleteStopSequence\":true,\"LineRef\":\"R1\",\
       \"RecordedAtTime\":\"2024-05-01T06:00:00Z\"}],\"RecordedAtTime\":\"2024-05-01T06:00:00Z\"}],\
       \"ResponseTimestamp\":\"2024-05-01T06:00:00Z\",\"version\":\"2.0\"}],\
       \"ResponseTimestamp\":\"2024-05-01T06:00:00Z\"}}}";
@@ -128,7 +108,7 @@ fn a_late_trip_is_delivered(rt: HostRuntime) {
     let alloc = rt.alloc();
     let zone = paris().expect(&rt, "a zone");
     let context = Context {
-        table: &table(&rt, alloc),
+        table: &sample(alloc).expect(&rt, "a timetable"),
         zone: &zone,
         window: &window(&zone, 2).expect(&rt, "a window"),
     };

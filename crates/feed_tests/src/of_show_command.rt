@@ -1,16 +1,14 @@
 //! The vectors: feeds in bytes, each with what `show` prints of it over the sample folder.
-mod folder;
 mod vectors;
 
 use feed_messages::read_feed;
-use folder::table;
 use gw_base::{Bytes, Feed};
 use journey_model::Context;
 use propagation::readings_of;
 use show_command::show_lines;
 use std::alloc::{AllocError, Global};
 use std::process::Abort;
-use test_folder::{paris, window};
+use test_folder::{paris, sample, window};
 use vectors::VECTORS;
 
 // What is shown of a feed.
@@ -38,7 +36,7 @@ fn vectors_are_shown(rt: HostRuntime) {
     let alloc = rt.alloc();
     let zone = paris().expect(&rt, "a zone");
     let context = Context {
-        table: &table(&rt, alloc),
+        table: &sample(alloc).expect(&rt, "a timetable"),
         zone: &zone,
         window: &window(&zone, 2).expect(&rt, "a window"),
     };

@@ -1,12 +1,11 @@
-//! Deliveries and feeds over a small folder. What the tests share: a gateway that took nothing, deliveries of items,
+//! Deliveries and feeds over the sample folder. What the tests share: a gateway that took nothing, deliveries of items,
 //! and what is served.
 mod feeds;
-mod folder;
 mod journeys;
 mod serving;
 mod situations;
 
-use folder::setting;
+use crate::settings::setting;
 use gateway_core::{Gateway, TakeFault, feed_report};
 use gw_base::{Bytes, List, MemorySink, Moment};
 use journey_model::Report;

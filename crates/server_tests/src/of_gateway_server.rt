@@ -1,9 +1,7 @@
 //! Connections over a door in memory, one after the other: what each is answered, and its entry in the log.
 ghost use Rattle.std.specs.Prelude.{◌≡◌, ◌≤◌, false};
 
-mod folder;
-
-use folder::setting;
+use crate::settings::setting;
 use gateway_core::Gateway;
 use gateway_server::serve;
 use gw_base::{Bytes, Entry, List, Mark, MemoryClock, MemoryDoor, Moment};
@@ -219,7 +217,7 @@ fn door(rt: &impl Abort, alloc: Global, rows: &[Row], most: u64, fails: &[u64]) 
 fn serve_door(rt: &impl Abort, alloc: Global, door: &mut MemoryDoor, clock_fails: &[u64]) -> bool
     requires { door.old.present ≡ false }
 {
-    let mut gate = Gateway::start(alloc, setting(rt, alloc)).expect(rt, "memory");
+    let mut gate = Gateway::start(alloc, setting(rt, alloc, None)).expect(rt, "memory");
     let mut reader = HeadReader::make(alloc).expect(rt, "memory");
     let mut body = Bytes::new(alloc);
     let mut clock = MemoryClock::make(moments(rt, alloc, 40), numbers(rt, alloc, clock_fails));

@@ -1,18 +1,33 @@
-//! Deliveries over a small timetable.
+//! Deliveries over the sample folder.
 mod calls;
-pub(crate) mod folder;
 mod frames;
 mod items;
 mod journeys;
 mod written;
 
 use crate::texts::between;
-use folder::{push_stop, table};
-use journey_model::{Context, JourneyReading, JourneyRecord};
+use journey_model::{Context, JourneyReading, JourneyRecord, StopReading};
 use siri_calls::{Delivery, DeliveryFault, Item, read_delivery};
 use std::alloc::{AllocError, Global};
 use std::process::Abort;
-use test_folder::{paris, window};
+use test_folder::{paris, sample, window};
+
+// The start of the first of May 2024 in the zone, to which the times of the cases are added.
+const START: i64 = 1_714_514_400;
+
+// Adds how a stop reads.
+fn push_stop(alloc: Global, text: &mut String, reading: &StopReading) -> Result<(), AllocError> {
+    match reading {
+        StopReading::Absent => text.push_str(" -"),
+        StopReading::Skipped => text.push_str(" x"),
+        StopReading::Timed { arrival, departure } => {
+            let arrival = arrival.wrapping_sub(START);
+            let departure = departure.wrapping_sub(START);
+            let times = format!(in alloc; " {arrival}/{departure}")?;
+            text.push_str(times.as_str())
+        }
+    }
+}
 
 // Adds what is recorded of a journey: its trip, its day, its instant and its stops.
 fn push_record(alloc: Global, text: &mut String, record: &JourneyRecord) -> Result<(), AllocError> {
@@ -70,7 +85,7 @@ fn said(alloc: Global, body: &str, context: &Context<'_>) -> Result<String, Allo
 
 // The cases, each between two texts, say this.
 fn assert_said(rt: &impl Abort, alloc: Global, ends: (&str, &str), cases: &[(&str, &str)]) {
-    let table = table(rt, alloc);
+    let table = sample(alloc).expect(rt, "a timetable");
     let zone = paris().expect(rt, "a zone");
     let window = window(&zone, 2).expect(rt, "a window");
     let context = Context {

@@ -1,4 +1,4 @@
-//! Deliveries over a small timetable.
+//! Deliveries over the sample folder.
 mod frames;
 mod members;
 mod references;
@@ -10,34 +10,7 @@ use siri_calls::DeliveryFault;
 use siri_situations::{Item, SituationDelivery, read_situations};
 use std::alloc::{AllocError, Global};
 use std::process::Abort;
-use stop_schedule::Timetable;
-use test_folder::{paris, read_folder, window};
-
-// The routes R1 and R2, the stops A, B and C, and the trips T1 and L1.
-static FOLDER: [(&str, &[u8]); 6] = [
-    ("g/agency.txt", b"agency_timezone\nEurope/Paris\n"),
-    ("g/stops.txt", b"stop_id\nA\nB\nC\n"),
-    ("g/routes.txt", b"route_id\nR1\nR2\n"),
-    (
-        "g/trips.txt",
-        b"route_id,service_id,trip_id\nR1,D,T1\nR1,D,L1\n",
-    ),
-    (
-        "g/calendar.txt",
-        b"service_id,monday,tuesday,wednesday,thursday,friday,saturday,sunday,start_date,end_date\n\
-          D,1,1,1,1,1,1,1,20240301,20240630\n",
-    ),
-    (
-        "g/stop_times.txt",
-        b"trip_id,arrival_time,departure_time,stop_id,stop_sequence\nT1,08:00:00,,A,1\nT1,08:10:00,,B,2\n\
-          L1,08:00:00,,A,1\nL1,08:10:00,,B,2\n",
-    ),
-];
-
-// The timetable of the folder.
-fn table(rt: &impl Abort, alloc: Global) -> Timetable {
-    read_folder(alloc, &FOLDER).ok().expect(rt, "a timetable")
-}
+use test_folder::{paris, sample, window};
 
 // Adds an end of a period.
 fn push_end(alloc: Global, text: &mut String, end: Option<u64>) -> Result<(), AllocError> {
@@ -134,7 +107,7 @@ fn said(alloc: Global, body: &str, context: &Context<'_>) -> Result<String, Allo
 
 // The cases, each between two texts, say this.
 fn assert_said(rt: &impl Abort, alloc: Global, ends: (&str, &str), cases: &[(&str, &str)]) {
-    let table = table(rt, alloc);
+    let table = sample(alloc).expect(rt, "a timetable");
     let zone = paris().expect(rt, "a zone");
     let window = window(&zone, 2).expect(rt, "a window");
     let context = Context {

@@ -1,12 +1,11 @@
 //! What a feed says of journeys.
-use super::folder::table;
 use gw_base::{Entity, Event, Feed, FeedHead, List, StopUpdate, Text, TripDescriptor, TripUpdate};
 use journey_model::{Context, DatedReading, JourneyReading, StopReading};
 use propagation::{FeedReading, ReadingFold, readings_of};
 use std::alloc::{AllocError, Global};
 use std::process::Abort;
 use std::test::Fail;
-use test_folder::{paris, window};
+use test_folder::{paris, sample, window};
 
 // An entity of a case: whether it is to be deleted, the trip of its update (none where it is empty), its start_date and
 // its relation, the delay at the first stop, and its timestamp (none where it is 0).
@@ -236,7 +235,7 @@ fn feeds_are_read(rt: HostRuntime) -> Result<(), Fail> {
     let alloc = rt.alloc();
     let zone = paris().expect(&rt, "a zone");
     let context = Context {
-        table: &table(&rt, alloc),
+        table: &sample(alloc).expect(&rt, "a timetable"),
         zone: &zone,
         window: &window(&zone, 3).expect(&rt, "a window"),
     };

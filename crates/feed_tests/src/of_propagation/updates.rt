@@ -1,5 +1,4 @@
 //! What updates say of the stops of a trip.
-use super::folder::table;
 use gw_base::{Event, List, StopUpdate, Text, TripDescriptor, TripUpdate};
 use journey_model::{Context, DatedTrip, JourneyReading, StopReading};
 use propagation::propagate;
@@ -8,7 +7,7 @@ use std::alloc::{AllocError, Global};
 use std::process::Abort;
 use std::test::Fail;
 use stop_schedule::StopRow;
-use test_folder::{paris, window};
+use test_folder::{paris, sample, window};
 
 // An update of a case: its sequence, or 0 for none; its stop; its relation; the delays of its arrival and its
 // departure, and the time of its arrival.
@@ -49,7 +48,7 @@ static CASES: [Case; 16] = [
         " 60/60 x 60/60",
     ),
     (
-        "M1",
+        "T20",
         0,
         &[
             (3, "", 0, None, Some(300), None),
@@ -241,7 +240,7 @@ fn delays_are_propagated(rt: HostRuntime) -> Result<(), Fail> {
     let alloc = rt.alloc();
     let zone = paris().expect(&rt, "a zone");
     let context = Context {
-        table: &table(&rt, alloc),
+        table: &sample(alloc).expect(&rt, "a timetable"),
         zone: &zone,
         window: &window(&zone, 3).expect(&rt, "a window"),
     };

@@ -1,5 +1,4 @@
 //! What becomes of the alerts of a feed.
-use super::folder::table;
 use gw_base::{
     Alert, Boxed, Bytes, Entity, Feed, List, Moment, Period, Selector, Text, Translation,
     TripDescriptor,
@@ -8,7 +7,7 @@ use journey_model::{Context, Report};
 use reverse_alerts::{SxFault, sx_of};
 use std::alloc::{AllocError, Global};
 use std::process::Abort;
-use test_folder::{paris, window};
+use test_folder::{paris, sample, window};
 
 // A text of a message, which may be missing.
 type Optional = Option<&'static str>;
@@ -436,7 +435,7 @@ fn alerts_become_situations(rt: HostRuntime) {
     let alloc = rt.alloc();
     let zone = paris().expect(&rt, "a zone");
     let context = Context {
-        table: &table(&rt, alloc),
+        table: &sample(alloc).expect(&rt, "a timetable"),
         zone: &zone,
         window: &window(&zone, 1).expect(&rt, "a window"),
     };
@@ -457,7 +456,7 @@ fn a_differential_feed_is_refused(rt: HostRuntime) {
     let alloc = rt.alloc();
     let zone = paris().expect(&rt, "a zone");
     let context = Context {
-        table: &table(&rt, alloc),
+        table: &sample(alloc).expect(&rt, "a timetable"),
         zone: &zone,
         window: &window(&zone, 1).expect(&rt, "a window"),
     };
@@ -520,7 +519,7 @@ fn a_long_text_is_told_whole(rt: HostRuntime) {
     let alloc = rt.alloc();
     let zone = paris().expect(&rt, "a zone");
     let context = Context {
-        table: &table(&rt, alloc),
+        table: &sample(alloc).expect(&rt, "a timetable"),
         zone: &zone,
         window: &window(&zone, 1).expect(&rt, "a window"),
     };

@@ -132,19 +132,19 @@ fn a_fault_of_the_files_ends_a_run_with_its_text(rt: HostRuntime) {
 static SAME: [(&str, &[u8]); 4] = [
     (
         "carriage returns and no line end",
-        b"route_id,service_id,trip_id\r\nR1,D,L1\r\nR1,D,T1",
+        b"route_id,service_id,trip_id\r\nR2,D,T20\r\nR1,N,T2\r\nR1,D,L1\r\nR1,D,T1",
     ),
     (
         "a byte order mark",
-        b"\xef\xbb\xbfroute_id,service_id,trip_id\nR1,D,T1\nR1,D,L1\n",
+        b"\xef\xbb\xbfroute_id,service_id,trip_id\nR1,D,T1\nR1,D,L1\nR1,N,T2\nR2,D,T20\n",
     ),
     (
         "quotes and blanks",
-        b"\"route_id\", service_id,\ttrip_id\nR1,D,\" T1 \"\nR1,D,L1\n",
+        b"\"route_id\", service_id,\ttrip_id\nR1,D,\" T1 \"\nR1,D,L1\nR1,N,T2\nR2,D,T20\n",
     ),
     (
         "another order, a further column and a long row",
-        b"trip_id,x,service_id,route_id\nT1,\"1,\n2\",D,R1,3\nL1,,D,R1\n",
+        b"trip_id,x,service_id,route_id\nT1,\"1,\n2\",D,R1,3\nL1,,D,R1\nT2,,N,R1\nT20,,D,R2\n",
     ),
 ];
 

@@ -3,6 +3,7 @@ use gateway_top::gateway;
 use gw_base::{Bytes, List, MemoryClock, MemoryDoor, MemoryFiles, MemorySink, Moment, Text};
 use std::alloc::{AllocError, Global};
 use std::process::Abort;
+use test_folder::sample_files;
 
 /// Words that are accepted, each after one space: the folder `g`, the delivery `f`, and a window of the
 /// first two days of May 2024.
@@ -10,40 +11,7 @@ pub const WORDS: &str =
     "to-gtfsrt --gtfs g --zone-rule CET-1CEST,M3.5.0,M10.5.0/3 --from 2024-05-01 --days 2 --at 2024-05-01T06:00:00Z \
       --et f";
 
-/// The files of a run, unless it has others: the sample folder `g`, with a journey of T1 in the delivery `f`.
-pub static SAMPLE: [(&str, &[u8]); 8] = [
-    ("g/agency.txt", b"agency_timezone\nEurope/Paris\n"),
-    ("g/stops.txt", b"stop_id\nA\nB\nC\n"),
-    ("g/routes.txt", b"route_id,route_type\nR1,3\nR2,3\n"),
-    (
-        "g/trips.txt",
-        b"route_id,service_id,trip_id\nR1,D,T1\nR1,D,L1\nR1,D,T2\nR1,N,N1\n",
-    ),
-    (
-        "g/calendar.txt",
-        b"service_id,monday,tuesday,wednesday,thursday,friday,saturday,sunday,start_date,end_date\n\
-          D,1,1,1,1,1,1,1,20240301,20240630\n",
-    ),
-    (
-        "g/calendar_dates.txt",
-        b"service_id,date,exception_type\nN,20240502,1\n",
-    ),
-    (
-        "g/stop_times.txt",
-        b"trip_id,arrival_time,departure_time,stop_id,stop_sequence\nT1,08:00:00,08:00:00,A,10\n\
-          T1,08:10:00,08:11:00,B,20\nT1,08:20:00,08:20:00,C,30\nL1,09:00:00,09:00:00,A,1\nL1,09:10:00,09:10:00,B,2\n\
-          L1,09:20:00,09:20:00,A,3\n",
-    ),
-    (
-        "f",
-        b"{\"ServiceDelivery\":{\"EstimatedTimetableDelivery\":[{\"EstimatedJourneyVersionFrame\":[{\
-          \"EstimatedVehicleJourney\":[{\"RecordedAtTime\":\"2024-05-01T06:00:00Z\",\
-          \"FramedVehicleJourneyRef\":{\"DataFrameRef\":\"2024-05-01\",\"DatedVehicleJourneyRef\":\"T1\"},\
-          \"Cancellation\":true}]}]}]}}",
-    ),
-];
-
-/// The delivery of that run: a cancelled journey of the trip T1 on the first day of the window.
+/// The delivery `f` of a run, unless it has another: a cancelled journey of the trip T1 on the first day of the window.
 pub const CANCELLED: &str = concat!(
     r#"{"ServiceDelivery":{"EstimatedTimetableDelivery":[{"EstimatedJourneyVersionFrame":[{"#,
     r#""EstimatedVehicleJourney":["#,
@@ -147,18 +115,18 @@ fn add_file(
     Ok(())
 }
 
-// Adds the files of a sample, with these in their place. A loop over the table itself would have its text in each goal.
+// Adds the files of the sample folder `g` and the delivery `f`, with these in their place.
 fn add_sample(
     alloc: Global,
     files: &mut List<(Text, Bytes)>,
-    sample: &[(&str, &[u8])],
     others: &[Other],
 ) -> Result<(), AllocError> {
-    for (name, bytes) in sample {
+    for (name, bytes) in sample_files() {
         let bytes = other_of(others, name).unwrap_or(Some(bytes));
         add_file(alloc, files, name, bytes)?;
     }
-    Ok(())
+    let delivery = other_of(others, "f").unwrap_or(Some(CANCELLED.as_bytes()));
+    add_file(alloc, files, "f", delivery)
 }
 
 /// The sample's files with these in their place, of which these reads fail.
@@ -168,7 +136,7 @@ pub fn files_with(
     fails: &[u64],
 ) -> Result<MemoryFiles, AllocError> {
     let mut files = List::new(alloc);
-    add_sample(alloc, &mut files, &SAMPLE, others)?;
+    add_sample(alloc, &mut files, others)?;
     for (name, bytes) in others {
         add_file(alloc, &mut files, name, *bytes)?;
     }

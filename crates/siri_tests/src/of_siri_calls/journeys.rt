@@ -138,7 +138,7 @@ static JOURNEYS: [(&str, &str); 20] = [
     ),
     (
         r#""DataFrameRef":"2024-05-02","DatedVehicleJourneyRef":"N1"},"EstimatedCalls":{"EstimatedCall":[]}"#,
-        "|2 19845 1714543200.0 passed 0",
+        "|3 19845 1714543200.0 passed 0",
     ),
     (
         r#""DataFrameRef":"2024-05-02","DatedVehicleJourneyRef":"T1"},"Cancellation":true"#,

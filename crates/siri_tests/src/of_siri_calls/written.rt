@@ -15,7 +15,7 @@ use std::process::Abort;
 use stop_schedule::Timetable;
 use test_folder::{paris, read_folder, window};
 
-// T1 over A, B and C; and a trip whose ids, of its route and of a stop too, want escapes.
+// It differs from the sample folder in a trip whose ids, of its route and of a stop too, want escapes.
 static FOLDER: [(&str, &[u8]); 6] = [
     ("g/agency.txt", b"agency_timezone\nEurope/Paris\n"),
     (
