@@ -1,5 +1,5 @@
 -- What becomes of the items of a delivery of journeys, one after the other, and what is to be put of them.
-use Rattle.std.specs.Prelude.{◌≡◌, ℕ, Bool, true, false, List, [], ◌∷◌, map, Option, Some, None, Result, Ok, Err, ⊤, if◌then◌else◌}
+use Rattle.std.specs.Prelude.{◌≡◌, ℕ, Bool, true, false, List, map, Option, Some, None, Result, Ok, Err, ⊤, if◌then◌else◌}
 use Rattle.std.specs.Result.{result_err}
 use Rattle.std.specs.declared.cmp.Ordering.{Ordering}
 use Rattle.journey_model.specs.Records.{Recorded, recorded}

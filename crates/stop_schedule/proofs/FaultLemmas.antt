@@ -1,10 +1,9 @@
 -- Faults of rows, and places of columns.
-use Rattle.std.proofs.Common.{◌≡◌, ◌∙◌, ◌<◌, ◌≤◌, ◌+◌, ℕ, Bool, true, false, List, [], ◌∷◌, ◌++◌, length, Option, Some, None, Result, Ok, Err, refl, ap, sym, arith, append_assoc, drop, get_or, add-one, drop-cons}
+use Rattle.std.proofs.Common.{◌≡◌, ◌∙◌, ◌<◌, ◌+◌, ℕ, Bool, true, false, List, [], ◌∷◌, ◌++◌, length, Option, Some, None, Result, Ok, Err, refl, ap, sym, arith, append_assoc, drop, get_or, add-one, drop-cons}
 use Rattle.std.specs.Str.{is_utf8}
 use Rattle.std.specs.Option.{option_or}
 use Rattle.std.specs.Bool.{MatchBool}
 use Rattle.std.specs.Prelude.{⊤}
-use Rattle.std.proofs.lemmas.Bool.Decides.{nat_tests}
 use Rattle.gw_base.specs.Chains.{ok_map}
 use Rattle.stop_schedule.specs.Faults.{all_text, first_fault}
 use Rattle.stop_schedule.specs.Layout.{columns}
