@@ -4,7 +4,7 @@ ghost use Rattle.std.specs.Prelude.{None};
 mod doors;
 
 use gw_base::*;
-use std::alloc::Global;
+use std::alloc::{AllocError, Global};
 use std::process::Abort;
 use std::test::Fail;
 
@@ -17,27 +17,35 @@ fn numbers(rt: &impl Abort, alloc: Global, values: &[u64]) -> List<u64> {
     list
 }
 
-#[test]
-fn moments_end_with_the_year_9998(rt: HostRuntime) {
-    for (secs, is_moment) in [
-        (-1, false),
-        (0, true),
-        (1_714_543_200, true),
-        (253_370_764_799, true),
-        (253_370_764_800, false),
-        (i64::MIN, false),
-        (i64::MAX, false),
-    ] {
-        let moment = Moment::new(secs);
-        assert_eq!(rt; moment.is_some(), is_moment, "at {secs}");
+// Seconds, and whether they are a moment.
+static SECONDS: [(i64, bool); 7] = [
+    (-1, false),
+    (0, true),
+    (1_714_543_200, true),
+    (253_370_764_799, true),
+    (253_370_764_800, false),
+    (i64::MIN, false),
+    (i64::MAX, false),
+];
+
+// Each is a moment or isn't.
+fn each_moment(rt: &impl Abort, seconds: &[(i64, bool)]) {
+    for (secs, is_moment) in seconds {
+        let moment = Moment::new(*secs);
+        assert_eq!(rt; moment.is_some(), *is_moment, "at {secs}");
         if let Some(moment) = moment {
-            assert_eq!(rt; moment.secs(), secs);
+            assert_eq!(rt; moment.secs(), *secs);
         }
     }
 }
 
 #[test]
-fn lists_and_texts_hold_what_they_are_given(rt: HostRuntime) -> Result<(), Fail> {
+fn moments_end_with_the_year_9998(rt: HostRuntime) {
+    each_moment(&rt, &SECONDS);
+}
+
+#[test]
+fn lists_hold_what_they_are_given(rt: HostRuntime) -> Result<(), Fail> {
     let mut list = List::new(rt.alloc());
     assert!(rt; list.is_empty());
     list.push(7u32)?;
@@ -48,7 +56,11 @@ fn lists_and_texts_hold_what_they_are_given(rt: HostRuntime) -> Result<(), Fail>
         List::from_vec(list.into_vec()).as_slice(),
         [7, 9].as_slice()
     );
+    Ok(())
+}
 
+#[test]
+fn bytes_and_texts_hold_what_they_are_given(rt: HostRuntime) -> Result<(), Fail> {
     let mut bytes = Bytes::copied(rt.alloc(), b"ab")?;
     bytes.extend(b"cd")?;
     assert_eq!(rt; bytes.as_slice(), b"abcd".as_slice());
@@ -72,35 +84,69 @@ fn a_buffer_takes_its_room_and_no_more(rt: HostRuntime) -> Result<(), Fail> {
     Ok(())
 }
 
-#[test]
-fn files_in_memory_are_read_by_name(rt: HostRuntime) -> Result<(), Fail> {
-    let alloc = rt.alloc();
+// Files of these names and bytes.
+fn files_of(alloc: Global, given: &[(&str, &[u8])]) -> Result<List<(Text, Bytes)>, AllocError> {
     let mut files = List::new(alloc);
-    files.push((Text::copied(alloc, "a")?, Bytes::copied(alloc, b"first")?))?;
-    files.push((Text::copied(alloc, "a")?, Bytes::copied(alloc, b"second")?))?;
-    files.push((Text::copied(alloc, "b")?, Bytes::copied(alloc, b"")?))?;
-    let mut files = MemoryFiles::make(files, numbers(&rt, alloc, &[3]));
-    let mut into = Bytes::copied(alloc, b">")?;
-    assert_eq!(rt; files.read_file("a", 5, &mut into), Ok(Got::Whole));
-    assert_eq!(rt; files.read_file("a", 4, &mut into), Ok(Got::TooLong));
-    assert_eq!(rt; files.read_file("a", 5, &mut into), Err(FileFault::Failed));
-    assert_eq!(rt; files.read_file("c", 5, &mut into), Ok(Got::Missing));
-    assert_eq!(rt; files.read_file("b", 0, &mut into), Ok(Got::Whole));
-    assert_eq!(rt; into.as_slice(), b">first".as_slice());
-    Ok(())
+    for (name, bytes) in given {
+        files.push((Text::copied(alloc, name)?, Bytes::copied(alloc, bytes)?))?;
+    }
+    Ok(files)
+}
+
+// A name, the bytes that its file may have, and what reading it answers.
+type Reading = (&'static str, u64, Result<Got, FileFault>);
+
+static READINGS: [Reading; 5] = [
+    ("a", 5, Ok(Got::Whole)),
+    ("a", 4, Ok(Got::TooLong)),
+    ("a", 5, Err(FileFault::Failed)),
+    ("c", 5, Ok(Got::Missing)),
+    ("b", 0, Ok(Got::Whole)),
+];
+
+// Each reading answers so. Over any files, so that what those in memory do isn't in the goals.
+fn each_reading<F: Files>(rt: &impl Abort, files: &mut F, into: &mut Bytes, readings: &[Reading]) {
+    for (name, limit, wanted) in readings {
+        assert_eq!(rt;
+            files.read_file(name, *limit, into),
+            *wanted,
+            "{name} {limit}"
+        );
+    }
 }
 
 #[test]
-fn a_sink_in_memory_fails_where_it_is_told_to(rt: HostRuntime) -> Result<(), Fail> {
+fn files_in_memory_are_read_by_name(rt: HostRuntime) {
     let alloc = rt.alloc();
-    let mut sink = MemorySink::make(alloc, 6, numbers(&rt, alloc, &[2]))?;
-    assert_eq!(rt; put_all(&mut sink, b"abc"), Ok(()));
-    assert_eq!(rt; put_all(&mut sink, b"d"), Err(Failed));
-    assert_eq!(rt; put_all(&mut sink, b"defg"), Err(Failed));
-    assert_eq!(rt; put_all(&mut sink, b""), Ok(()));
-    assert_eq!(rt; put_all(&mut sink, b"def"), Ok(()));
+    let files = files_of(alloc, &[("a", b"first"), ("a", b"second"), ("b", b"")]);
+    let mut files = MemoryFiles::make(files.expect(&rt, "memory"), numbers(&rt, alloc, &[3]));
+    let mut into = Bytes::copied(alloc, b">").expect(&rt, "memory");
+    each_reading(&rt, &mut files, &mut into, &READINGS);
+    assert_eq!(rt; into.as_slice(), b">first".as_slice());
+}
+
+// Pieces, and what putting each answers.
+static PUTS: [(&[u8], Result<(), Failed>); 5] = [
+    (b"abc", Ok(())),
+    (b"d", Err(Failed)),
+    (b"defg", Err(Failed)),
+    (b"", Ok(())),
+    (b"def", Ok(())),
+];
+
+// Each piece is put so. Over any sink, so that what one in memory does isn't in the goals.
+fn each_put<S: Sink>(rt: &impl Abort, sink: &mut S, puts: &[(&[u8], Result<(), Failed>)]) {
+    for (piece, wanted) in puts {
+        assert_eq!(rt; put_all(sink, piece), *wanted);
+    }
+}
+
+#[test]
+fn a_sink_in_memory_fails_where_it_is_told_to(rt: HostRuntime) {
+    let made = MemorySink::make(rt.alloc(), 6, numbers(&rt, rt.alloc(), &[2]));
+    let mut sink = made.expect(&rt, "memory");
+    each_put(&rt, &mut sink, &PUTS);
     assert_eq!(rt; sink.written(), b"abcdef".as_slice());
-    Ok(())
 }
 
 // A sink that takes at most two bytes a piece.

@@ -14,13 +14,11 @@ use test_folder::{paris, sample, window};
 
 // Adds an end of a period.
 fn push_end(alloc: Global, text: &mut String, end: Option<u64>) -> Result<(), AllocError> {
-    match end {
-        Some(end) => {
-            let end = format!(in alloc; "{end}")?;
-            text.push_str(end.as_str())
-        }
-        None => Ok(()),
-    }
+    let Some(end) = end else {
+        return Ok(());
+    };
+    let digits = format!(in alloc; "{end}")?;
+    text.push_str(digits.as_str())
 }
 
 // Adds a period.

@@ -91,7 +91,31 @@ fn is_entry(entry: &Entry, input: &[u8], mark: Mark, has_moment: bool, output: &
         && entry.output.as_slice() == output
 }
 
-// Two connections, of which the second sends nothing and is refused, over reads and writes of so many bytes.
+// Two connections come, of which the second sends nothing and is refused, and no third one. Over any door, so that
+// what a door in memory does isn't in the goals.
+fn visit_two<D: Door>(rt: &impl Abort, door: &mut D, read: &mut Bytes)
+    requires { (D.beside door.old).present ≡ false }
+{
+    let first = serve(door, read, b"answer", Mark::Taken, Moment::new(7));
+    assert_eq!(rt; first, Some(ALL));
+    let second = serve(door, read, b"", Mark::Refused(404), None);
+    assert_eq!(rt; second, Some(ALL));
+    let third = serve(door, read, b"a", Mark::Lost, None);
+    assert_eq!(rt; third, None);
+}
+
+// The log has both connections.
+fn assert_two(rt: &impl Abort, log: &[Entry]) {
+    match log {
+        [first, second] => {
+            assert!(rt; is_entry(first, b"hello", Mark::Taken, true, b"answer"));
+            assert!(rt; is_entry(second, b"", Mark::Refused(404), false, b""));
+        }
+        _ => assert!(rt; false),
+    }
+}
+
+// Both connections over reads and writes of so many bytes.
 fn try_two(rt: &impl Abort, alloc: Global, most: u64)
     requires { 1 ≤ most }
 {
@@ -99,20 +123,9 @@ fn try_two(rt: &impl Abort, alloc: Global, most: u64)
     let made = MemoryDoor::make(alloc, coming, 6, most, List::new(alloc));
     let mut door = made.expect(rt, "memory");
     let mut read = Bytes::new(alloc);
-    let first = serve(&mut door, &mut read, b"answer", Mark::Taken, Moment::new(7));
-    assert_eq!(rt; first, Some(ALL));
+    visit_two(rt, &mut door, &mut read);
     assert_eq!(rt; read.as_slice(), b"hello".as_slice());
-    let second = serve(&mut door, &mut read, b"", Mark::Refused(404), None);
-    assert_eq!(rt; second, Some(ALL));
-    let third = serve(&mut door, &mut read, b"a", Mark::Lost, None);
-    assert_eq!(rt; third, None);
-    match door.log() {
-        [first, second] => {
-            assert!(rt; is_entry(first, b"hello", Mark::Taken, true, b"answer"));
-            assert!(rt; is_entry(second, b"", Mark::Refused(404), false, b""));
-        }
-        _ => assert!(rt; false),
-    }
+    assert_two(rt, door.log());
 }
 
 #[test]
@@ -205,6 +218,13 @@ fn next_secs<C: Clock>(clock: &mut C) -> Option<i64> {
     }
 }
 
+// The clock gives these seconds, or fails.
+fn each_now<C: Clock>(rt: &impl Abort, clock: &mut C, wanted: &[Option<i64>]) {
+    for secs in wanted {
+        assert_eq!(rt; next_secs(clock), *secs);
+    }
+}
+
 // Moments of these seconds.
 fn moments(rt: &impl Abort, alloc: Global, first: i64, second: i64) -> List<Moment> {
     let mut list = List::new(alloc);
@@ -220,9 +240,6 @@ fn a_clock_gives_its_moments_and_ends(rt: HostRuntime) {
     let alloc = rt.alloc();
     let given = moments(&rt, alloc, 0, 1_714_543_200);
     let mut clock = MemoryClock::make(given, numbers(&rt, alloc, &[2]));
-    assert_eq!(rt; next_secs(&mut clock), Some(0));
-    assert_eq!(rt; next_secs(&mut clock), None);
-    assert_eq!(rt; next_secs(&mut clock), Some(1_714_543_200));
-    assert_eq!(rt; next_secs(&mut clock), None);
-    assert_eq!(rt; next_secs(&mut clock), None);
+    let wanted = [Some(0), None, Some(1_714_543_200), None, None];
+    each_now(&rt, &mut clock, &wanted);
 }

@@ -15,12 +15,15 @@ fn rows(alloc: Global, front: &str) -> Result<Bytes, AllocError> {
 }
 
 // How many trips there are, and the number of the last stop.
-fn last_of(read: Result<Timetable, TableFault>) -> Option<(u32, u32)> {
+fn last_of(table: &Timetable) -> Option<(u32, u32)> {
+    let stop = table.find_stop("69999")?;
+    Some((table.trips(), stop.0))
+}
+
+// The same of what was read.
+fn last_in(read: Result<Timetable, TableFault>) -> Option<(u32, u32)> {
     match read {
-        Ok(table) => match table.find_stop("69999") {
-            Some(stop) => Some((table.trips(), stop.0)),
-            None => None,
-        },
+        Ok(table) => last_of(&table),
         Err(_) => None,
     }
 }
@@ -41,5 +44,5 @@ fn more_ids_than_two_bytes_number_are_read(rt: HostRuntime) {
     let stops = rows(alloc, "").expect(&rt, "memory");
     let trips = rows(alloc, "R1,D,").expect(&rt, "memory");
     let read = read_many(alloc, &OTHERS, stops.as_slice(), trips.as_slice());
-    assert_eq!(rt; last_of(read.expect(&rt, "memory")), Some((70_000, 69_999)));
+    assert_eq!(rt; last_in(read.expect(&rt, "memory")), Some((70_000, 69_999)));
 }

@@ -62,12 +62,16 @@ fn route(table: &Timetable, id: &str) -> Option<(u32, bool)> {
     Some((route.0, table.route_id(route) == id))
 }
 
+// Stops, routes and a trip are found by their ids.
+fn assert_found(rt: &impl Abort, table: &Timetable) {
+    assert_eq!(rt; stop(table, "B"), Some((1, true)));
+    assert_eq!(rt; stop(table, "b"), None);
+    assert_eq!(rt; route(table, "R2"), Some((1, true)));
+    assert_eq!(rt; route(table, "R"), None);
+    assert!(rt; table.find_trip("T2") == Some(TripNo(1)));
+}
+
 #[test]
 fn stops_and_routes_are_found_by_their_ids(rt: HostRuntime) {
-    let table = table(&rt, rt.alloc());
-    assert_eq!(rt; stop(&table, "B"), Some((1, true)));
-    assert_eq!(rt; stop(&table, "b"), None);
-    assert_eq!(rt; route(&table, "R2"), Some((1, true)));
-    assert_eq!(rt; route(&table, "R"), None);
-    assert_eq!(rt; table.find_trip("T2"), Some(TripNo(1)));
+    assert_found(&rt, &table(&rt, rt.alloc()));
 }
