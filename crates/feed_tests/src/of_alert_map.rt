@@ -6,7 +6,6 @@ use alert_map::{alert_entity, entity_body_len};
 use gw_base::{Bytes, List, Text};
 use journey_model::{Ref, Situation, ValidPeriod};
 use std::alloc::{AllocError, Global};
-use std::test::Fail;
 use stop_schedule::{RouteNo, Timetable};
 use test_folder::sample;
 
@@ -62,12 +61,18 @@ fn entity_of(alloc: Global, table: &Timetable, route: RouteNo) -> Result<Bytes, 
     alert_entity(alloc, table, &situation)
 }
 
+// The entity of the situation that refers to the route of that id, and how long its body is.
+fn written(alloc: Global, table: &Timetable, id: &str) -> Option<(Bytes, u64)> {
+    let route = table.find_route(id)?;
+    let bytes = entity_of(alloc, table, route).ok()?;
+    let len = entity_body_len(bytes.as_slice());
+    Some((bytes, len))
+}
+
 #[test]
-fn a_situation_is_written_as_its_entity(rt: HostRuntime) -> Result<(), Fail> {
+fn a_situation_is_written_as_its_entity(rt: HostRuntime) {
     let table = sample(rt.alloc()).expect(&rt, "a timetable");
-    let route = table.find_route("R1").expect(&rt, "a route");
-    let bytes = entity_of(rt.alloc(), &table, route)?;
+    let (bytes, len) = written(rt.alloc(), &table, "R1").expect(&rt, "an entity");
     assert_eq!(rt; bytes.as_slice(), ENTITY);
-    assert_eq!(rt; entity_body_len(bytes.as_slice()), 40);
-    Ok(())
+    assert_eq!(rt; len, 40);
 }

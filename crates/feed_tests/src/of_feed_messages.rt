@@ -4,7 +4,9 @@ mod reading;
 mod writing;
 
 use feed_messages::*;
-use gw_base::{Alert, Entity, Event, Moment, Period, Text, TripUpdate};
+use gw_base::{
+    Alert, Entity, Event, Moment, Period, Text, Translation, TripDescriptor, TripUpdate,
+};
 use std::alloc::Global;
 use std::process::Abort;
 use std::test::Fail;
@@ -47,13 +49,18 @@ fn is_cancelled(rt: &impl Abort, entity: &Entity) {
     assert!(rt; entity.alert.is_none());
     assert!(rt; entity.trip_update.is_some());
     if let Some(update) = &entity.trip_update {
-        assert_eq!(rt; text_of(&update.trip.trip_id), Some("T1"));
-        assert_eq!(rt; text_of(&update.trip.start_date), Some("20240501"));
-        assert_eq!(rt; text_of(&update.trip.route_id), None);
-        assert_eq!(rt; update.trip.relation, 3);
+        is_cancelled_trip(rt, &update.trip);
         assert!(rt; update.updates.is_empty());
         assert_eq!(rt; update.timestamp, Some(1_714_543_200));
     }
+}
+
+/// The trip of the example.
+fn is_cancelled_trip(rt: &impl Abort, trip: &TripDescriptor) {
+    assert_eq!(rt; text_of(&trip.trip_id), Some("T1"));
+    assert_eq!(rt; text_of(&trip.start_date), Some("20240501"));
+    assert_eq!(rt; text_of(&trip.route_id), None);
+    assert_eq!(rt; trip.relation, 3);
 }
 
 /// A text that may be missing.
@@ -186,8 +193,13 @@ fn is_late(rt: &impl Abort, entity: &Entity, alert: &Alert) {
     assert_eq!(rt; alert.periods.as_slice(), [period].as_slice());
     assert!(rt; alert.selectors.is_empty());
     assert!(rt; alert.description.is_empty());
-    assert_eq!(rt; alert.header.len(), 1);
-    for text in alert.header.as_slice() {
+    is_late_text(rt, alert.header.as_slice());
+}
+
+/// The one text of that alert.
+fn is_late_text(rt: &impl Abort, header: &[Translation]) {
+    assert_eq!(rt; header.len(), 1);
+    for text in header {
         assert_eq!(rt; text.text.as_str(), "late");
         assert_eq!(rt; text_of(&text.language), None);
     }

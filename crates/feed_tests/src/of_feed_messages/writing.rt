@@ -1,7 +1,7 @@
 //! Entities as they are written.
 use feed_messages::{entity_bytes, header_bytes, plain_feed, read_feed};
 use gw_base::{
-    Alert, Boxed, Bytes, Entity, Event, List, Moment, Period, Selector, StopUpdate, Text,
+    Alert, Boxed, Bytes, Entity, Event, Feed, List, Moment, Period, Selector, StopUpdate, Text,
     Translation, TripDescriptor, TripUpdate,
 };
 use std::alloc::{AllocError, Global};
@@ -182,20 +182,18 @@ fn is_given_back(rt: &impl Abort, alloc: Global, moment: Moment, entity: &[u8]) 
     assert!(rt; bytes.extend(header_bytes(moment).as_slice()).is_ok());
     assert!(rt; bytes.extend(entity).is_ok());
     let read = read_feed(alloc, bytes.as_slice()).ok();
+    is_of_entity(rt, alloc, moment, &read.expect(rt, "a feed"), entity);
     let plain = plain_feed(alloc, bytes.as_slice()).ok();
-    for feed in [read, plain] {
-        assert!(rt; feed.is_some(), "{entity:?}");
-        if let Some(feed) = feed {
-            assert_eq!(rt; feed.version.as_str(), "2.0");
-            assert_eq!(rt; feed.timestamp, Some(moment.secs() as u64));
-            assert_eq!(rt; feed.entities.len(), 1);
-            let again = first_written(alloc, feed.entities.as_slice());
-            assert!(rt; again.is_some());
-            if let Some(again) = again {
-                assert_eq!(rt; again.as_slice(), entity);
-            }
-        }
-    }
+    is_of_entity(rt, alloc, moment, &plain.expect(rt, "a feed"), entity);
+}
+
+/// The feed is of that moment, and has this entity.
+fn is_of_entity(rt: &impl Abort, alloc: Global, moment: Moment, feed: &Feed, entity: &[u8]) {
+    assert_eq!(rt; feed.version.as_str(), "2.0");
+    assert_eq!(rt; feed.timestamp, Some(moment.secs() as u64));
+    assert_eq!(rt; feed.entities.len(), 1);
+    let again = first_written(alloc, feed.entities.as_slice()).expect(rt, "an entity");
+    assert_eq!(rt; again.as_slice(), entity);
 }
 
 /// An alert for the trip T1.
