@@ -4,7 +4,6 @@ use journey_model::{Context, JourneyReading, JourneyRecord};
 use latest_store::{prepare_record, record_entity, wins};
 use service_day::{DayForm, Instant, read_day};
 use std::alloc::Global;
-use std::process::Abort;
 use test_folder::{paris, sample, window};
 
 #[test]
@@ -44,13 +43,6 @@ fn cancelled(alloc: Global, context: &Context<'_>, trip: &str, day: &str) -> Opt
     Some(made.entity)
 }
 
-// T1 has that entity, and T2, which doesn't run on the day, has none.
-fn assert_entity(rt: &impl Abort, alloc: Global, context: &Context<'_>) {
-    let bytes = cancelled(alloc, context, "T1", "20240501").expect(rt, "an entity");
-    assert_eq!(rt; bytes.as_slice(), CANCELLED);
-    assert!(rt; cancelled(alloc, context, "T2", "20240501").is_none());
-}
-
 #[test]
 fn a_record_has_its_entity(rt: HostRuntime) {
     let table = sample(rt.alloc()).expect(&rt, "a timetable");
@@ -61,5 +53,7 @@ fn a_record_has_its_entity(rt: HostRuntime) {
         zone: &zone,
         window: &window,
     };
-    assert_entity(&rt, rt.alloc(), &context);
+    let bytes = cancelled(rt.alloc(), &context, "T1", "20240501").expect(&rt, "an entity");
+    assert_eq!(rt; bytes.as_slice(), CANCELLED);
+    assert!(rt; cancelled(rt.alloc(), &context, "T2", "20240501").is_none());
 }

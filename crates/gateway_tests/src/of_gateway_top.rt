@@ -25,22 +25,26 @@ mod words;
 
 use gateway_top::{DirFiles, StdSink};
 use gw_base::{Bytes, Failed, FileFault, Files, Got, Sink};
+use std::alloc::Global;
 use std::fs::{self, File};
+use std::process::Abort;
 use std::test::Fail;
 use std::{io, process};
+
+// A file of five bytes is too long for a limit of four, and read behind what is there for one of five.
+fn is_read<F: Files>(rt: &impl Abort, alloc: Global, files: &mut F, path: &str) {
+    let mut into = Bytes::copied(alloc, b"-").expect(rt, "memory");
+    assert_eq!(rt; files.read_file(path, 4, &mut into), Ok(Got::TooLong));
+    assert_eq!(rt; files.read_file(path, 5, &mut into), Ok(Got::Whole));
+    assert_eq!(rt; into.as_slice(), b"-abcde".as_slice());
+}
 
 #[test]
 fn a_file_is_read_as_it_was_written(rt: HostRuntime) -> Result<(), Fail> {
     let path = format!(in rt.alloc(); "/tmp/gateway-test-{}", process::id(rt.process()))?;
     fs::write(&rt, path.as_str(), b"abcde")?;
-    let mut files = DirFiles::new(&rt);
-    let mut into = Bytes::copied(rt.alloc(), b"-")?;
-    let longer = files.read_file(path.as_str(), 4, &mut into);
-    let whole = files.read_file(path.as_str(), 5, &mut into);
+    is_read(&rt, rt.alloc(), &mut DirFiles::new(&rt), path.as_str());
     fs::remove_file(&rt, path.as_str())?;
-    assert_eq!(rt; longer, Ok(Got::TooLong));
-    assert_eq!(rt; whole, Ok(Got::Whole));
-    assert_eq!(rt; into.as_slice(), b"-abcde".as_slice());
     Ok(())
 }
 

@@ -1,5 +1,5 @@
 //! Requests read off a door in memory, in pieces of one byte and of many.
-ghost use Rattle.std.specs.Prelude.{◌≤◌};
+ghost use Rattle.std.specs.Prelude.{◌≡◌, ◌≤◌, false};
 
 use door_talk::*;
 use gw_base::{Bytes, Door, List, MemoryDoor, Moment};
@@ -43,6 +43,19 @@ static INPUTS: [(&[u8], Asked, &[u8]); 8] = [
     (b"GET /gtfs-rt HTT", Asked::Refused(Refusal::Head), b""),
 ];
 
+// What the next connection asks for. Over any door, so that what a door in memory does isn't in the goals.
+fn asks_at<D: Door>(rt: &impl Abort, alloc: Global, door: &mut D, body: &mut Bytes) -> Option<Asked>
+    requires { (D.beside door.old).present ≡ false }
+{
+    let mut reader = HeadReader::make(alloc).expect(rt, "memory");
+    let moment = Moment::new(0).expect(rt, "a moment");
+    match door.next() {
+        Ok(true) => Some(read_request(alloc, &mut reader, &(), moment, body, door)),
+        Ok(false) => None,
+        Err(_) => None,
+    }
+}
+
 // What one connection asks for, over reads of so many bytes of which those with these numbers fail.
 fn asks(
     rt: &impl Abort,
@@ -58,14 +71,7 @@ fn asks(
     let added = inputs.push(Bytes::copied(alloc, input).expect(rt, "memory"));
     assert!(rt; added.is_ok());
     let made = MemoryDoor::make(alloc, inputs, 0, most, fails);
-    let mut door = made.expect(rt, "memory");
-    let mut reader = HeadReader::make(alloc).expect(rt, "memory");
-    let moment = Moment::new(0).expect(rt, "a moment");
-    match door.next() {
-        Ok(true) => Some(read_request(alloc, &mut reader, &(), moment, body, &mut door)),
-        Ok(false) => None,
-        Err(_) => None,
-    }
+    asks_at(rt, alloc, &mut made.expect(rt, "memory"), body)
 }
 
 // Tries an input over reads of so many bytes.

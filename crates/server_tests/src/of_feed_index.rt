@@ -2,7 +2,7 @@
 ghost use Rattle.std.specs.Prelude.{◌==◌, ◌%◌};
 
 use feed_index::{Batch, Choice, FeedIndex};
-use gw_base::{List, MemorySink};
+use gw_base::{List, MemorySink, Sink};
 use std::alloc::AllocError;
 use std::process::Abort;
 use std::test::Fail;
@@ -40,8 +40,13 @@ impl Choice<u8> for Odd {
     }
 }
 
-fn write_odd(rt: &impl Abort, index: &FeedIndex<u32, u8>, sink: &mut MemorySink, text: &[u8]) {
+// Writes the odd values over any sink, so that what one in memory does isn't in the goals.
+fn put_odd<S: Sink>(rt: &impl Abort, index: &FeedIndex<u32, u8>, sink: &mut S) {
     assert!(rt; index.write(&Odd, sink).is_ok());
+}
+
+fn write_odd(rt: &impl Abort, index: &FeedIndex<u32, u8>, sink: &mut MemorySink, text: &[u8]) {
+    put_odd(rt, index, sink);
     assert_eq!(rt; sink.written(), text);
 }
 

@@ -405,14 +405,16 @@ fn answer(
 fn becomes(
     alloc: Global,
     context: &Context<'_>,
-    (rows, report, situations): &(&[Row], &str, &str),
+    rows: &[Row],
+    report: &str,
+    situations: &str,
 ) -> Result<bool, AllocError> {
     let feed = feed(alloc, 0, rows)?;
     match answer(alloc, context, &feed) {
         Some(Ok((text, found))) => {
             let wanted = delivery(alloc, situations)?;
             let shown = shown(alloc, &found)?;
-            Ok(text.as_slice() == wanted.as_bytes() && shown.as_str() == *report)
+            Ok(text.as_slice() == wanted.as_bytes() && shown.as_str() == report)
         }
         _ => Ok(false),
     }
@@ -425,8 +427,9 @@ fn assert_all(
     context: &Context<'_>,
     cases: &[(&[Row], &str, &str)],
 ) {
-    for (i, case) in cases.iter().enumerate() {
-        assert_eq!(rt; becomes(alloc, context, case), Ok(true), "feed {i}");
+    for (rows, report, situations) in cases {
+        let found = becomes(alloc, context, rows, report, situations);
+        assert_eq!(rt; found, Ok(true), "{situations}");
     }
 }
 
