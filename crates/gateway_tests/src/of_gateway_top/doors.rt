@@ -2,8 +2,7 @@
 //! its log.
 ghost use Rattle.std.specs.Prelude.{◌≡◌, ◌≤◌, false};
 
-use super::runs::{Other, clock_of, files_with, numbers, sink, words_of};
-use gateway_top::gateway;
+use super::runs::{Other, call, clock_of, files_with, numbers, sink, words_of};
 use gw_base::{Bytes, Entry, List, Mark, MemoryDoor};
 use http_talk::{Answer, answer_head};
 use std::alloc::Global;
@@ -105,7 +104,7 @@ pub fn run_door(rt: &impl Abort, alloc: Global, server: &Server, door: &mut Memo
     let mut clock = clock_of(alloc, server.moments, server.clock_fails).expect(rt, "memory");
     let mut out = sink(alloc, 10, &[]).expect(rt, "memory");
     let mut err = sink(alloc, 1000, &[]).expect(rt, "memory");
-    let ended = gateway(
+    let ended = call(
         alloc,
         words.as_slice(),
         &mut files,

@@ -1,6 +1,11 @@
 //! What the tests of the top call share: words, files and sinks in memory, and runs over them.
+ghost use Rattle.std.specs.Prelude.{◌≡◌, false};
+
 use gateway_top::gateway;
-use gw_base::{Bytes, List, MemoryClock, MemoryDoor, MemoryFiles, MemorySink, Moment, Text};
+use gw_base::{
+    Bytes, Clock, Door, Files, List, MemoryClock, MemoryDoor, MemoryFiles, MemorySink, Moment,
+    Sink, Text,
+};
 use std::alloc::{AllocError, Global};
 use std::process::Abort;
 use test_folder::sample_files;
@@ -159,6 +164,21 @@ pub fn clock_of(alloc: Global, seconds: &[i64], fails: &[u64]) -> Result<MemoryC
     Ok(MemoryClock::make(moments, numbers(alloc, fails)?))
 }
 
+/// The top call over any devices. Neither its clauses nor what devices in memory do are in a caller's goals.
+pub fn call<F: Files, D: Door, C: Clock, S: Sink, E: Sink>(
+    alloc: Global,
+    words: &[Text],
+    files: &mut F,
+    door: &mut D,
+    clock: &mut C,
+    out: &mut S,
+    err: &mut E,
+) -> u8
+    requires { (D.beside door.old).present ≡ false }
+{
+    gateway(alloc, words, files, door, clock, out, err)
+}
+
 /// The top call, with a door to which no connection comes and a clock that gives no moment.
 pub fn run(
     alloc: Global,
@@ -169,7 +189,7 @@ pub fn run(
 ) -> Result<u8, AllocError> {
     let mut door = MemoryDoor::make(alloc, List::new(alloc), 0, 1, List::new(alloc))?;
     let mut clock = clock_of(alloc, &[], &[])?;
-    Ok(gateway(alloc, words, files, &mut door, &mut clock, out, err))
+    Ok(call(alloc, words, files, &mut door, &mut clock, out, err))
 }
 
 /// What a run is given: the words as a text, the files in place of the sample's, and the reads that fail.

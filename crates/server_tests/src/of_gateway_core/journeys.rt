@@ -186,13 +186,18 @@ fn first_day(gate: &Gateway) -> i32 {
     gate.window().first().number()
 }
 
+// What is kept after the steps of `RECORDED`, and after a body that is no JSON.
+fn assert_kept(rt: &impl Abort, alloc: Global, gate: &mut Gateway) {
+    assert!(rt; is_no_json(rt, alloc, gate, b"{"));
+    assert_eq!(rt; entity_bytes(rt, gate), 106);
+    assert_eq!(rt; first_day(gate), 19_844);
+}
+
 #[test]
 fn the_record_that_was_recorded_last_is_kept(rt: HostRuntime) {
     let mut gate = started(&rt, rt.alloc(), None);
     assert_steps(&rt, rt.alloc(), &mut gate, &RECORDED);
-    assert!(rt; is_no_json(&rt, rt.alloc(), &mut gate, b"{"));
-    assert_eq!(rt; entity_bytes(&rt, &gate), 106);
-    assert_eq!(rt; first_day(&gate), 19_844);
+    assert_kept(&rt, rt.alloc(), &mut gate);
 }
 
 #[test]
