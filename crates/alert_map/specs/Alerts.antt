@@ -25,7 +25,8 @@ abbrev pub stop_selector : List ℕ → Selector
 stop_selector stop_id = record { agency_id = None; route_id = None; trip = None; stop_id = Some stop_id }
 
 abbrev pub trip_on : List ℕ → List ℕ → TripDescriptor
-trip_on trip_id date = record { trip_id = Some trip_id; start_date = Some date; relation = trip_scheduled; route_id = None }
+trip_on trip_id date =
+    record { trip_id = Some trip_id; start_date = Some date; relation = trip_scheduled; route_id = None }
 
 abbrev pub trip_selector : List ℕ → List ℕ → Selector
 trip_selector trip_id date =

@@ -1,5 +1,5 @@
--- What `show` prints of a feed that was read: a line for each cancelled journey and for each stop of the others, and the
--- lines of the report on its entities.
+-- What `show` prints of a feed that was read: a line for each cancelled journey and for each stop of the others, and
+-- the lines of the report on its entities.
 use Rattle.std.specs.Prelude.{ℕ, ℤ, List, [], ◌++◌, codes, decimal}
 use Rattle.std.specs.List.{enumerate_from, flat_map, zip}
 use Rattle.service_day.specs.DayTexts.{dashed_text}
