@@ -147,7 +147,7 @@ fn take_both(rt: &impl Abort, alloc: Global, gate: &mut Gateway) {
 }
 
 // The feed has both.
-fn assert_feed(rt: &impl Abort, alloc: Global, gate: &Gateway) {
+fn assert_feed(rt: &impl Abort, alloc: Global, gate: &mut Gateway) {
     let feed = feed_of(rt, alloc, gate);
     assert_eq!(rt; feed.written(), FEED);
 }
@@ -156,7 +156,7 @@ fn assert_feed(rt: &impl Abort, alloc: Global, gate: &Gateway) {
 fn deliveries_make_a_feed(rt: HostRuntime) {
     let mut gate = started(&rt, rt.alloc(), None);
     take_both(&rt, rt.alloc(), &mut gate);
-    assert_feed(&rt, rt.alloc(), &gate);
+    assert_feed(&rt, rt.alloc(), &mut gate);
 }
 
 #[test]
