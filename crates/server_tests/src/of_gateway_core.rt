@@ -146,17 +146,16 @@ fn take_both(rt: &impl Abort, alloc: Global, gate: &mut Gateway) {
     let _situations = situations_report(rt, alloc, gate, body.as_slice());
 }
 
-// The feed has both.
-fn assert_feed(rt: &impl Abort, alloc: Global, gate: &mut Gateway) {
-    let feed = feed_of(rt, alloc, gate);
-    assert_eq!(rt; feed.written(), FEED);
+// What was written is the feed of both.
+fn assert_feed(rt: &impl Abort, written: &[u8]) {
+    assert_eq!(rt; written, FEED);
 }
 
 #[test]
 fn deliveries_make_a_feed(rt: HostRuntime) {
     let mut gate = started(&rt, rt.alloc(), None);
     take_both(&rt, rt.alloc(), &mut gate);
-    assert_feed(&rt, rt.alloc(), &mut gate);
+    assert_feed(&rt, feed_of(&rt, rt.alloc(), &gate).written());
 }
 
 #[test]
