@@ -17,7 +17,8 @@ use Rattle.journey_model.specs.Propagation.{propagated}
 use Rattle.journey_model.specs.Reports.{aside_from}
 use Rattle.journey_model.specs.Runs.{Run}
 use Rattle.journey_model.specs.Schedules.{Schedule, run_on}
-use Rattle.journey_model.specs.Updates.{filled_text, places}
+use Rattle.journey_model.specs.Names.{filled_text}
+use Rattle.journey_model.specs.Updates.{places}
 use Rattle.journey_model.specs.declared.fault.Fault.{Fault}
 use Rattle.journey_model.specs.declared.fault.Fault.TheVariants.{UnknownJourney, OutOfWindow, NotRunning, NoDate, OtherRelation}
 use Rattle.journey_model.specs.declared.readings.DatedReading.{DatedReading}

@@ -3,6 +3,7 @@ pub mod FaultTexts
 pub mod FeedReadings
 pub mod Ids
 pub mod Matching
+pub mod Names
 pub mod Propagation
 pub mod Readings
 pub mod Records

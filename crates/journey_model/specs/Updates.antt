@@ -8,6 +8,7 @@ use Rattle.gw_base.specs.declared.messages.Event.{Event}
 use Rattle.gw_base.specs.declared.messages.StopUpdate.{StopUpdate}
 use Rattle.gw_base.specs.Chains.{unless_fault, ◌>>=◌}
 use Rattle.journey_model.specs.Matching.{update_place}
+use Rattle.journey_model.specs.Names.{filled_text}
 use Rattle.journey_model.specs.Runs.{Run, planned_at}
 use Rattle.journey_model.specs.Times.{both_times, delay_fault}
 use Rattle.journey_model.specs.declared.fault.Fault.{Fault}
@@ -26,12 +27,6 @@ is_skipped update = int_eq update.relation stop_skipped
 
 abbrev pub is_no_data : StopUpdate → Bool
 is_no_data update = int_eq update.relation stop_no_data
-
--- a text that isn't empty: an empty one counts as missing
-abbrev pub filled_text : Option (List ℕ) → Option (List ℕ)
-filled_text None = None
-filled_text (Some []) = None
-filled_text (Some (byte ∷ bytes)) = Some (byte ∷ bytes)
 
 -- the stop that an id names, among the ids of the timetable's stops
 abbrev pub known_stop : Option ℕ → NamedStop

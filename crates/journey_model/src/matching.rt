@@ -148,8 +148,8 @@ fn place_by_sequence(
     }
 }
 
-// Whether a trip has that stop.
-fn has_stop(stops: &[StopRow], stop: StopNo) -> bool
+/// Whether a trip calls at that stop.
+pub fn has_stop(stops: &[StopRow], stop: StopNo) -> bool
     ensures { result ≡ list_any (spec.is_of_stop stop.0) stops.now }
 {
     stops.iter().any(|row| row.stop.0 == stop.0)

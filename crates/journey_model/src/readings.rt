@@ -1,4 +1,7 @@
-//! How stops and journeys read.
+//! How stops and journeys read. The definitions are those of `specs/Readings.antt`.
+ghost use Rattle.std.specs.Prelude.{◌≡◌};
+ghost use Rattle.journey_model.specs.Readings as spec;
+
 use gw_base::{List, Moment};
 use service_day::{Day, Instant};
 use stop_schedule::TripNo;
@@ -17,6 +20,22 @@ pub enum StopReading {
         /// When it departs.
         departure: i64,
     },
+}
+
+impl StopReading {
+    /// Whether nothing is known of the stop.
+    pub fn is_absent(&self) -> bool
+        ensures { result ≡ spec.is_absent self.now }
+    {
+        matches!(self, StopReading::Absent)
+    }
+
+    /// Whether the journey doesn't stop there.
+    pub fn is_skipped(&self) -> bool
+        ensures { result ≡ spec.is_skipped self.now }
+    {
+        matches!(self, StopReading::Skipped)
+    }
 }
 
 /// How a journey reads.

@@ -48,18 +48,11 @@ pub(crate) fn descriptor(
     })
 }
 
-// Whether nothing is known of a stop.
-fn is_absent(reading: &StopReading) -> bool
-    ensures { result ≡ is_absent reading.now }
-{
-    matches!(reading, StopReading::Absent)
-}
-
-// Whether that holds of each stop.
+// Whether nothing is known of any of these stops.
 fn all_absent(readings: &[StopReading]) -> bool
     ensures { result ≡ list_all is_absent readings.now }
 {
-    readings.iter().all(|reading| is_absent(reading))
+    readings.iter().all(|reading| reading.is_absent())
 }
 
 /// Whether nothing is known of any stop of a journey, which then has no entity.

@@ -15,7 +15,7 @@ use Rattle.journey_model.specs.Reports.{aside_from}
 use Rattle.journey_model.specs.FeedReadings.{given, aside_all, day_by, day_named, entity_said, fault_said, given_all, is_cancelled, is_scheduled, moment_in, passed_count, reading_said, readings, said_of_day, said_of_trip, said_on, trip_named, update_said, with_reading}
 use Rattle.journey_model.specs.Runs.{Run}
 use Rattle.journey_model.specs.Schedules.{Schedule, run_on}
-use Rattle.journey_model.specs.Updates.{filled_text}
+use Rattle.journey_model.specs.Names.{filled_text}
 use Rattle.journey_model.specs.declared.fault.Fault.{Fault}
 use Rattle.journey_model.specs.declared.fault.Fault.TheVariants.{NotRunning, OtherRelation}
 use Rattle.journey_model.specs.declared.readings.DatedReading.{DatedReading}

@@ -26,7 +26,8 @@ use Rattle.journey_model.specs.Readings.{are_near, fits_trip, is_near}
 use Rattle.journey_model.specs.Runs.{Run, planned_at}
 use Rattle.journey_model.specs.Schedules.{Schedule, run_from}
 use Rattle.journey_model.specs.Times.{is_delay}
-use Rattle.journey_model.specs.Updates.{filled_text, is_no_data, is_read, is_scheduled, is_skipped, place_of, places, places_from, times, times_fault}
+use Rattle.journey_model.specs.Names.{filled_text}
+use Rattle.journey_model.specs.Updates.{is_no_data, is_read, is_scheduled, is_skipped, place_of, places, places_from, times, times_fault}
 use Rattle.journey_model.specs.declared.fault.Fault.{Fault}
 use Rattle.journey_model.specs.declared.fault.Fault.TheVariants.{NotRunning, OtherRelation}
 use Rattle.journey_model.specs.declared.readings.DatedReading.{DatedReading}

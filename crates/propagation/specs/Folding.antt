@@ -9,7 +9,7 @@ use Rattle.gw_base.specs.declared.messages.FeedHead.{FeedHead}
 use Rattle.gw_base.specs.declared.messages.TripUpdate.{TripUpdate}
 use Rattle.journey_model.specs.FeedReadings.{given, moment_in, update_said}
 use Rattle.journey_model.specs.Schedules.{Schedule}
-use Rattle.journey_model.specs.Updates.{filled_text}
+use Rattle.journey_model.specs.Names.{filled_text}
 use Rattle.journey_model.specs.declared.fault.Fault.{Fault}
 use Rattle.journey_model.specs.declared.readings.DatedReading.{DatedReading}
 use Rattle.propagation.specs.declared.entity_said.EntitySaid.{EntitySaid}

@@ -6,9 +6,8 @@ ghost use Rattle.journey_model.specs.FeedReadings as spec;
 ghost use Rattle.service_day.specs.Utc.{moment_if};
 ghost use Rattle.propagation.specs.Folding.{bare_feed, is_dated};
 
-use crate::placing::filled_text;
 use gw_base::{Moment, TripUpdate};
-use journey_model::Context;
+use journey_model::{Context, filled_text};
 use service_day::{Day, DayForm, local_day, read_day};
 use stop_schedule::TripNo;
 

@@ -1,7 +1,6 @@
 //! The places of updates in their trip, and what each says there. The functions meet `specs/Saying.antt` and the
 //! places of `journey_model`'s `specs/Updates.antt`.
 ghost use Rattle.std.specs.Prelude.{◌≡◌, ◌<◌, ℕ, true, Ok, Some, IsTrue, IfSome, length, position, List as Values};
-ghost use Rattle.std.specs.Option.{option_copied};
 ghost use Rattle.std.specs.Str.{bytes_eq};
 ghost use Rattle.gw_base.specs.Chains.{unless_fault};
 ghost use Rattle.journey_model.specs.Dated.{run_of};
@@ -14,8 +13,8 @@ use crate::events::{event_time, says_times};
 use crate::room::with_room;
 use crate::update_fault::UpdateFault;
 use gw_base::stop_relation::{NO_DATA, SCHEDULED, SKIPPED};
-use gw_base::{List, StopUpdate, Text};
-use journey_model::{DatedTrip, Fault, MatchFault, NamedStop, match_update};
+use gw_base::{List, StopUpdate};
+use journey_model::{DatedTrip, Fault, MatchFault, NamedStop, filled_text, match_update};
 use std::alloc::Global;
 use stop_schedule::{StopNo, Timetable, TripNo};
 
@@ -44,16 +43,6 @@ pub struct Placed {
     pub place: u32,
     /// What it says there.
     pub says: Says,
-}
-
-/// A text that isn't empty: an empty one counts as missing.
-pub(crate) fn filled_text(text: &Option<Text>) -> Option<&str>
-    ensures { option_copied result ≡ spec.filled_text text.now }
-{
-    match text {
-        Some(text) if !text.as_str().is_empty() => Some(text.as_str()),
-        _ => None,
-    }
 }
 
 // The stop of a trip after the place before, if it has one.

@@ -13,7 +13,7 @@ use Rattle.journey_model.specs.declared.situation.Situation.{Situation}
 use Rattle.serde_json.specs.Data.{Data}
 use Rattle.siri_json.specs.Fields.{optional_member}
 use Rattle.siri_json.specs.Forms.{is_object, text}
-use Rattle.siri_situations.specs.Affected.{affected, journey_named, known, line_named, references, stop_named, unless_none}
+use Rattle.siri_situations.specs.Affected.{affected, journey_reference, known, line_reference, references, stop_reference, unless_none}
 use Rattle.siri_situations.specs.Periods.{periods}
 use Rattle.siri_situations.specs.Senses as senses
 use Rattle.siri_situations.specs.Situations as spec
@@ -75,7 +75,7 @@ found-effect tree number e =
 
 -- ---- what it affects
 
-makes : (table : Table) → Makes (line_named table) (stop_named table) (journey_named table) (λ one. one.known) table
+makes : (table : Table) → Makes (line_reference table) (stop_reference table) (journey_reference table) (λ one. one.known) table
 makes table = record {
   lines = λ id one e. made-is table is_route (λ n. Route (record { 0 = n })) (position (bytes_eq id) table.routes)
       (λ n is. record { there = position-within id table.routes n is; is = refl }) one e;
@@ -101,8 +101,8 @@ pub record Affects (table : Table) (refs : List Ref) : Type 0 where
 found-affects : (table : Table) (tree : Data) (kept : List Ref) (unknown : ℕ) → (references table tree >>= affected) ≡ Ok (kept, unknown) → Affects table kept
 found-affects table tree kept unknown e =
     let all = parts-of (references table tree) (kept, unknown) affected e in
-    let way = parts-of (object_in Member.Affects tree) all.0 (all_below (line_named table) (stop_named table) (journey_named table)) all.1 in
-    let there = all-there (line_named table) (stop_named table) (journey_named table) (λ one. one.known) table (makes table) way.0 all.0 way.2 in
+    let way = parts-of (object_in Member.Affects tree) all.0 (all_below (line_reference table) (stop_reference table) (journey_reference table)) all.1 in
+    let there = all-there (line_reference table) (stop_reference table) (journey_reference table) (λ one. one.known) table (makes table) way.0 all.0 way.2 in
     (elim all.0 as (λ refs. affected refs ≡ Ok (kept, unknown) → AreThere table (known refs) → Affects table kept) [
       | [] ↦ λ e there. cc
       | first ∷ others ↦ λ e there.

@@ -11,12 +11,12 @@ use Rattle.stop_schedule.specs.Ids.{are_ids}
 use Rattle.stop_schedule.specs.Sound.{IsSound}
 use Rattle.stop_schedule.specs.Table.{Table}
 use Rattle.journey_model.specs.Ids.{id_of}
-use Rattle.journey_model.specs.Updates.{filled_text}
+use Rattle.journey_model.specs.Names.{filled_text}
 use Rattle.journey_model.specs.declared.situation.Ref.{Ref}
 use Rattle.journey_model.specs.declared.situation.Ref.TheVariants.{Route, Stop, Journey}
 use Rattle.alert_map.specs.Alerts.{selector_of}
 use Rattle.siri_calls.proofs.Written.SaidAgainIds.{id-at, position-id, some-id}
-use Rattle.reverse_alerts.specs.Kept.{all_named, journey_dated, journey_named, journey_on, named, one_named, route_named, stop_named}
+use Rattle.reverse_alerts.specs.Kept.{all_named, journey_dated, described_journey, journey_named, named, one_named, route_named, stop_named}
 use Rattle.reverse_alerts.proofs.DayRange.{IsDay-day_of}
 use Rattle.reverse_alerts.proofs.Sayable.{CanSay}
 
@@ -36,7 +36,7 @@ filled_text-some (byte ∷ bytes) h = refl
 dated-again : (table : Table) (trip : ℕ) (day : ℤ) → are_ids table.trips ≡ true → trip < length table.trips → IsDay day
     → journey_dated table (id_of table.trips trip) (compact_text day) ≡ Some (Journey (record { 0 = trip }) day)
 dated-again table trip day ids less on =
-    ap (option_and_then (journey_on table (id_of table.trips trip))) (compact_day-compact_text day on)
+    ap (option_and_then (journey_named table (id_of table.trips trip))) (compact_day-compact_text day on)
     ∙ ap (option_map (λ n. Journey (record { 0 = n }) day)) (position-id_of table.trips trip ids less)
 
 journey-again : (table : Table) (id date : List ℕ) (ref : Ref) → filled_text (Some id) ≡ Some id → filled_text (Some date) ≡ Some date
@@ -95,11 +95,11 @@ can-say-route table id ref e = made (λ n. Route (record { 0 = n })) (CanSay tab
 can-say-stop : (table : Table) (id : List ℕ) (ref : Ref) → stop_named table id ≡ Some ref → CanSay table ref
 can-say-stop table id ref e = made (λ n. Stop (record { 0 = n })) (CanSay table) (position (bytes_eq id) table.stops) ref e (position-within id table.stops)
 
-can-say-journey : (table : Table) (trip : TripDescriptor) (ref : Ref) → journey_named table trip ≡ Some ref → CanSay table ref
+can-say-journey : (table : Table) (trip : TripDescriptor) (ref : Ref) → described_journey table trip ≡ Some ref → CanSay table ref
 can-say-journey table trip ref e =
     going (λ id. option_and_then (journey_dated table id) (filled_text trip.start_date)) (CanSay table) (filled_text trip.trip_id) ref e (λ id of_trip with_id.
     going (journey_dated table id) (CanSay table) (filled_text trip.start_date) ref with_id (λ date of_date dated.
-    going (journey_on table id) (CanSay table) (day_of Compact date) ref dated (λ day is on.
+    going (journey_named table id) (CanSay table) (day_of Compact date) ref dated (λ day is on.
     made (λ n. Journey (record { 0 = n }) day) (CanSay table) (position (bytes_eq id) table.trips) ref on
     (λ place here. (position-within id table.trips place here, IsDay-day_of Compact date day is)))))
 

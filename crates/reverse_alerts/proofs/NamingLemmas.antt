@@ -13,10 +13,10 @@ use Rattle.service_day.specs.DayTexts.{day_of}
 use Rattle.service_day.specs.declared.days.DayForm.TheVariants.{Compact}
 use Rattle.stop_schedule.specs.Table.{Table}
 use Rattle.alert_map.specs.Known.{IsKnown}
-use Rattle.journey_model.specs.Updates.{filled_text}
+use Rattle.journey_model.specs.Names.{filled_text}
 use Rattle.journey_model.specs.declared.situation.Ref.{Ref}
 use Rattle.journey_model.specs.declared.situation.Ref.TheVariants.{Route, Stop, Journey}
-use Rattle.reverse_alerts.specs.Kept.{all_named, is_journey, is_route, is_stop, journey_dated, journey_named, journey_on, named, one_named, route_named, stop_named}
+use Rattle.reverse_alerts.specs.Kept.{all_named, is_journey, is_route, is_stop, journey_dated, described_journey, journey_named, named, one_named, route_named, stop_named}
 use Rattle.reverse_alerts.specs.Naming.{AreKnown, count_of, refs_of, with_named}
 use Rattle.reverse_alerts.specs.Progress.{none_named}
 use Rattle.reverse_alerts.specs.Taken.{affects_fault}
@@ -84,17 +84,17 @@ route_known table id ref h = found_in table.routes id (λ n. Route (record { 0 =
 stop_known : (table : Table) (id : List ℕ) (ref : Ref) → stop_named table id ≡ Some ref → IsKnown table ref
 stop_known table id ref h = found_in table.stops id (λ n. Stop (record { 0 = n })) (IsKnown table) ref (λ n within. within) h
 
-trip_known : (table : Table) (id : List ℕ) (day : ℤ) (ref : Ref) → journey_on table id day ≡ Some ref → IsKnown table ref
+trip_known : (table : Table) (id : List ℕ) (day : ℤ) (ref : Ref) → journey_named table id day ≡ Some ref → IsKnown table ref
 trip_known table id day ref h = found_in table.trips id (λ n. Journey (record { 0 = n }) day) (IsKnown table) ref (λ n within. within) h
 
 dated_known : (table : Table) (id date : List ℕ) (ref : Ref) → journey_dated table id date ≡ Some ref → IsKnown table ref
 dated_known table id date ref h = by (day_of Compact date) h
   where
-    by : (day : Option ℤ) → option_and_then (journey_on table id) day ≡ Some ref → IsKnown table ref
+    by : (day : Option ℤ) → option_and_then (journey_named table id) day ≡ Some ref → IsKnown table ref
     by None h = absurd (cc)
     by (Some day) h = trip_known table id day ref h
 
-journey_known : (table : Table) (trip : TripDescriptor) (ref : Ref) → journey_named table trip ≡ Some ref → IsKnown table ref
+journey_known : (table : Table) (trip : TripDescriptor) (ref : Ref) → described_journey table trip ≡ Some ref → IsKnown table ref
 journey_known table trip ref h = by (filled_text trip.trip_id) (filled_text trip.start_date) h
   where
     by : (id date : Option (List ℕ)) → option_and_then (λ id. option_and_then (journey_dated table id) date) id ≡ Some ref → IsKnown table ref

@@ -16,7 +16,7 @@ use Rattle.serde_json.specs.Data.{Data}
 use Rattle.serde_json.specs.Find.{get}
 use Rattle.siri_calls.specs.Written.DeliveryTree.{array_of, members, object_of}
 use Rattle.siri_json.specs.Forms.{is_object}
-use Rattle.siri_situations.specs.Affected.{affected, day_in_form, journey_named, known, line_named, references, stop_named, unless_none}
+use Rattle.siri_situations.specs.Affected.{affected, day_in_form, journey_reference, known, line_reference, references, stop_reference, unless_none}
 use Rattle.siri_situations.specs.Steps.{gather}
 use Rattle.reverse_alerts.specs.Kept.{is_journey, is_route, is_stop}
 use Rattle.reverse_alerts.specs.SituationTree.{affects_tree, journeys_member, lines_member, ref_trees, stops_member}
@@ -220,45 +220,45 @@ affects-read line stop journey table refs sound h =
 
 -- the references of a situation are these
 pub references-are : (table : Table) (tree : Data)
-    → references table tree ≡ (object_in Member.Affects tree >>= λ affects. all_below (line_named table) (stop_named table) (journey_named table) affects)
+    → references table tree ≡ (object_in Member.Affects tree >>= λ affects. all_below (line_reference table) (stop_reference table) (journey_reference table) affects)
 references-are table tree = refl
 
 pub references-read : (table : Table) (tree : Data) (one : Situation) → IsSound table → IsSayable table one
     → get (codes "Affects") tree ≡ Some (affects_tree table one.refs)
-    → references table tree ≡ Ok (map (said (line_named table) (stop_named table) (journey_named table) table) one.refs)
+    → references table tree ≡ Ok (map (said (line_reference table) (stop_reference table) (journey_reference table) table) one.refs)
 references-read table tree one sound h e =
     let r = ref_trees table (filter is_route one.refs) in
     let s = ref_trees table (filter is_stop one.refs) in
     let j = ref_trees table (filter is_journey one.refs) in
     references-are table tree
-    ∙ bound (object_in Member.Affects tree) (affects_tree table one.refs ∷ []) (all_below (line_named table) (stop_named table) (journey_named table))
+    ∙ bound (object_in Member.Affects tree) (affects_tree table one.refs ∷ []) (all_below (line_reference table) (stop_reference table) (journey_reference table))
     (object-read Member.Affects tree (members (lines_member r ++ stops_member s ++ journeys_member j)) e)
-    ∙ affects-read (line_named table) (stop_named table) (journey_named table) table one.refs sound h.refs
-    ∙ ap (λ refs. Ok (map (said (line_named table) (stop_named table) (journey_named table) table) refs)) h.kinds
+    ∙ affects-read (line_reference table) (stop_reference table) (journey_reference table) table one.refs sound h.refs
+    ∙ ap (λ refs. Ok (map (said (line_reference table) (stop_reference table) (journey_reference table) table) refs)) h.kinds
 
 -- ---- all of them are known
 
 known-one : (table : Table) (ref : Ref) → IsSound table → CanSay table ref
-    → (said (line_named table) (stop_named table) (journey_named table) table ref).known ≡ Some ref
+    → (said (line_reference table) (stop_reference table) (journey_reference table) table ref).known ≡ Some ref
 known-one table (Route route) sound h = ap (option_map (λ n. Route (record { 0 = n }))) (position-id_of table.routes route.0 sound.routes h)
 known-one table (Stop stop) sound h = ap (option_map (λ n. Stop (record { 0 = n }))) (position-id_of table.stops stop.0 sound.stops h)
 known-one table (Journey trip on) sound h = ap (option_map (λ n. Journey (record { 0 = n }) on)) (position-id_of table.trips trip.0 sound.trips h.0)
 
 known-said : (table : Table) (refs : List Ref) → IsSound table → AllByRecursion (CanSay table) refs
-    → known (map (said (line_named table) (stop_named table) (journey_named table) table) refs) ≡ refs
+    → known (map (said (line_reference table) (stop_reference table) (journey_reference table) table) refs) ≡ refs
 known-said table [] sound h = refl
 known-said table (ref ∷ refs) sound h =
-    ap (λ one. cons_option one (known (map (said (line_named table) (stop_named table) (journey_named table) table) refs))) (known-one table ref sound h.0)
+    ap (λ one. cons_option one (known (map (said (line_reference table) (stop_reference table) (journey_reference table) table) refs))) (known-one table ref sound h.0)
     ∙ ap (λ rest. ref ∷ rest) (known-said table refs sound h.1)
 
 none-unknown : (a b : ℕ) → a ≡ b → a - b ≡ 0
 none-unknown a b e = omega arith
 
 pub affected-read : (table : Table) (refs : List Ref) → IsSound table → AllByRecursion (CanSay table) refs → 0 < length refs
-    → affected (map (said (line_named table) (stop_named table) (journey_named table) table) refs) ≡ Ok (refs, 0)
+    → affected (map (said (line_reference table) (stop_reference table) (journey_reference table) table) refs) ≡ Ok (refs, 0)
 affected-read table [] sound h some = absurd (omega arith)
 affected-read table (ref ∷ refs) sound h some =
-    let f = said (line_named table) (stop_named table) (journey_named table) table in
+    let f = said (line_reference table) (stop_reference table) (journey_reference table) table in
     let count = length (map f (ref ∷ refs)) in
     ap (λ all. unless_none (f ref).member (count - length all) all) (known-said table (ref ∷ refs) sound h)
     ∙ ap (λ unknown. Ok (ref ∷ refs, unknown)) (none-unknown count (length (ref ∷ refs)) (length-map (ref ∷ refs) f))

@@ -18,7 +18,7 @@ use Rattle.siri_calls.specs.Written.DeliveryTree.{array_of, members, object_of}
 use Rattle.siri_json.specs.Fields.{form_at, optional, optional_member, required_member}
 use Rattle.siri_json.specs.Forms.{is_object, text, whole}
 use Rattle.siri_json.specs.Frame.{repeated_at}
-use Rattle.siri_situations.specs.Affected.{affected, journey_named, line_named, references, stop_named}
+use Rattle.siri_situations.specs.Affected.{affected, journey_reference, line_reference, references, stop_reference}
 use Rattle.siri_situations.specs.Periods.{periods}
 use Rattle.siri_situations.specs.Senses as senses
 use Rattle.siri_situations.specs.Situations as spec
@@ -131,8 +131,8 @@ cause-read tree number (weather e) = subst (ReadsCause tree) (sym e) (λ a b c d
 -- ---- the situation
 
 touched-by : (table : Table) (tree : Data) (refs : List Ref) (number : ℤ)
-    → references table tree ≡ Ok (map (said (line_named table) (stop_named table) (journey_named table) table) refs) → effect tree ≡ Ok number
-    → touched table tree ≡ Ok (map (said (line_named table) (stop_named table) (journey_named table) table) refs, number)
+    → references table tree ≡ Ok (map (said (line_reference table) (stop_reference table) (journey_reference table) table) refs) → effect tree ≡ Ok number
+    → touched table tree ≡ Ok (map (said (line_reference table) (stop_reference table) (journey_reference table) table) refs, number)
 touched-by table tree refs number first second = rw (first, second) refl
 
 -- what a situation is that is served in version 0, by its cause
@@ -156,8 +156,8 @@ situation-by : (schedule : Schedule) (tree : Data) (one : Situation)
       words = record { summary = one.summary; description = one.description };
     })
     → touched schedule.table tree
-    ≡ Ok (map (said (line_named schedule.table) (stop_named schedule.table) (journey_named schedule.table) schedule.table) one.refs, one.effect)
-    → affected (map (said (line_named schedule.table) (stop_named schedule.table) (journey_named schedule.table) schedule.table) one.refs) ≡ Ok (one.refs, 0)
+    ≡ Ok (map (said (line_reference schedule.table) (stop_reference schedule.table) (journey_reference schedule.table) schedule.table) one.refs, one.effect)
+    → affected (map (said (line_reference schedule.table) (stop_reference schedule.table) (journey_reference schedule.table) schedule.table) one.refs) ≡ Ok (one.refs, 0)
     → situation schedule tree ≡ Ok (with_cause one (senses.cause tree), 0)
 situation-by schedule tree one first second third = rw (first, second, third) refl
 

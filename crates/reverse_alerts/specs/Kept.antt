@@ -1,33 +1,22 @@
 -- What a selector of an alert names that a situation can say (GTFS Realtime reference, EntitySelector): just one of a
 -- route, a stop and a trip on a day, which the timetable has. An agency beside it isn't looked at.
-use Rattle.std.specs.Prelude.{ℕ, ℤ, Bool, true, false, List, length, ◌-◌, position, Option, Some, None, option_map, option_and_then}
+use Rattle.std.specs.Prelude.{ℕ, Bool, true, false, List, length, ◌-◌, Option, Some, None, option_and_then}
 use Rattle.std.specs.List.{filter_map}
-use Rattle.std.specs.Str.{bytes_eq}
 use Rattle.gw_base.specs.declared.messages.Selector.{Selector}
 use Rattle.gw_base.specs.declared.messages.TripDescriptor.{TripDescriptor}
 use Rattle.service_day.specs.DayTexts.{day_of}
 use Rattle.service_day.specs.declared.days.DayForm.TheVariants.{Compact}
 use Rattle.stop_schedule.specs.Table.{Table}
-use Rattle.journey_model.specs.Updates.{filled_text}
+use Rattle.journey_model.specs.Names.{filled_text, journey_named, route_named, stop_named}
 use Rattle.journey_model.specs.declared.situation.Ref.{Ref}
 use Rattle.journey_model.specs.declared.situation.Ref.TheVariants.{Route, Stop, Journey}
 
--- the route, the stop, and the trip on a day with these ids, where the timetable has them
-abbrev pub route_named : Table → List ℕ → Option Ref
-route_named table id = option_map (λ n. Route (record { 0 = n })) (position (bytes_eq id) table.routes)
-
-abbrev pub stop_named : Table → List ℕ → Option Ref
-stop_named table id = option_map (λ n. Stop (record { 0 = n })) (position (bytes_eq id) table.stops)
-
-abbrev pub journey_on : Table → List ℕ → ℤ → Option Ref
-journey_on table id day = option_map (λ n. Journey (record { 0 = n }) day) (position (bytes_eq id) table.trips)
-
 -- the trip of a descriptor, with its trip_id and its start_date as `YYYYMMDD`; an empty text counts as missing
 abbrev pub journey_dated : Table → List ℕ → List ℕ → Option Ref
-journey_dated table id date = option_and_then (journey_on table id) (day_of Compact date)
+journey_dated table id date = option_and_then (journey_named table id) (day_of Compact date)
 
-abbrev pub journey_named : Table → TripDescriptor → Option Ref
-journey_named table trip =
+abbrev pub described_journey : Table → TripDescriptor → Option Ref
+described_journey table trip =
     option_and_then (λ id. option_and_then (journey_dated table id) (filled_text trip.start_date))
     (filled_text trip.trip_id)
 
@@ -35,7 +24,7 @@ journey_named table trip =
 abbrev pub one_named : Table → Option (List ℕ) → Option TripDescriptor → Option (List ℕ) → Option Ref
 one_named table None None None = None
 one_named table (Some route) None None = route_named table route
-one_named table None (Some trip) None = journey_named table trip
+one_named table None (Some trip) None = described_journey table trip
 one_named table None None (Some stop) = stop_named table stop
 one_named table (Some route) (Some trip) None = None
 one_named table (Some route) None (Some stop) = None

@@ -8,7 +8,7 @@ use Rattle.gw_base.specs.declared.messages.Alert.{Alert}
 use Rattle.gw_base.specs.declared.messages.Period.{Period}
 use Rattle.gw_base.specs.declared.messages.Translation.{Translation}
 use Rattle.stop_schedule.specs.Table.{Table}
-use Rattle.journey_model.specs.Updates.{filled_text}
+use Rattle.journey_model.specs.Names.{filled_text}
 use Rattle.journey_model.specs.declared.situation.Ref.{Ref}
 use Rattle.journey_model.specs.declared.situation.ValidPeriod.{ValidPeriod}
 use Rattle.reverse_alerts.specs.Kept.{all_named, is_journey, is_route, is_stop}

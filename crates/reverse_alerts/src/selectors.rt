@@ -1,14 +1,12 @@
 //! What the selectors of an alert name. The functions meet `specs/Kept.antt`.
 ghost use Rattle.std.specs.Prelude.{◌≡◌, ◌<◌, [], OnOk};
-ghost use Rattle.std.specs.Option.{option_copied};
 ghost use Rattle.stop_schedule.specs.Seen.{seen};
-ghost use Rattle.journey_model.specs.Updates as updates;
 ghost use Rattle.reverse_alerts.specs.Kept as spec;
 ghost use Rattle.reverse_alerts.specs.Naming as naming;
 
-use gw_base::{List, Selector, Text, TripDescriptor};
-use journey_model::Ref;
-use service_day::{Day, DayForm, read_day};
+use gw_base::{List, Selector, TripDescriptor};
+use journey_model::{Ref, filled_text, journey_named, route_named, stop_named};
+use service_day::{DayForm, read_day};
 use std::alloc::{AllocError, Global};
 use stop_schedule::Timetable;
 
@@ -56,53 +54,19 @@ impl NamedRefs {
     }
 }
 
-// A text that isn't empty: an empty one counts as missing.
-fn filled_text(text: &Option<Text>) -> Option<&str>
-    ensures { option_copied result ≡ updates.filled_text text.now }
-{
-    match text {
-        Some(text) if !text.as_str().is_empty() => Some(text.as_str()),
-        _ => None,
-    }
-}
-
-// The route with an id, if there is one.
-fn route_named(table: &Timetable, id: &str) -> Option<Ref>
-    ensures { result ≡ spec.route_named (seen table.now) id.now }
-{
-    table.find_route(id).map(Ref::Route)
-}
-
-// The stop with an id, if there is one.
-fn stop_named(table: &Timetable, id: &str) -> Option<Ref>
-    ensures { result ≡ spec.stop_named (seen table.now) id.now }
-{
-    table.find_stop(id).map(Ref::Stop)
-}
-
-// The trip with an id on a day, if there is one.
-fn journey_on(table: &Timetable, id: &str, day: Day) -> Option<Ref>
-    ensures { result ≡ spec.journey_on (seen table.now) id.now day }
-{
-    match table.find_trip(id) {
-        Some(trip) => Some(Ref::Journey(trip, day)),
-        None => None,
-    }
-}
-
 // The trip with an id on the day of a date, if there is one.
 fn journey_dated(table: &Timetable, id: &str, date: &str) -> Option<Ref>
     ensures { result ≡ spec.journey_dated (seen table.now) id.now date.now }
 {
     match read_day(date, DayForm::Compact) {
-        Some(day) => journey_on(table, id, day),
+        Some(day) => journey_named(table, id, day),
         None => None,
     }
 }
 
 // The trip on a day that a descriptor names, if there is one.
-fn journey_named(table: &Timetable, trip: &TripDescriptor) -> Option<Ref>
-    ensures { result ≡ spec.journey_named (seen table.now) trip.now }
+fn described_journey(table: &Timetable, trip: &TripDescriptor) -> Option<Ref>
+    ensures { result ≡ spec.described_journey (seen table.now) trip.now }
 {
     match (filled_text(&trip.trip_id), filled_text(&trip.start_date)) {
         (Some(id), Some(date)) => journey_dated(table, id, date),
@@ -118,7 +82,7 @@ fn named(table: &Timetable, one: &Selector) -> Option<Ref>
     let stop = filled_text(&one.stop_id);
     match (route, &one.trip, stop) {
         (Some(route), None, None) => route_named(table, route),
-        (None, Some(trip), None) => journey_named(table, trip.get()),
+        (None, Some(trip), None) => described_journey(table, trip.get()),
         (None, None, Some(stop)) => stop_named(table, stop),
         _ => None,
     }

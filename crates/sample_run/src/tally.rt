@@ -14,19 +14,7 @@ pub(crate) struct Tally {
     pub(crate) timed: u64,
 }
 
-// Whether a stop isn't served, nothing is known of it, or it has times.
-fn is_skipped(reading: &StopReading) -> bool
-    ensures { result ≡ is_skipped reading.now }
-{
-    matches!(reading, StopReading::Skipped)
-}
-
-fn is_absent(reading: &StopReading) -> bool
-    ensures { result ≡ is_absent reading.now }
-{
-    matches!(reading, StopReading::Absent)
-}
-
+// Whether a stop has times.
 fn is_timed(reading: &StopReading) -> bool
     ensures { result ≡ spec.is_timed reading.now }
 {
@@ -37,13 +25,13 @@ fn is_timed(reading: &StopReading) -> bool
 fn skipped_in(readings: &[StopReading]) -> u64
     ensures { result ≡ count_by is_skipped readings.now }
 {
-    readings.iter().filter(|one| is_skipped(*one)).count() as u64
+    readings.iter().filter(|one| one.is_skipped()).count() as u64
 }
 
 fn absent_in(readings: &[StopReading]) -> u64
     ensures { result ≡ count_by is_absent readings.now }
 {
-    readings.iter().filter(|one| is_absent(*one)).count() as u64
+    readings.iter().filter(|one| one.is_absent()).count() as u64
 }
 
 fn timed_in(readings: &[StopReading]) -> u64

@@ -2,7 +2,8 @@
 use Rattle.std.proofs.Common.{◌≡◌, ◌≢◌, ℕ, suc, ◌+◌, ◌<◌, ◌≤◌, true, false, ◌&&◌, List, [], ◌∷◌, length, drop, get_or, drop-cons, add-one, arith, refl, ap, ◌∙◌}
 use Rattle.std.proofs.lemmas.Bool.Decides.{nat_tests}
 use Rattle.std.proofs.lemmas.List.{drop_all}
-use Rattle.service_day.specs.Digits.{is_digit, is_at, has_form}
+use Rattle.std.specs.Char.{is_ascii_digit}
+use Rattle.service_day.specs.Digits.{is_at, has_form}
 
 -- a text of another length than the form's hasn't the form
 pub has_form-other_length : (form text : List ℕ) → length text ≢ length form → has_form form text ≡ false
@@ -23,7 +24,7 @@ unfolding has_form
 has_form-end form text i h k = rw (drop_all i form h, drop_all i text k) refl
 
 -- a digit that is written may stand where a form has `0`
-pub is_digit-written : (n : ℕ) → n < 10 → is_digit (48 + n) ≡ true
+pub is_digit-written : (n : ℕ) → n < 10 → is_ascii_digit (48 + n) ≡ true
 is_digit-written n h = grind (arith, nat_tests)
 
 pub no_form : (form text : List ℕ) (i : ℕ) → i < length form → i < length text → has_form form text ≡ has_form (drop i form) (drop i text) → is_at (get_or form i 0) (get_or text i 0) ≡ false → has_form form text ≡ false

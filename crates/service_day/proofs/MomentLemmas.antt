@@ -4,23 +4,23 @@ use Rattle.std.proofs.lemmas.Bool.Decides.{nat_tests}
 use Rattle.std.proofs.lemmas.List.{drop_all, length-drop, length-take}
 use Rattle.std.proofs.Math.Seq.{take-length}
 use Rattle.std.proofs.Math.Nat.{mul-le-mul_right}
-use Rattle.service_day.specs.Digits.{is_digit}
+use Rattle.std.specs.Char.{is_ascii_digit}
 use Rattle.service_day.specs.Moments.{digits_len, tenths, shown_form, shown_part, fraction_part, offset_part, second_at, instant_if, moment_of}
 use Rattle.service_day.specs.declared.moments.Offset.{Offset}
 use Rattle.service_day.specs.declared.zones.Rules.{Rules}
 use Rattle.service_day.proofs.FormLemmas.{has_form-other_length}
 
-digits_len-cons : (c : ℕ) (cs : List ℕ) → is_digit c ≡ true → digits_len (c ∷ cs) ≡ digits_len cs + 1
+digits_len-cons : (c : ℕ) (cs : List ℕ) → is_ascii_digit c ≡ true → digits_len (c ∷ cs) ≡ digits_len cs + 1
 unfolding digits_len
 digits_len-cons c cs good = rw good (omega arith)
 
 cons_at : (text : List ℕ) (i : ℕ) → i < length text → drop i text ≡ get_or text i 0 ∷ drop (i + 1) text
 cons_at text i h = rw add-one (drop-cons text i 0 h)
 
-pub digits_len-digit : (text : List ℕ) (i : ℕ) → i < length text → is_digit (get_or text i 0) ≡ true → digits_len (drop i text) ≡ digits_len (drop (i + 1) text) + 1
+pub digits_len-digit : (text : List ℕ) (i : ℕ) → i < length text → is_ascii_digit (get_or text i 0) ≡ true → digits_len (drop i text) ≡ digits_len (drop (i + 1) text) + 1
 digits_len-digit text i h good = ap digits_len (cons_at text i h) ∙ digits_len-cons (get_or text i 0) (drop (i + 1) text) good
 
-pub digits_len-other : (text : List ℕ) (i : ℕ) → i < length text → is_digit (get_or text i 0) ≡ false → digits_len (drop i text) ≡ 0
+pub digits_len-other : (text : List ℕ) (i : ℕ) → i < length text → is_ascii_digit (get_or text i 0) ≡ false → digits_len (drop i text) ≡ 0
 unfolding digits_len
 digits_len-other text i h bad = rw (drop-cons text i 0, bad) refl
 
@@ -36,10 +36,10 @@ pub tenths-end : (unit : ℕ) (digits : List ℕ) (i : ℕ) → length digits �
 unfolding tenths
 tenths-end unit digits i h = rw (drop_all i digits h) refl
 
-digit_small : (c : ℕ) → is_digit c ≡ true → c - 48 ≤ 9
+digit_small : (c : ℕ) → is_ascii_digit c ≡ true → c - 48 ≤ 9
 digit_small c h = grind (arith, nat_tests)
 
-small_step : (unit c : ℕ) (cs : List ℕ) (good : Bool) → is_digit c ≡ good → tenths (unit / 10) (take (digits_len cs) cs) ≤ 10 * (unit / 10) - 1
+small_step : (unit c : ℕ) (cs : List ℕ) (good : Bool) → is_ascii_digit c ≡ good → tenths (unit / 10) (take (digits_len cs) cs) ≤ 10 * (unit / 10) - 1
     → tenths unit (take (if good then suc (digits_len cs) else 0) (c ∷ cs)) ≤ 10 * unit - 1
 unfolding tenths
 small_step unit c cs true e rest = omega (arith, rest, mul-le-mul_right unit (digit_small c e))
@@ -49,7 +49,7 @@ small_step unit c cs false e rest = omega arith
 digits_small : (unit : ℕ) (text : List ℕ) → tenths unit (take (digits_len text) text) ≤ 10 * unit - 1
 unfolding digits_len tenths
 digits_small unit [] = omega arith
-digits_small unit (c ∷ cs) = small_step unit c cs (is_digit c) refl (digits_small (unit / 10) cs)
+digits_small unit (c ∷ cs) = small_step unit c cs (is_ascii_digit c) refl (digits_small (unit / 10) cs)
 
 -- the digits of a fraction come to less than a second
 pub fraction_small : (text : List ℕ) → tenths 100000000 (take (digits_len text) text) < 1000000000

@@ -1,17 +1,14 @@
 -- Decimal digits at the places of a text.
-use Rattle.std.specs.Prelude.{ℕ, ◌≤◌, ◌+◌, ◌-◌, ◌*◌, ◌/◌, ◌%◌, Bool, true, false, ◌&&◌, ◌==◌, nat_le, if◌then◌else◌, List, [], ◌∷◌, ◌++◌, slice_index}
+use Rattle.std.specs.Char.{is_ascii_digit}
+use Rattle.std.specs.Prelude.{ℕ, ◌≤◌, ◌+◌, ◌-◌, ◌*◌, ◌/◌, ◌%◌, Bool, true, false, ◌&&◌, ◌==◌, if◌then◌else◌, List, [], ◌∷◌, ◌++◌, slice_index}
 
--- the character is an ASCII digit
-abbrev pub is_digit : ℕ → Bool
-is_digit c = nat_le 48 c && nat_le c 57
-
--- the same as a fact
+-- the character is an ASCII digit, as a fact
 abbrev pub IsDigit : ℕ → Type 0
 IsDigit c = (48 ≤ c) × (c ≤ 57)
 
 -- the character may stand at a place of a form: `0` (48) takes any digit, another character itself
 abbrev pub is_at : ℕ → ℕ → Bool
-is_at place c = if place == 48 then is_digit c else place == c
+is_at place c = if place == 48 then is_ascii_digit c else place == c
 
 -- each place of the text takes its character, and none is missing or left over
 unfoldable pub has_form : List ℕ → List ℕ → Bool

@@ -3,7 +3,8 @@ use Rattle.std.specs.Prelude.{ℕ, suc, ◌+◌, ◌-◌, ◌*◌, ◌/◌, ◌&
 use Rattle.std.specs.Ordering.{int_cmp, nat_cmp, ordering_then}
 use Rattle.std.specs.declared.cmp.Ordering.{Ordering}
 use Rattle.jiff_core.specs.Calendar.{IsWithin}
-use Rattle.service_day.specs.Digits.{is_digit, has_form, two_at, four_at}
+use Rattle.std.specs.Char.{is_ascii_digit}
+use Rattle.service_day.specs.Digits.{has_form, two_at, four_at}
 use Rattle.service_day.specs.Days.{date_number}
 use Rattle.service_day.specs.Starts.{local_second}
 use Rattle.gw_base.specs.Moments.{is_moment}
@@ -38,7 +39,7 @@ shown_part text =
 -- how many digits begin the text
 unfoldable pub digits_len : List ℕ → ℕ
 digits_len [] = 0
-digits_len (c ∷ cs) = if is_digit c then suc (digits_len cs) else 0
+digits_len (c ∷ cs) = if is_ascii_digit c then suc (digits_len cs) else 0
 
 -- what digits stand for where the first counts `unit` and each one after it a tenth of the one before
 unfoldable pub tenths : ℕ → List ℕ → ℕ

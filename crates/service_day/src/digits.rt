@@ -24,17 +24,10 @@ fn is_at(place: u8, c: u8) -> bool
     ensures { result ≡ spec.is_at place c }
 {
     if place == b'0' {
-        is_digit(c)
+        c.is_ascii_digit()
     } else {
         place == c
     }
-}
-
-/// Whether the character is a digit.
-pub(crate) fn is_digit(c: u8) -> bool
-    ensures { result ≡ spec.is_digit c }
-{
-    c >= b'0' && c <= b'9'
 }
 
 /// What the digit there stands for.

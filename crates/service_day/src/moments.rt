@@ -5,7 +5,7 @@ ghost use Rattle.service_day.specs.Moments as spec;
 ghost use Rattle.gw_base.specs.Moments.{IsMoment};
 
 use crate::days::Day;
-use crate::digits::{four_at, has_form, is_digit, two_at};
+use crate::digits::{four_at, has_form, two_at};
 use crate::starts::local_second;
 use crate::utc::is_clock;
 use crate::zones::Zone;
@@ -161,7 +161,7 @@ fn digits_len(text: &[u8]) -> usize
     ensures within { result ≤ length text.now }
 {
     for (i, c) in text.iter().enumerate() {
-        if !is_digit(*c) {
+        if !c.is_ascii_digit() {
             return i;
         }
     }

@@ -1,7 +1,5 @@
 //! The places of a journey's calls in its trip. The functions meet `calls_placed` of `specs/Judged.antt`.
 ghost use Rattle.std.specs.Prelude.{◌≡◌, map, option_map, Ok, IfErr, IfOk};
-ghost use Rattle.std.specs.List.{list_any};
-ghost use Rattle.journey_model.specs.Matching.{is_of_stop};
 ghost use Rattle.siri_calls.specs.Judged as spec;
 ghost use Rattle.siri_calls.specs.MatchedCalls.{is_unknown, place_named, placed_call, unplaced};
 ghost use Rattle.siri_calls.specs.Seen.{call_of, calls_of};
@@ -10,10 +8,9 @@ ghost use Rattle.siri_json.specs.Shown.{IsFaultOf};
 
 use crate::calls::Call;
 use crate::trip_run::TripRun;
-use journey_model::{Fault, match_call};
+use journey_model::{Fault, has_stop, match_call};
 use siri_json::ReadFault;
 use std::alloc::Global;
-use stop_schedule::{StopNo, StopRow};
 
 /// A call with its place in the trip, and its own number among all calls, from 0.
 #[derive(Clone, Copy)]
@@ -24,13 +21,6 @@ pub(crate) struct PlacedCall<'a> {
     pub number: u64,
     /// The call.
     pub call: &'a Call<'a>,
-}
-
-// Whether one of the stops is that one.
-fn has_stop(stops: &[StopRow], stop: StopNo) -> bool
-    ensures { result ≡ list_any (is_of_stop stop.0) stops.now }
-{
-    stops.iter().any(|row| row.stop.0 == stop.0)
 }
 
 // Whether a call is of no stop of the trip; an extra call isn't looked at.

@@ -64,12 +64,12 @@ named table to id ids same = ap (λ t. t && true) (placed table to (position_or_
 reference : (kind : AffectedKind) (table : Table) (tree : Data) → OnFound (AreThere table) (spec.reference kind table tree)
 reference kinds.Line table tree = after (AreThere table) (optional_member text Member.LineRef tree) _ (λ id is. by id)
   where
-    by : (id : Option (List ℕ)) → AreThere table (map (spec.line_named table) (option_to_list id))
+    by : (id : Option (List ℕ)) → AreThere table (map (spec.line_reference table) (option_to_list id))
     by None = refl
     by (Some id) = named table (λ n. Ref.Route (record { 0 = n })) id table.routes (λ m. refl)
 reference kinds.StopPoint table tree = after (AreThere table) (optional_member text Member.StopPointRef tree) _ (λ id is. by id)
   where
-    by : (id : Option (List ℕ)) → AreThere table (map (spec.stop_named table) (option_to_list id))
+    by : (id : Option (List ℕ)) → AreThere table (map (spec.stop_reference table) (option_to_list id))
     by None = refl
     by (Some id) = named table (λ n. Ref.Stop (record { 0 = n })) id table.stops (λ m. refl)
 reference kinds.VehicleJourney table tree =

@@ -1,14 +1,13 @@
 -- What a situation affects (SIRI 2.0, Affects): its references to lines, stop points and journeys, and which of them
 -- are known.
-use Rattle.std.specs.Prelude.{◌-◌, ℕ, ℤ, Bool, true, List, [], ◌∷◌, ◌++◌, length, map, position, filter_map, option_map, option_to_list, is_ok, Result, Ok, Err, if◌then◌else◌}
+use Rattle.std.specs.Prelude.{◌-◌, ℕ, ℤ, Bool, true, List, [], ◌∷◌, ◌++◌, length, map, filter_map, option_to_list, is_ok, Result, Ok, Err, if◌then◌else◌}
 use Rattle.std.specs.List.{list_all}
-use Rattle.std.specs.Str.{bytes_eq}
 use Rattle.gw_base.specs.declared.member.Member.{Member}
 use Rattle.gw_base.specs.Chains.{◌>>=◌}
+use Rattle.journey_model.specs.Names.{journey_named, route_named, stop_named}
 use Rattle.journey_model.specs.declared.fault.Fault.{Fault}
 use Rattle.journey_model.specs.declared.fault.Fault.TheVariants.{BadField, NoAffects, UnknownRef}
 use Rattle.journey_model.specs.declared.situation.Ref.{Ref}
-use Rattle.journey_model.specs.declared.situation.Ref.TheVariants.{Route, Stop, Journey}
 use Rattle.serde_json.specs.Data.{Data}
 use Rattle.siri_json.specs.Fields.{optional_member, required_member}
 use Rattle.siri_json.specs.Forms.{text, day}
@@ -28,22 +27,22 @@ steps VehicleJourney =
     Object Member.VehicleJourneys ∷ Repeated Member.AffectedVehicleJourney ∷ Object Member.FramedVehicleJourneyRef ∷ []
 
 -- a reference to the line, the stop or the trip with an id: it is known where the timetable has it
-abbrev pub line_named : Table → List ℕ → Reference
-line_named table id = record {
+abbrev pub line_reference : Table → List ℕ → Reference
+line_reference table id = record {
   member = Member.LineRef;
-  known = option_map (λ n. Route (record { 0 = n })) (position (bytes_eq id) table.routes);
+  known = route_named table id;
 }
 
-abbrev pub stop_named : Table → List ℕ → Reference
-stop_named table id = record {
+abbrev pub stop_reference : Table → List ℕ → Reference
+stop_reference table id = record {
   member = Member.StopPointRef;
-  known = option_map (λ n. Stop (record { 0 = n })) (position (bytes_eq id) table.stops);
+  known = stop_named table id;
 }
 
-abbrev pub journey_named : Table → ℤ → List ℕ → Reference
-journey_named table on id = record {
+abbrev pub journey_reference : Table → ℤ → List ℕ → Reference
+journey_reference table on id = record {
   member = Member.DatedVehicleJourneyRef;
-  known = option_map (λ n. Journey (record { 0 = n }) on) (position (bytes_eq id) table.trips);
+  known = journey_named table id on;
 }
 
 -- the reference that an object holds: one without its last member is passed over, but a journey needs its day and its
@@ -51,14 +50,14 @@ journey_named table on id = record {
 abbrev pub reference : AffectedKind → Table → Data → Result (List Reference) Fault
 reference Line table tree = do
   id ← optional_member text Member.LineRef tree
-  Ok (map (line_named table) (option_to_list id))
+  Ok (map (line_reference table) (option_to_list id))
 reference StopPoint table tree = do
   id ← optional_member text Member.StopPointRef tree
-  Ok (map (stop_named table) (option_to_list id))
+  Ok (map (stop_reference table) (option_to_list id))
 reference VehicleJourney table tree = do
   on ← required_member day Member.DataFrameRef tree
   id ← required_member text Member.DatedVehicleJourneyRef tree
-  Ok (journey_named table on id ∷ [])
+  Ok (journey_reference table on id ∷ [])
 
 -- the days of all journeys come before their ids
 abbrev pub day_in_form : Data → Bool

@@ -12,9 +12,8 @@ ghost use Rattle.stop_schedule.specs.Seen.{seen};
 
 use crate::steps::{Branch, Step, trees_at, walk};
 use gw_base::{List, Member};
-use journey_model::{Fault, Ref};
+use journey_model::{Fault, Ref, journey_named, route_named, stop_named};
 use json::Value;
-use service_day::Day;
 use siri_json::ReadFault;
 use siri_json::fields::{optional_text, required_day, required_text};
 use std::alloc::{AllocError, Global};
@@ -62,30 +61,6 @@ fn steps(kind: AffectedKind) -> &'static [Step]
     }
 }
 
-// The route with an id, if there is one.
-fn find_line(table: &Timetable, id: &str) -> Option<Ref>
-    ensures { result ≡ (spec.line_named (seen table.now) id.now).known }
-{
-    table.find_route(id).map(Ref::Route)
-}
-
-// The stop with an id, if there is one.
-fn find_stop(table: &Timetable, id: &str) -> Option<Ref>
-    ensures { result ≡ (spec.stop_named (seen table.now) id.now).known }
-{
-    table.find_stop(id).map(Ref::Stop)
-}
-
-// The trip with an id on a day, if there is one.
-fn find_journey(table: &Timetable, day: Day, id: &str) -> Option<Ref>
-    ensures { result ≡ (spec.journey_named (seen table.now) day id.now).known }
-{
-    match table.find_trip(id) {
-        Some(trip) => Some(Ref::Journey(trip, day)),
-        None => None,
-    }
-}
-
 // The line that an object names, if it names one, after the references that were found before.
 fn add_line(
     found: &mut List<Reference>,
@@ -99,7 +74,7 @@ fn add_line(
 {
     match optional_text(tree, Member::LineRef) {
         Ok(Some(id)) => {
-            let known = find_line(table, id);
+            let known = route_named(table, id);
             found.push(Reference {
                 member: Member::LineRef,
                 known,
@@ -124,7 +99,7 @@ fn add_stop(
 {
     match optional_text(tree, Member::StopPointRef) {
         Ok(Some(id)) => {
-            let known = find_stop(table, id);
+            let known = stop_named(table, id);
             found.push(Reference {
                 member: Member::StopPointRef,
                 known,
@@ -150,7 +125,7 @@ fn add_journey(
 {
     let day = required_day(tree, Member::DataFrameRef)?;
     let id = required_text(tree, Member::DatedVehicleJourneyRef)?;
-    let known = find_journey(table, day, id);
+    let known = journey_named(table, id, day);
     found.push(Reference {
         member: Member::DatedVehicleJourneyRef,
         known,

@@ -4,20 +4,20 @@ use Rattle.std.specs.Str.{IsAscii, is_utf8}
 use Rattle.std.proofs.lemmas.Bool.{leb-true, false≢true}
 use Rattle.std.proofs.lemmas.Bool.Decides.{nat_tests}
 use Rattle.std.proofs.lemmas.Str.{IsUtf8-from_ascii, is_utf8-from_IsUtf8}
-use Rattle.service_day.specs.Digits.{is_digit}
+use Rattle.std.specs.Char.{is_ascii_digit}
 use Rattle.stop_schedule.specs.Forms.{are_digits, clock, is_clock, is_sixty, seconds, sequence}
 use Rattle.stop_schedule.proofs.IdLemmas.{and-left, and-right}
 
 ascii-text : (text : List ℕ) → IsAscii text → is_utf8 text ≡ true
 ascii-text text ascii = is_utf8-from_IsUtf8 text (IsUtf8-from_ascii text ascii)
 
-digit-is-low : (byte : ℕ) → is_digit byte ≡ true → byte < 128
+digit-is-low : (byte : ℕ) → is_ascii_digit byte ≡ true → byte < 128
 digit-is-low byte digit = let low : byte ≤ 57 = leb-true byte 57 (and-right _ _ digit) in omega (arith, low)
 
 digits-are-ascii : (text : List ℕ) → are_digits text ≡ true → IsAscii text
 digits-are-ascii [] digits i = omega arith
-digits-are-ascii (byte ∷ text) digits zero = digit-is-low byte (and-left (is_digit byte) _ digits)
-digits-are-ascii (byte ∷ text) digits (suc i) = digits-are-ascii text (and-right (is_digit byte) _ digits) i
+digits-are-ascii (byte ∷ text) digits zero = digit-is-low byte (and-left (is_ascii_digit byte) _ digits)
+digits-are-ascii (byte ∷ text) digits (suc i) = digits-are-ascii text (and-right (is_ascii_digit byte) _ digits) i
 
 by-digits : (a b digits : Bool) (value : Option ℕ) → is_some (cond (a || b || not digits) None value) ≡ true
     → digits ≡ true
@@ -43,19 +43,19 @@ colon-is-low byte colon = grind (arith, nat_tests, colon)
 
 sixty-is-low : (tens ones : ℕ) → is_sixty tens ones ≡ true → (tens < 128) × (ones < 128)
 sixty-is-low tens ones sixty = (
-  digit-is-low tens (and-left (is_digit tens) _ sixty),
-  digit-is-low ones (and-left (is_digit ones) _ (and-right (is_digit tens) _ sixty)),
+  digit-is-low tens (and-left (is_ascii_digit tens) _ sixty),
+  digit-is-low ones (and-left (is_ascii_digit ones) _ (and-right (is_ascii_digit tens) _ sixty)),
 )
 
 clock-is-ascii : (tens : ℕ) (rest : List ℕ) → length rest ≡ 7 → is_clock tens rest ≡ true → IsAscii rest
 clock-is-ascii tens (h ∷ c ∷ m ∷ n ∷ d ∷ s ∷ t ∷ []) seven all =
-    let hours = and-right (is_digit tens) _ all in
-    let colon = and-right (is_digit h) _ hours in
+    let hours = and-right (is_ascii_digit tens) _ all in
+    let colon = and-right (is_ascii_digit h) _ hours in
     let minutes = and-right (c == 58) _ colon in
     let second = and-right (is_sixty m n) _ minutes in
     let seconds = sixty-is-low s t (and-right (d == 58) _ second) in
     let minute = sixty-is-low m n (and-left (is_sixty m n) _ minutes) in
-    at (digit-is-low h (and-left (is_digit h) _ hours)) (colon-is-low c (and-left (c == 58) _ colon)) minute.0 minute.1
+    at (digit-is-low h (and-left (is_ascii_digit h) _ hours)) (colon-is-low c (and-left (c == 58) _ colon)) minute.0 minute.1
     (colon-is-low d (and-left (d == 58) _ second)) seconds.0 seconds.1
   where
     at : h < 128 → c < 128 → m < 128 → n < 128 → d < 128 → s < 128 → t < 128 → IsAscii (h ∷ c ∷ m ∷ n ∷ d ∷ s ∷ t ∷ [])
@@ -85,7 +85,7 @@ long-clock : (text : List ℕ) → length text ≡ 8 → is_clock (slice_index t
 long-clock [] eight all = absurd (omega (arith, eight))
 long-clock (tens ∷ rest) eight all =
     let seven : length rest ≡ 7 = omega (arith, eight) in
-    first-is-ascii tens rest (digit-is-low tens (and-left (is_digit tens) _ all)) (clock-is-ascii tens rest seven all)
+    first-is-ascii tens rest (digit-is-low tens (and-left (is_ascii_digit tens) _ all)) (clock-is-ascii tens rest seven all)
 
 by-length : (text : List ℕ) (seven eight : Bool) → (length text == 7) ≡ seven → (length text == 8) ≡ eight
     → is_some (cond seven (clock 48 text) (cond eight (clock (slice_index text 0) (drop 1 text)) None)) ≡ true

@@ -4,13 +4,13 @@ use Rattle.std.specs.List.{list_all}
 use Rattle.std.specs.Str.{bytes_eq}
 use Rattle.service_day.specs.DayTexts.{day_of}
 use Rattle.service_day.specs.declared.days.DayForm.TheVariants.{Compact}
-use Rattle.service_day.specs.Digits.{is_digit}
+use Rattle.std.specs.Char.{is_ascii_digit}
 use Rattle.stop_schedule.specs.Limits.{number_limit}
 use Rattle.stop_schedule.specs.declared.forms.Form.{Form}
 use Rattle.stop_schedule.specs.declared.forms.Form.TheVariants.{Any, Id, Flag, Exception, Date, Sequence, Time}
 
 abbrev pub are_digits : List ℕ → Bool
-are_digits text = list_all is_digit text
+are_digits text = list_all is_ascii_digit text
 
 -- the number that digits name after those that name this value
 abbrev pub digits_value : ℕ → List ℕ → ℕ
@@ -32,12 +32,12 @@ two tens ones = 10 * (tens - 48) + (ones - 48)
 
 -- two bytes are the digits of a number below 60
 abbrev pub is_sixty : ℕ → ℕ → Bool
-is_sixty tens ones = is_digit tens && (is_digit ones && nat_lt (two tens ones) 60)
+is_sixty tens ones = is_ascii_digit tens && (is_ascii_digit ones && nat_lt (two tens ones) 60)
 
 -- a byte and seven others are `HH:MM:SS` with minutes and seconds below 60; 58 is the colon
 abbrev pub is_clock : ℕ → List ℕ → Bool
 is_clock tens rest =
-    is_digit tens && (is_digit (slice_index rest 0) && ((slice_index rest 1 == 58)
+    is_ascii_digit tens && (is_ascii_digit (slice_index rest 0) && ((slice_index rest 1 == 58)
     && (is_sixty (slice_index rest 2) (slice_index rest 3) && ((slice_index rest 4 == 58)
     && is_sixty (slice_index rest 5) (slice_index rest 6)))))
 

@@ -1,6 +1,5 @@
 //! The forms of fields (GTFS Schedule reference, field types). The functions meet `specs/Forms.antt`.
 ghost use Rattle.std.specs.Prelude.{◌≡◌, ◌≤◌, length, IfSome};
-ghost use Rattle.service_day.specs.Digits.{is_digit};
 ghost use Rattle.stop_schedule.specs.Forms as spec;
 ghost use Rattle.stop_schedule.specs.Limits.{time_limit};
 
@@ -47,19 +46,11 @@ pub(crate) fn date(text: &str) -> Option<Day>
     read_day(text, DayForm::Compact)
 }
 
-// Whether a byte is a decimal digit.
-#[inline(always)]
-fn is_digit(byte: u8) -> bool
-    ensures { result ≡ is_digit byte }
-{
-    byte >= b'0' && byte <= b'9'
-}
-
 // Whether each byte is a decimal digit.
 fn are_digits(text: &[u8]) -> bool
     ensures { result ≡ spec.are_digits text.now }
 {
-    text.iter().all(|byte| is_digit(*byte))
+    text.iter().all(|byte| byte.is_ascii_digit())
 }
 
 /// The number of a stop in its trip that digits name.
@@ -129,8 +120,8 @@ fn is_clock(tens: u8, rest: &[u8]) -> bool
     requires { length rest.now ≡ 7 }
     ensures { result ≡ spec.is_clock tens rest.now }
 {
-    is_digit(tens)
-        && is_digit(rest[0])
+    tens.is_ascii_digit()
+        && rest[0].is_ascii_digit()
         && rest[1] == b':'
         && is_sixty(rest[2], rest[3])
         && rest[4] == b':'
@@ -142,7 +133,7 @@ fn is_clock(tens: u8, rest: &[u8]) -> bool
 fn is_sixty(tens: u8, ones: u8) -> bool
     ensures { result ≡ spec.is_sixty tens ones }
 {
-    is_digit(tens) && is_digit(ones) && two(tens, ones) < 60
+    tens.is_ascii_digit() && ones.is_ascii_digit() && two(tens, ones) < 60
 }
 
 // The number that two digits name.

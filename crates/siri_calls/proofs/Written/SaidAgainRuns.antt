@@ -5,6 +5,7 @@ use Rattle.std.proofs.lemmas.Bool.{and_parts, leb-true}
 use Rattle.service_day.specs.Starts.{IsDayStart}
 use Rattle.service_day.specs.Windows.{start_in}
 use Rattle.stop_schedule.specs.Ids.{are_ids}
+use Rattle.stop_schedule.specs.Limits.{stop_limit}
 use Rattle.stop_schedule.specs.Sound.{IsSound}
 use Rattle.stop_schedule.specs.Stops.{is_timed}
 use Rattle.journey_model.specs.Runs.{Run}
@@ -15,7 +16,7 @@ use Rattle.siri_calls.specs.Written.Sayable.{IsSayable}
 -- the ids by which the stops of a run are numbered are ids, its stops are of them, and its day has a start
 pub record IsSoundRun (run : Run) : Type 0 where
   pub ids : are_ids run.ids ≡ true
-  pub few : length run.stops ≤ 250
+  pub few : length run.stops ≤ stop_limit
   pub known : list_all (λ row. nat_lt row.stop.0 (length run.ids)) run.stops ≡ true
   pub timed : list_all is_timed run.stops ≡ true
   pub start : IsDayStart run.start
