@@ -1,5 +1,5 @@
 //! How a row comes, takes the place of another one, or goes, together with its span.
-ghost use Rattle.std.specs.Prelude.{◌≡◌, ◌+◌, ◌-◌, ◌<◌, ◌≤◌, length, insert, remove, slice_set, slice_get, Some, vec_len, vec_capacity, option_map, map, drop};
+ghost use Rattle.std.specs.Prelude.{◌≡◌, ◌+◌, ◌-◌, ◌<◌, ◌≤◌, length, insert, remove, slice_set, slice_get, Some, vec_len, vec_capacity, option_map, drop};
 ghost use Rattle.span_pool.specs.Spans.{live_bytes};
 ghost use Rattle.feed_index.specs.Entries.{most_dead, settled};
 ghost use Rattle.feed_index.specs.Rows.{AreHeld, entries_of, GaveBack};

@@ -1,5 +1,5 @@
 //! The index.
-ghost use Rattle.std.specs.Prelude.{◌≡◌, ◌+◌, ◌-◌, ◌^◌, ◌<◌, ◌≤◌, ◌==◌, [], Some, None, length, drop, take, slice_get, option_map, OnOk, IsErr, IsOk, vec_len};
+ghost use Rattle.std.specs.Prelude.{◌≡◌, ◌+◌, ◌-◌, ◌^◌, ◌<◌, ◌≤◌, ◌==◌, [], Some, None, length, drop, slice_get, option_map, OnOk, IsErr, IsOk};
 ghost use Rattle.gw_base.specs.Count.{Counts, Rose};
 ghost use Rattle.gw_base.specs.Told.{PutsUnless, with_bytes};
 ghost use Rattle.span_pool.specs.Spans.{live_bytes};

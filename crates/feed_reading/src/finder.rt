@@ -1,7 +1,7 @@
 //! The fault that bytes have which are no feed: `specs/Faults.antt`. It is looked for only where the quick reader found
 //! no feed, or in a body no entity or header, since it keeps the place of each piece; and in a time that grows with the
 //! bytes: each field is looked at once for each known field of its message.
-ghost use Rattle.std.specs.Prelude.{◌≡◌, IfOk};
+ghost use Rattle.std.specs.Prelude.{IfOk};
 ghost use Rattle.feed_reading.specs.Faults.{HasFault, IsLeast};
 
 pub mod lengths;

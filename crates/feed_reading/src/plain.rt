@@ -1,7 +1,7 @@
 //! The plain reader of feeds: it follows the definition of what bytes mean, kind by kind and table by table, and keeps
 //! every list on the way. It runs last, where the quick reader found no feed and the finder no fault: so no clause has
 //! to say that what the quick reader refuses has a fault. Tests compare the quick reader with it.
-ghost use Rattle.std.specs.Prelude.{◌≡◌, IfOk, IsErrOf};
+ghost use Rattle.std.specs.Prelude.{IfOk, IsErrOf};
 ghost use Rattle.gw_base.specs.declared.messages.Feed.{Feed};
 ghost use Rattle.feed_reading.specs.Tables.{MeansFeed};
 

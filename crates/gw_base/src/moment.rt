@@ -1,5 +1,5 @@
 //! Moments of the years 1970 to 9998 in whole seconds.
-ghost use Rattle.std.specs.Prelude.{◌≡◌, ◌↔◌, ◌≤ℤ◌, pos, IsSome, IfSome};
+ghost use Rattle.std.specs.Prelude.{◌≡◌, ◌↔◌, IsSome, IfSome};
 ghost use Rattle.gw_base.specs.Moments.{IsMoment};
 
 use crate::limits::LAST_MOMENT;

@@ -1,7 +1,6 @@
 //! A text is read as a tree.
 ghost use Rattle.std.specs.Prelude.{◌≡◌, is_some, Some, None, Err, IfOk, IfErr};
 ghost use Rattle.std.specs.Str.{IsUtf8};
-ghost use Rattle.json.specs.Json.{Json};
 ghost use Rattle.json.specs.Value.{value_view};
 ghost use Rattle.serde_json.specs.Read.{of_json, read};
 ghost use Rattle.json_tree.specs.Faults.{Says};

@@ -1,11 +1,14 @@
-//! Calls and updates matched to stops, and the texts of faults.
-use gw_base::Member;
+//! Calls and updates matched to stops, what ids name, and the texts of faults and reports.
+use crate::of_stop_schedule::folder::read;
+use gw_base::{Bytes, List, Member, Text};
 use journey_model::{
-    DatedTrip, Fault, MatchFault, NamedStop, fault_text, match_call, match_update,
+    DatedTrip, Fault, MatchFault, NamedStop, Ref, Report, StopReading, add_report, fault_text,
+    filled_text, has_stop, journey_named, match_call, match_update, route_named, stop_named,
 };
 use service_day::{DayForm, read_day};
+use std::alloc::{AllocError, Global};
 use std::process::Abort;
-use stop_schedule::{StopNo, StopRow, TripNo};
+use stop_schedule::{RouteNo, StopNo, StopRow, Timetable, TripNo};
 
 // Faults with their texts.
 static TEXTS: [(Fault, &str); 6] = [
@@ -30,6 +33,77 @@ fn each_text(rt: &impl Abort, texts: &[(Fault, &str)]) {
 #[test]
 fn faults_have_their_texts(rt: HostRuntime) {
     each_text(&rt, &TEXTS);
+}
+
+// A report on three items, of which the last two are set aside.
+fn report(alloc: Global) -> Result<Report, AllocError> {
+    let mut aside = List::new(alloc);
+    aside.push((1, Fault::NotRunning))?;
+    aside.push((2, Fault::UnknownStop(4)))?;
+    Ok(Report {
+        taken: 1,
+        passed: 5,
+        aside,
+    })
+}
+
+// The lines of that report after a text.
+fn lines(alloc: Global, lead: &[u8]) -> Result<Bytes, AllocError> {
+    let mut lines = Bytes::new(alloc);
+    add_report(&mut lines, lead, &report(alloc)?)?;
+    Ok(lines)
+}
+
+#[test]
+fn a_report_has_a_line_for_each_item_set_aside(rt: HostRuntime) {
+    let lines = lines(rt.alloc(), b"a.json ").expect(&rt, "memory");
+    let wanted =
+        "a.json aside 1 NotRunning\na.json aside 2 UnknownStop 4\na.json taken 1 passed 5 aside 2\n";
+    assert!(rt; lines.as_slice() == wanted.as_bytes());
+}
+
+// The timetable of the sample folder.
+fn table(rt: &impl Abort, alloc: Global) -> Timetable {
+    let read = read(alloc, &[], None).expect(rt, "memory");
+    read.expect(rt, "a table")
+}
+
+// Ids name routes, stops and trips, or nothing.
+fn assert_named(rt: &impl Abort, table: &Timetable) {
+    let day = read_day("20240501", DayForm::Compact).expect(rt, "a day");
+    assert_eq!(rt; route_named(table, "R2"), Some(Ref::Route(RouteNo(1))));
+    assert_eq!(rt; route_named(table, "r2"), None);
+    assert_eq!(rt; stop_named(table, "C"), Some(Ref::Stop(StopNo(2))));
+    assert_eq!(rt; stop_named(table, ""), None);
+    assert_eq!(rt;
+        journey_named(table, "T2", day),
+        Some(Ref::Journey(TripNo(1), day))
+    );
+    assert_eq!(rt; journey_named(table, "R2", day), None);
+}
+
+#[test]
+fn ids_name_routes_stops_and_trips(rt: HostRuntime) {
+    assert_named(&rt, &table(&rt, rt.alloc()));
+}
+
+#[test]
+fn an_empty_text_counts_as_missing(rt: HostRuntime) {
+    let text = Text::copied(rt.alloc(), "T1").expect(&rt, "memory");
+    assert_eq!(rt; filled_text(&Some(text)), Some("T1"));
+    assert_eq!(rt; filled_text(&Some(Text::new(rt.alloc()))), None);
+    assert_eq!(rt; filled_text(&None), None);
+}
+
+#[test]
+fn a_stop_is_absent_skipped_or_timed(rt: HostRuntime) {
+    let timed = StopReading::Timed {
+        arrival: 0,
+        departure: 0,
+    };
+    assert!(rt; StopReading::Absent.is_absent() && !StopReading::Absent.is_skipped());
+    assert!(rt; StopReading::Skipped.is_skipped() && !StopReading::Skipped.is_absent());
+    assert!(rt; !timed.is_absent() && !timed.is_skipped());
 }
 
 // A trip that stops twice at its first stop.
@@ -62,6 +136,12 @@ fn loop_trip(rt: &impl Abort) -> DatedTrip<'static> {
         start: 1_714_514_400,
         stops: &LOOP,
     }
+}
+
+#[test]
+fn a_trip_has_its_stops(rt: HostRuntime) {
+    assert!(rt; has_stop(&LOOP, StopNo(1)));
+    assert!(rt; !has_stop(&LOOP, StopNo(2)));
 }
 
 // Calls: the place of the one before, the stop, its order, and the place.

@@ -1,7 +1,7 @@
 //! Folders that are read, and their first faults.
 mod failures;
 mod files;
-mod folder;
+pub(crate) mod folder;
 mod large;
 mod names;
 mod rows;

@@ -1,5 +1,5 @@
 //! Dates as texts, `YYYY-MM-DD` and `YYYYMMDD`, read and written.
-ghost use Rattle.std.specs.Prelude.{◌≡◌, Some, All, length, ◌≤◌};
+ghost use Rattle.std.specs.Prelude.{◌≡◌, Some, All, length};
 ghost use Rattle.service_day.specs.DayTexts.{day_of, dashed_day, compact_day, dashed_text, compact_text};
 ghost use Rattle.service_day.specs.Digits.{IsDigit};
 ghost use Rattle.service_day.specs.declared.days.DayForm.TheVariants as Form;

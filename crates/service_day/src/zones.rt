@@ -1,6 +1,5 @@
 //! Zones: the rules of a place's clock, read by `jiff` from a POSIX rule or from a TZif file.
-ghost use Rattle.std.specs.Prelude.{◌≡◌, ◌↔◌, ◌<◌, ℤ, pos, Err, IsOk, IsErr, IsSome, IfOk, IfErr};
-ghost use Rattle.jiff_core.specs.Calendar.{IsBetween};
+ghost use Rattle.std.specs.Prelude.{◌≡◌, ◌↔◌, ◌<◌, ℤ, Err, IsOk, IsErr, IsSome, IfOk, IfErr};
 ghost use Rattle.jiff_core.specs.declared.civil.datetime.DateTime.{DateTime as Shown};
 ghost use Rattle.jiff_tz.specs.Ambiguous.{compatible_offset};
 ghost use Rattle.jiff_tz.specs.PosixReader.{read_whole};

@@ -1,5 +1,5 @@
 -- The times of the stops of a journey are moments; and its readings are one for each stop.
-use Rattle.std.proofs.Common.{◌≡◌, ◌&&◌, ◌<◌, ◌∷◌, [], ℕ, ℤ, true, false, List, length, take, drop, get_or, Option, Some, None, option_map, refl, sym, subst, ap, arith}
+use Rattle.std.proofs.Common.{◌≡◌, ◌&&◌, ◌<◌, ◌∷◌, [], ℕ, ℤ, true, false, List, length, take, drop, get_or, Option, Some, None, option_map, refl, sym, subst, ap}
 use Rattle.std.specs.Prelude.{All, nat_le, slice_get}
 use Rattle.std.proofs.lemmas.Bool.{and_parts, false≢true}
 use Rattle.std.proofs.lemmas.Option.{none-some}

@@ -1,5 +1,5 @@
 //! The files of a folder, by name.
-ghost use Rattle.std.specs.Prelude.{◌≡◌, ◌≤◌, [], ◌++◌, length, IfSome, IfOk};
+ghost use Rattle.std.specs.Prelude.{◌≡◌, IfSome, IfOk};
 ghost use Rattle.std.specs.String.{string_bytes};
 ghost use Rattle.gw_base.specs.Count.{Counts};
 ghost use Rattle.gw_base.specs.Directory.{bytes_of};

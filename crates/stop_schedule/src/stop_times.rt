@@ -3,11 +3,10 @@ ghost use Rattle.std.specs.Prelude.{◌≡◌, ◌++◌, ◌<◌, ◌≤◌, ◌
 ghost use Rattle.std.specs.Option.{MatchOption, option_map};
 ghost use Rattle.stop_schedule.specs.Rising.{IsBetween, has_sequence, is_rising};
 ghost use Rattle.stop_schedule.specs.declared.stop_times.LoadedStop.{LoadedStop};
-ghost use Rattle.std.specs.List.{list_any};
 ghost use Rattle.stop_schedule.specs.StopTimes as spec;
 
 use crate::numbers::StopNo;
-use std::alloc::{AllocError, Global};
+use std::alloc::AllocError;
 
 /// A stop of a trip, with its times in seconds from the start of the service day (GTFS Schedule reference,
 /// stop_times.txt).

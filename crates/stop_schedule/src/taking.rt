@@ -1,7 +1,6 @@
 //! The rows of a file, taken one after the other by what is made of them.
 ghost use Rattle.std.specs.Prelude.{◌≡◌, ◌≤◌, ◌+◌, ◌++◌, ◌∷◌, [], ℕ, Some, List, length, OnOk, IfNone, IfSome};
 ghost use Rattle.gw_base.specs.Count.{Counts};
-ghost use Rattle.gw_base.specs.Directory.{bytes_of};
 ghost use Rattle.stop_schedule.specs.Failures.{IfFailed};
 ghost use Rattle.stop_schedule.specs.Answers.{Finds, HasFailed};
 ghost use Rattle.stop_schedule.specs.Keeping.{KeepsTo};

@@ -138,23 +138,6 @@ pub record EndsWithLength (number at len : ℕ) (now : List ℕ) : Type 0 where
   pub sound : IsSoundTag (number * 8 + 2)
   pub sized : IsVarint size len
 
--- the bytes are whole fields up to a place, then the tag and the length of a field, and then its payload but for so
--- many bytes
-pub record EndsInField (number len left at : ℕ) (now : List ℕ) : Type 0 where
-  pub front : List ℕ
-  pub tag : List ℕ
-  pub size : List ℕ
-  pub part : List ℕ
-  pub fields : List WireField
-  pub joined : now ≡ front ++ (tag ++ (size ++ part))
-  pub read : AreFields front fields
-  pub place : at ≡ length front
-  pub tagged : IsVarint tag (number * 8 + 2)
-  pub sound : IsSoundTag (number * 8 + 2)
-  pub sized : IsVarint size len
-  pub lacks : length part + left ≡ len
-  pub some : 0 < left
-
 -- the bytes end with the payload of a field that ends here
 abbrev pub EndsWithBytes : ℕ → ℕ → ℕ → List ℕ → Type 0
 EndsWithBytes number len at now =

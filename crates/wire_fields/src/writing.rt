@@ -1,6 +1,5 @@
 //! Numbers and fields after what stands in a buffer, in the spellings of `specs/Spelling.antt`.
 ghost use Rattle.std.specs.Prelude.{◌≡◌, ◌++◌, ◌+◌, ◌-◌, ◌*◌, ◌<◌, ◌≤◌, length};
-ghost use Rattle.gw_base.specs.Written.{Written};
 ghost use Rattle.wire_fields.specs.Spelling.{varint, varint_field, bytes_field};
 
 use gw_base::Buf;

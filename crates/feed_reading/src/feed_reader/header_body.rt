@@ -1,11 +1,9 @@
 //! The bodies of a feed's header: what one says, and what all say so far, or the first fault of one.
-ghost use Rattle.std.specs.Prelude.{◌≡◌, IfOk, map};
-ghost use Rattle.wire_fields.specs.Seen.{field_of};
+ghost use Rattle.std.specs.Prelude.{◌≡◌, IfOk};
 ghost use Rattle.feed_reading.specs.FeedSteps.{InHeaderBody, IsHeadOf, head_after};
 ghost use Rattle.feed_reading.specs.Faults.{IsLeast};
 ghost use Rattle.feed_reading.specs.FeedPieces.{OfHeadSoFar};
 ghost use Rattle.feed_reading.specs.Pieces.{piece_of};
-ghost use Rattle.feed_reading.specs.Plain.{Finds};
 
 use crate::fault::FeedFault;
 use crate::feed_reader::state::HeadSoFar;

@@ -1,6 +1,6 @@
 //! The reader: one step of the top level after the other, and what each body means. It meets `StandsFor` of
 //! `specs/FeedPieces.antt`.
-ghost use Rattle.std.specs.Prelude.{◌≡◌, ◌∷◌, [], ◌++◌, ◌+◌, ◌-◌, ◌<◌, ◌≤◌, ℕ, List as Values, length, take, Some, IfOk, IfErr};
+ghost use Rattle.std.specs.Prelude.{◌≡◌, [], ◌++◌, ◌+◌, ◌-◌, ◌<◌, ◌≤◌, ℕ, List as Values, length, take, Some, IfOk, IfErr};
 ghost use Rattle.gw_base.specs.declared.messages.Entity as entities;
 ghost use Rattle.gw_base.specs.Limits.{body_limit};
 ghost use Rattle.wire_fields.specs.TopReading as tops;

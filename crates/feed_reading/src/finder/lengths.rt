@@ -1,5 +1,5 @@
 //! Entities whose stated length is over the limit.
-ghost use Rattle.std.specs.Prelude.{◌≡◌, MatchBool};
+ghost use Rattle.std.specs.Prelude.{MatchBool};
 ghost use Rattle.feed_reading.specs.Faults.{IsTooLong, IsLeast};
 ghost use Rattle.feed_reading.specs.Found.{IsLongHere};
 

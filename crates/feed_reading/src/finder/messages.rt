@@ -1,8 +1,8 @@
 //! The faults of messages: one rule for each kind of field, which holds for all messages.
-ghost use Rattle.std.specs.Prelude.{◌≡◌, ℕ, IfOk, ◌⊎◌};
+ghost use Rattle.std.specs.Prelude.{IfOk};
 ghost use Rattle.gw_base.specs.declared.required.Required.{Required};
 ghost use Rattle.feed_reading.specs.declared.fault.FeedFault.{FeedFault};
-ghost use Rattle.feed_reading.specs.Faults.{Inside, Only, InSome, IsTorn, IsNotText, IsMissing, HasFaultIn, IsLeast};
+ghost use Rattle.feed_reading.specs.Faults.{Inside, InSome, HasFaultIn, IsLeast};
 ghost use Rattle.feed_reading.specs.Pieces.{piece_of, Listed, InText, InMessage, InEach, InRequired};
 
 use crate::fault::FeedFault;

@@ -1,7 +1,5 @@
 //! Pieces of a message: what stands in them, and where they break.
-ghost use Rattle.std.specs.Prelude.{◌≡◌, ◌≢◌, ◌+◌, ◌<◌, ◌≤◌, ◌^◌, ◌++◌, [], List, map, min, length, Option, Some, None, IsTrue, IfOk, IfErr, MatchOption, MatchBool, OnOk, ◌⊎◌};
-ghost use Rattle.wire_fields.specs.Grammar.{WireField, AreFields};
-ghost use Rattle.wire_fields.specs.Breaks.{IsBroken};
+ghost use Rattle.std.specs.Prelude.{◌≡◌, ◌+◌, ◌<◌, [], List, min, length, Option, Some, None, IfOk, IfErr, MatchOption, MatchBool, OnOk};
 ghost use Rattle.wire_fields.specs.Seen.{field_of};
 ghost use Rattle.std.specs.List.{AllByRecursion};
 ghost use Rattle.feed_reading.specs.Faults.{Stands, Inside, InSome, IsTorn, IsNotText, IsMissing, missing_place, IsLeast};

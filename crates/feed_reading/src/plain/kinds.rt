@@ -2,7 +2,7 @@
 ghost use Rattle.std.specs.Prelude.{◌≡◌, ◌==◌, None, map, option_map, if◌then◌else◌, IfOk, MatchResult, IsUtf8};
 ghost use Rattle.std.specs.List.{last_or, AllByRecursion};
 ghost use Rattle.wire_fields.specs.Seen.{payload_of, field_of};
-ghost use Rattle.feed_reading.specs.Meaning.{number_in, body_in, numbers, bodies, IsUint64, IsUint32, IsInt64, IsInt32, IsEnum, IsBool, IsText};
+ghost use Rattle.feed_reading.specs.Meaning.{number_in, body_in, bodies, IsUint64, IsUint32, IsInt64, IsInt32, IsEnum, IsBool, IsText};
 ghost use Rattle.feed_reading.specs.Plain.{Finds};
 
 use crate::plain_fault::PlainFault;

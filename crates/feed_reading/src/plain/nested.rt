@@ -1,7 +1,7 @@
 //! Messages in messages, by the rules of `specs/Meaning.antt`, which are the same for all messages.
 ghost use Rattle.std.specs.Prelude.{◌≡◌, Some, List, map, IfOk};
 ghost use Rattle.std.specs.List.{concat};
-ghost use Rattle.wire_fields.specs.Grammar.{WireField, AreFields};
+ghost use Rattle.wire_fields.specs.Grammar.{WireField};
 ghost use Rattle.wire_fields.specs.Seen.{field_of};
 ghost use Rattle.feed_reading.specs.Meaning.{Means, AreBodies, IsMessage, AreMessages};
 ghost use Rattle.feed_reading.specs.Plain.{Finds};

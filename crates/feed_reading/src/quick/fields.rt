@@ -1,5 +1,5 @@
 //! One field more: what the last number and the last text of a field number are after it.
-ghost use Rattle.std.specs.Prelude.{◌≡◌, ◌==◌, ◌%◌, ◌^◌, ℕ, List, option_map, unwrap_or, not, false, Some, IfOk};
+ghost use Rattle.std.specs.Prelude.{◌≡◌, ◌==◌, ◌%◌, ◌^◌, option_map, unwrap_or, not, false, Some, IfOk};
 ghost use Rattle.std.specs.Int.{w32, w64, cast_signed};
 ghost use Rattle.wire_fields.specs.Seen.{field_of};
 ghost use Rattle.feed_reading.specs.Meaning.{IsUint64, IsText};

@@ -1,6 +1,5 @@
 //! The bodies of a message that is read from all its pieces together.
 ghost use Rattle.std.specs.Prelude.{◌≡◌, ℕ, List, [], ◌∷◌, ◌++◌, IfOk, OnOk};
-ghost use Rattle.wire_fields.specs.Grammar.{WireField};
 ghost use Rattle.wire_fields.specs.Seen.{field_of};
 ghost use Rattle.feed_reading.specs.Partly.{Goes, IsFoundIn, IsFound, AreJoined};
 ghost use Rattle.feed_reading.specs.declared.quick.found.Found.TheVariants.{Joined};

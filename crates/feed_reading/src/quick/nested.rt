@@ -1,5 +1,5 @@
 //! Messages that are read from the front, by one rule for all.
-ghost use Rattle.std.specs.Prelude.{◌≡◌, ℕ, List, [], Some, IfOk, OnOk};
+ghost use Rattle.std.specs.Prelude.{ℕ, List, [], Some, IfOk, OnOk};
 ghost use Rattle.wire_fields.specs.Grammar.{WireField};
 ghost use Rattle.wire_fields.specs.Seen.{field_of};
 ghost use Rattle.feed_reading.specs.Meaning.{Means, IsMessage, AreMessages};

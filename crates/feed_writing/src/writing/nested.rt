@@ -1,9 +1,9 @@
 //! Messages in messages: how long they are, and how they are written after what stands in a buffer.
-ghost use Rattle.std.specs.Prelude.{◌≡◌, ◌<◌, ◌≤◌, ◌^◌, ℕ, List, ◌++◌, length, IfSome};
+ghost use Rattle.std.specs.Prelude.{◌<◌, ◌≤◌, ℕ, List, length, IfSome};
 ghost use Rattle.std.specs.List.{flat_map, AllByRecursion};
 ghost use Rattle.wire_fields.specs.Spelling.{bytes_field};
 ghost use Rattle.gw_base.specs.declared.messages.Translation.{Translation};
-ghost use Rattle.feed_writing.specs.Written.{if_there, translated_string, translated_field};
+ghost use Rattle.feed_writing.specs.Written.{if_there, translated_field};
 ghost use Rattle.feed_writing.specs.Sound.{IsSoundTranslation};
 ghost use Rattle.feed_writing.specs.Sizes.{Counts, Appends};
 

@@ -1,5 +1,5 @@
 -- The run of a journey that a delivery says: its ids, its stops and its times.
-use Rattle.std.proofs.Common.{◌≡◌, ℕ, ◌<◌, ◌≤◌, length, true, nat_lt, Option, Some, None, IfSome, option_map, arith, subst, ℤ}
+use Rattle.std.proofs.Common.{◌≡◌, ℕ, ◌<◌, ◌≤◌, length, true, nat_lt, Option, Some, None, IfSome, option_map, subst, ℤ}
 use Rattle.std.specs.List.{list_all}
 use Rattle.std.proofs.lemmas.Bool.{and_parts, leb-true}
 use Rattle.service_day.specs.Starts.{IsDayStart}

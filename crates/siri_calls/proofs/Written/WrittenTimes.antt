@@ -1,7 +1,6 @@
 -- The readings of a journey, one near each stop of its trip.
 use Rattle.std.proofs.Common.{◌≡◌, ℕ, ℤ, map, ◌<◌, true, List, [], ◌∷◌, length, slice_get, Some, refl, arith, suc, zero}
 use Rattle.std.proofs.lemmas.Bool.{and_parts}
-use Rattle.std.proofs.lemmas.Bool.Decides.{nat_tests}
 use Rattle.stop_schedule.specs.Planned.{planned}
 use Rattle.stop_schedule.specs.declared.stop_times.StopRow.{StopRow}
 use Rattle.journey_model.specs.Readings.{are_near, fits_trip, is_near}

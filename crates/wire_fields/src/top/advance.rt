@@ -1,5 +1,5 @@
 //! Reading on in an item, over any cuts.
-ghost use Rattle.std.specs.Prelude.{◌≡◌, ◌≢◌, ℕ, List, ◌++◌, ◌<◌, ◌≤◌, length, take};
+ghost use Rattle.std.specs.Prelude.{◌≢◌, ℕ, List, ◌++◌, ◌<◌, ◌≤◌, length, take};
 ghost use Rattle.wire_fields.specs.declared.top.part.Part.TheVariants as parts;
 ghost use Rattle.wire_fields.specs.Grammar.{IsVarint};
 ghost use Rattle.wire_fields.specs.TopReading.{IsBegun, IsTagged, IsPart, IsInBounds};

@@ -1,5 +1,5 @@
 //! The bytes of a number, read over any cuts.
-ghost use Rattle.std.specs.Prelude.{◌≡◌, ℕ, List, ◌++◌, ◌<◌, ◌≤◌, length, take};
+ghost use Rattle.std.specs.Prelude.{ℕ, List, ◌++◌, ◌<◌, ◌≤◌, length, take};
 ghost use Rattle.wire_fields.specs.TopReading.{IsBegun};
 ghost use Rattle.wire_fields.specs.TopSteps.{Chains, IsFew};
 
