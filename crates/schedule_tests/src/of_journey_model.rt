@@ -1,5 +1,5 @@
 //! Calls and updates matched to stops, what ids name, and the texts of faults and reports.
-use crate::of_stop_schedule::folder::read;
+use crate::of_stop_schedule::folder::table;
 use gw_base::{Bytes, List, Member, Text};
 use journey_model::{
     DatedTrip, Fault, MatchFault, NamedStop, Ref, Report, StopReading, add_report, fault_text,
@@ -60,12 +60,6 @@ fn a_report_has_a_line_for_each_item_set_aside(rt: HostRuntime) {
     let wanted =
         "a.json aside 1 NotRunning\na.json aside 2 UnknownStop 4\na.json taken 1 passed 5 aside 2\n";
     assert!(rt; lines.as_slice() == wanted.as_bytes());
-}
-
-// The timetable of the sample folder.
-fn table(rt: &impl Abort, alloc: Global) -> Timetable {
-    let read = read(alloc, &[], None).expect(rt, "memory");
-    read.expect(rt, "a table")
 }
 
 // Ids name routes, stops and trips, or nothing.

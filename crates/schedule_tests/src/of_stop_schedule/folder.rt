@@ -130,6 +130,12 @@ pub fn read(
     Ok(read_timetable(alloc, &mut files, "g"))
 }
 
+/// The sample's timetable.
+pub fn table(rt: &impl Abort, alloc: Global) -> Timetable {
+    let read = read(alloc, &[], None).expect(rt, "memory");
+    read.expect(rt, "a timetable")
+}
+
 /// What is read of the sample with these files in place of its own, and with these rows of stops and of trips.
 pub fn read_many(
     alloc: Global,

@@ -1,15 +1,8 @@
 //! Trips, stops and routes by their ids, and the days on which trips run.
-use super::folder::read;
+use super::folder::table;
 use service_day::{DayForm, read_day};
-use std::alloc::Global;
 use std::process::Abort;
 use stop_schedule::{Timetable, TripNo};
-
-// The sample's table.
-fn table(rt: &impl Abort, alloc: Global) -> Timetable {
-    let read = read(alloc, &[], None).expect(rt, "memory");
-    read.expect(rt, "a table")
-}
 
 // Whether a trip runs on a day, where both are known.
 fn runs(table: &Timetable, trip: &str, day: &str) -> Option<bool> {
