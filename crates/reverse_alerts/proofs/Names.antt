@@ -11,12 +11,12 @@ use Rattle.stop_schedule.specs.Ids.{are_ids}
 use Rattle.stop_schedule.specs.Sound.{IsSound}
 use Rattle.stop_schedule.specs.Table.{Table}
 use Rattle.journey_model.specs.Ids.{id_of}
-use Rattle.journey_model.specs.Names.{filled_text}
+use Rattle.journey_model.specs.Names.{filled_text, journey_named, route_named, stop_named}
 use Rattle.journey_model.specs.declared.situation.Ref.{Ref}
 use Rattle.journey_model.specs.declared.situation.Ref.TheVariants.{Route, Stop, Journey}
 use Rattle.alert_map.specs.Alerts.{selector_of}
 use Rattle.siri_calls.proofs.Written.SaidAgainIds.{id-at, position-id, some-id}
-use Rattle.reverse_alerts.specs.Kept.{all_named, journey_dated, described_journey, journey_named, named, one_named, route_named, stop_named}
+use Rattle.reverse_alerts.specs.Kept.{all_named, journey_dated, described_journey, named, one_named}
 use Rattle.reverse_alerts.proofs.DayRange.{IsDay-day_of}
 use Rattle.reverse_alerts.proofs.Sayable.{CanSay}
 

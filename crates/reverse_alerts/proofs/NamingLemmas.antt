@@ -13,10 +13,10 @@ use Rattle.service_day.specs.DayTexts.{day_of}
 use Rattle.service_day.specs.declared.days.DayForm.TheVariants.{Compact}
 use Rattle.stop_schedule.specs.Table.{Table}
 use Rattle.alert_map.specs.Known.{IsKnown}
-use Rattle.journey_model.specs.Names.{filled_text}
+use Rattle.journey_model.specs.Names.{filled_text, journey_named, route_named, stop_named}
 use Rattle.journey_model.specs.declared.situation.Ref.{Ref}
 use Rattle.journey_model.specs.declared.situation.Ref.TheVariants.{Route, Stop, Journey}
-use Rattle.reverse_alerts.specs.Kept.{all_named, is_journey, is_route, is_stop, journey_dated, described_journey, journey_named, named, one_named, route_named, stop_named}
+use Rattle.reverse_alerts.specs.Kept.{all_named, is_journey, is_route, is_stop, journey_dated, described_journey, named, one_named}
 use Rattle.reverse_alerts.specs.Naming.{AreKnown, count_of, refs_of, with_named}
 use Rattle.reverse_alerts.specs.Progress.{none_named}
 use Rattle.reverse_alerts.specs.Taken.{affects_fault}
