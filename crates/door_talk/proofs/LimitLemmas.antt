@@ -6,7 +6,10 @@ use Rattle.std.specs.Str.{bytes_eq}
 use Rattle.std.specs.Str.Parse.{digits_value}
 use Rattle.std.proofs.lemmas.List.{length-drop}
 use Rattle.gw_base.specs.Limits.{body_limit}
-use Rattle.http_talk.specs.Asked.{IsAnswer, asks, is_named, is_number, is_post, length_of, length_said, limited, many_lines, no_head, path_of, target_of, values_of, with_fields, with_length, with_target}
+use Rattle.http_talk.specs.Asked.{IsAnswer, action_of, asks, is_named, is_number, length_of, length_said, limited, many_lines, no_head, path_of, target_of, values_of, with_action, with_fields, with_length, with_target}
+use Rattle.gw_base.specs.declared.kind.Kind.{Kind}
+use Rattle.http_talk.specs.declared.target.Action.{Action}
+use Rattle.http_talk.specs.declared.target.Action.TheVariants as action
 use Rattle.http_talk.specs.Request.{IsHead}
 use Rattle.http_talk.specs.declared.refusal.Refusal.{Refusal}
 use Rattle.http_talk.specs.declared.refusal.Refusal.TheVariants as refusal
@@ -51,12 +54,12 @@ of_length : (target : Target) (size : Result ℕ Refusal) → IfOk size Small �
 of_length target (Ok size) small = small
 of_length target (Err why) small = tt
 
+of_action : (action : Action) (target : Target) (fields : List (List ℕ × List ℕ)) → IfOk (with_action action target fields) HasSmall
+of_action (action.Get resource) target fields = omega arith
+of_action (action.Post kind) target fields = of_length target (length_of fields) (length_small fields)
+
 of_target : (target : Target) (fields : List (List ℕ × List ℕ)) → IfOk (with_target target fields) HasSmall
-of_target target fields = by (is_post target)
-  where
-    by : (c : Bool) → IfOk (if c then with_length target (length_of fields) else Ok (record { target = target; length = 0 })) HasSmall
-    by true = of_length target (length_of fields) (length_small fields)
-    by false = omega arith
+of_target target fields = of_action (action_of target) target fields
 
 of_fields : (target : Result Target Refusal) (fields : List (List ℕ × List ℕ)) → IfOk (with_fields target fields) HasSmall
 of_fields (Ok target) fields = of_target target fields
@@ -81,10 +84,10 @@ pub one_more : (held piece came : List ℕ) (count left : ℕ) → left + length
 one_more held piece came count left all most front size = omega (arith, all, most, ap length front, size, length-append held (take count piece))
 
 -- after a head that is read with a prefix of its body
-pub within : (bytes part more : List ℕ) (count : ℕ) (head : Head) → length bytes ≤ 16384
-    → ((later : List ℕ) → IsHead (bytes ++ later) count (Ok head)) → is_post head.target ≡ true
+pub within : (bytes part more : List ℕ) (count : ℕ) (head : Head) (kind : Kind) → length bytes ≤ 16384
+    → ((later : List ℕ) → IsHead (bytes ++ later) count (Ok head)) → action_of head.target ≡ action.Post kind
     → drop count bytes ≡ part → count ≤ length bytes → length more ≤ head.length - length part → IsWithin (bytes ++ more)
-within bytes part more count head small is_head post after long up = by (nat_le head.length (length part)) refl
+within bytes part more count head kind small is_head post after long up = by (nat_le head.length (length part)) refl
   where
     le : (a b : ℕ) → nat_le a b ≡ true → a ≤ b
     le a b e = grind arith
@@ -95,4 +98,4 @@ within bytes part more count head small is_head post after long up = by (nat_le 
     by : (c : Bool) → nat_le head.length (length part) ≡ c → IsWithin (bytes ++ more)
     by true e = inl (omega (arith, small, up, le head.length (length part) e, length-append bytes more))
     by false e =
-        inr (count, head, is_head more, post, omega (arith, up, gt head.length (length part) e, ap length after, length-drop count bytes, length-append bytes more, long), small_body (bytes ++ more) count head (is_head more))
+        inr (count, head, kind, is_head more, post, omega (arith, up, gt head.length (length part) e, ap length after, length-drop count bytes, length-append bytes more, long), small_body (bytes ++ more) count head (is_head more))

@@ -4,12 +4,14 @@ use Rattle.std.specs.Prelude.{MatchOption, ◌↔◌, nat_le, if◌then◌else�
 use Rattle.std.proofs.Math.Seq.{take-append_seam}
 use Rattle.std.proofs.lemmas.List.{append_assoc}
 use Rattle.gw_base.specs.Connections.{Beside, Connections, Takes}
-use Rattle.http_talk.specs.Asked.{is_post}
+use Rattle.gw_base.specs.declared.kind.Kind.{Kind}
+use Rattle.http_talk.specs.Asked.{action_of}
+use Rattle.http_talk.specs.declared.target.Action.TheVariants as action
+use Rattle.http_talk.specs.declared.target.Resource.{Resource}
 use Rattle.http_talk.specs.Request.{Get, IsHead, IsRefused, IsRequest, Post, Refused, headed, too_long}
 use Rattle.http_talk.specs.declared.refusal.Refusal.{Refusal}
 use Rattle.http_talk.specs.declared.refusal.Refusal.TheVariants as refusal
 use Rattle.http_talk.specs.declared.target.Head.{Head}
-use Rattle.http_talk.specs.declared.target.Target.{Target}
 use Rattle.door_talk.specs.Bodies.{StandsOn}
 use Rattle.door_talk.specs.Requests.{HasRead}
 
@@ -57,37 +59,38 @@ refused input why (inl (long, is)) = too_long long (ap Refused is)
 refused input why (inr (count, is_head)) = headed count (Err why) is_head refl
 
 -- a GET
-pub gets : (input : List ℕ) (count : ℕ) (head : Head) → IsHead input count (Ok head) → is_post head.target ≡ false → IsRequest input (Get head.target)
-gets input count head is_head get = headed count (Ok head) is_head (rw get refl)
+pub gets : (input : List ℕ) (count : ℕ) (head : Head) (resource : Resource) → IsHead input count (Ok head) → action_of head.target ≡ action.Get resource
+    → IsRequest input (Get resource)
+gets input count head resource is_head get = headed count (Ok head) is_head (rw get refl)
 
-whole : (target : Target) (size : ℕ) (body rest : List ℕ) → length body ≡ size
-    → (if nat_le size (length (body ++ rest)) then Post target (take size (body ++ rest)) else Refused refusal.Cut) ≡ Post target body
-whole target size body rest long =
-    rw (at size (length (body ++ rest)) (omega (arith, length-append body rest))) (ap (Post target) (ap (λ (n : ℕ). take n (body ++ rest)) (sym long) ∙ take-append_seam body rest))
+whole : (kind : Kind) (size : ℕ) (body rest : List ℕ) → length body ≡ size
+    → (if nat_le size (length (body ++ rest)) then Post kind (take size (body ++ rest)) else Refused refusal.Cut) ≡ Post kind body
+whole kind size body rest long =
+    rw (at size (length (body ++ rest)) (omega (arith, length-append body rest))) (ap (Post kind) (ap (λ (n : ℕ). take n (body ++ rest)) (sym long) ∙ take-append_seam body rest))
   where
     at : (a b : ℕ) → a ≤ b → nat_le a b ≡ true
     at a b h = grind arith
 
-ends : (target : Target) (size : ℕ) (body : List ℕ) → length body < size
-    → (if nat_le size (length body) then Post target (take size body) else Refused refusal.Cut) ≡ Refused refusal.Cut
-ends target size body short = rw (at size (length body) short) refl
+ends : (kind : Kind) (size : ℕ) (body : List ℕ) → length body < size
+    → (if nat_le size (length body) then Post kind (take size body) else Refused refusal.Cut) ≡ Refused refusal.Cut
+ends kind size body short = rw (at size (length body) short) refl
   where
     at : (a b : ℕ) → b < a → nat_le a b ≡ false
     at a b h = grind arith
 
 -- a POST, whose body is whole, and one whose input ends before
-pub posts : (input body rest : List ℕ) (count : ℕ) (head : Head) → IsHead input count (Ok head) → is_post head.target ≡ true
-    → drop count input ≡ body ++ rest → length body ≡ head.length → IsRequest input (Post head.target body)
-posts input body rest count head is_head post after size = headed count (Ok head) is_head (rw (post, after) (sym (whole head.target head.length body rest size)))
+pub posts : (input body rest : List ℕ) (count : ℕ) (head : Head) (kind : Kind) → IsHead input count (Ok head) → action_of head.target ≡ action.Post kind
+    → drop count input ≡ body ++ rest → length body ≡ head.length → IsRequest input (Post kind body)
+posts input body rest count head kind is_head post after size = headed count (Ok head) is_head (rw (post, after) (sym (whole kind head.length body rest size)))
 
-pub cut : (input body : List ℕ) (count : ℕ) (head : Head) → IsHead input count (Ok head) → is_post head.target ≡ true
+pub cut : (input body : List ℕ) (count : ℕ) (head : Head) (kind : Kind) → IsHead input count (Ok head) → action_of head.target ≡ action.Post kind
     → drop count input ≡ body → length body < head.length → IsRequest input (Refused refusal.Cut)
-cut input body count head is_head post after short = headed count (Ok head) is_head (rw (post, after) (sym (ends head.target head.length body short)))
+cut input body count head kind is_head post after short = headed count (Ok head) is_head (rw (post, after) (sym (ends kind head.length body short)))
 
 -- ---- the end of the input
 
 -- ---- a body that is taken as it arrives
 
 -- one piece more stands with what stood before
-pub stands_on : (Before Mid Now : ℤ → Target → List ℕ → Type 0) (x y : List ℕ) → StandsOn Before Mid x → StandsOn Mid Now y → StandsOn Before Now (x ++ y)
-stands_on Before Mid Now x y h t moment target front before = subst (Now moment target) (append_assoc front x y) (t moment target (front ++ x) (h moment target front before))
+pub stands_on : (Before Mid Now : ℤ → Kind → List ℕ → Type 0) (x y : List ℕ) → StandsOn Before Mid x → StandsOn Mid Now y → StandsOn Before Now (x ++ y)
+stands_on Before Mid Now x y h t moment kind front before = subst (Now moment kind) (append_assoc front x y) (t moment kind (front ++ x) (h moment kind front before))

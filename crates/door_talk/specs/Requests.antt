@@ -1,13 +1,14 @@
 -- What a connection asks for, as far as its input was read (RFC 9112).
-use Rattle.std.specs.Prelude.{◌≡◌, ◌≤◌, ◌+◌, ◌++◌, ◌⊎◌, ℕ, true, false, ⊤, List, [], drop, take, length, Some, None, IfSome, MatchOption, Ok}
+use Rattle.std.specs.Prelude.{◌≡◌, ◌≤◌, ◌+◌, ◌++◌, ◌⊎◌, ℕ, ⊤, List, [], drop, take, length, Some, None, IfSome, MatchOption, Ok}
 use Rattle.gw_base.specs.Connections.{Beside}
 use Rattle.gw_base.specs.Limits.{body_limit}
-use Rattle.http_talk.specs.Asked.{is_post}
+use Rattle.gw_base.specs.declared.kind.Kind.{Kind}
+use Rattle.http_talk.specs.Asked.{action_of}
 use Rattle.http_talk.specs.Ends.{head_limit}
 use Rattle.http_talk.specs.Request.{IsHead, IsRequest}
 use Rattle.http_talk.specs.Request as request
 use Rattle.http_talk.specs.declared.target.Head.{Head}
-use Rattle.http_talk.specs.declared.target.Target.{Target}
+use Rattle.http_talk.specs.declared.target.Action.TheVariants as action
 use Rattle.door_talk.specs.declared.asked.Asked.{Asked}
 use Rattle.door_talk.specs.declared.asked.Asked.TheVariants as asked
 use Rattle.door_talk.specs.declared.heads.HeadRead.{HeadRead}
@@ -23,8 +24,8 @@ HasRead before now bytes =
 -- these bytes are the head of a POST and no more after it than its body, which has at most 16,777,216 bytes
 abbrev pub IsWithinPost : List ℕ → Type 0
 IsWithinPost bytes =
-    (count : ℕ) × (head : Head) × IsHead bytes count (Ok head) × (is_post head.target ≡ true)
-    × (length bytes ≤ count + head.length) × (head.length ≤ body_limit)
+    (count : ℕ) × (head : Head) × (kind : Kind) × IsHead bytes count (Ok head)
+    × (action_of head.target ≡ action.Post kind) × (length bytes ≤ count + head.length) × (head.length ≤ body_limit)
 
 -- so much may be read for a request: what a head may have, or the head of a POST and its body
 abbrev pub IsWithin : List ℕ → Type 0
@@ -45,19 +46,20 @@ ReadsHead now bytes piece (heads.Refused why) = (more : List ℕ) → IsRequest 
 ReadsHead now bytes piece (heads.Cut why) = IsEnded now × IsRequest bytes (request.Refused why)
 
 -- an input asks for this; what took the body of a POST stands for it
-abbrev pub AsksFor : (Target → List ℕ → Type 0) → List ℕ → Asked → Type 0
-AsksFor Stands input (asked.Get target) = IsRequest input (request.Get target)
-AsksFor Stands input (asked.Post target) =
-    (body : List ℕ) × IsRequest input (request.Post target body) × Stands target body
+abbrev pub AsksFor : (Kind → List ℕ → Type 0) → List ℕ → Asked → Type 0
+AsksFor Stands input (asked.Get resource) = IsRequest input (request.Get resource)
+AsksFor Stands input (asked.Post kind) =
+    (body : List ℕ) × IsRequest input (request.Post kind body) × Stands kind body
 AsksFor Stands input (asked.Refused why) = IsRequest input (request.Refused why)
 AsksFor Stands input asked.NoRoom =
-    (count : ℕ) × (head : Head) × IsHead input count (Ok head) × (is_post head.target ≡ true)
+    (count : ℕ) × (head : Head) × (kind : Kind) × IsHead input count (Ok head)
+    × (action_of head.target ≡ action.Post kind)
 AsksFor Stands input asked.Lost = ⊤
 
--- a GET is of a target that is got, and a POST is to one that is posted, of which what took its body stands for some
-abbrev pub HasMethod : (Target → List ℕ → Type 0) → Asked → Type 0
-HasMethod Stands (asked.Get target) = is_post target ≡ false
-HasMethod Stands (asked.Post target) = (is_post target ≡ true) × (body : List ℕ) × Stands target body
-HasMethod Stands (asked.Refused why) = ⊤
-HasMethod Stands asked.NoRoom = ⊤
-HasMethod Stands asked.Lost = ⊤
+-- of a POST, what took its body stands for some
+abbrev pub IsPosted : (Kind → List ℕ → Type 0) → Asked → Type 0
+IsPosted Stands (asked.Get resource) = ⊤
+IsPosted Stands (asked.Post kind) = (body : List ℕ) × Stands kind body
+IsPosted Stands (asked.Refused why) = ⊤
+IsPosted Stands asked.NoRoom = ⊤
+IsPosted Stands asked.Lost = ⊤

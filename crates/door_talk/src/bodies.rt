@@ -4,7 +4,7 @@ ghost use Rattle.gw_base.specs.Count.{Counts};
 ghost use Rattle.gw_base.specs.Limits.{body_limit};
 ghost use Rattle.door_talk.specs.Bodies.{ReadsBody};
 ghost use Rattle.door_talk.specs.Requests.{HasRead};
-ghost use Rattle.http_talk.specs.declared.target.Target.{Target};
+ghost use Rattle.gw_base.specs.declared.kind.Kind.{Kind};
 
 use crate::piece::read_piece;
 use crate::taker::TakesBody;
@@ -25,8 +25,8 @@ pub enum BodyRead {
 /// Hands on the next bytes of a body, if there are some. Err for want of memory.
 pub fn hand_on<G, B: TakesBody<G>>(over: &G, taker: &mut B, bytes: &[u8]) -> Result<(), AllocError>
     requires room { B.taken taker.old + length bytes.now ≤ body_limit }
-    ensures takes { (moment : ℤ) (target : Target) (front : List ℕ) → B.stands over.now taker.old moment target front
-        → OnOk result (B.stands over.now taker.new moment target (front ++ bytes.now)) }
+    ensures takes { (moment : ℤ) (kind : Kind) (front : List ℕ) → B.stands over.now taker.old moment kind front
+        → OnOk result (B.stands over.now taker.new moment kind (front ++ bytes.now)) }
     ensures counted { OnOk result (B.taken taker.new ≡ B.taken taker.old + length bytes.now) }
     ensures within { B.taken taker.new ≤ B.taken taker.old + length bytes.now }
 {

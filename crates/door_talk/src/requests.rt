@@ -2,16 +2,17 @@
 ghost use Rattle.std.specs.Prelude.{◌≡◌, ◌≤◌, ◌<◌, ◌-◌, ◌++◌, true, ℕ, List, drop, take, length, IfSome, Ok};
 ghost use Rattle.gw_base.specs.Count.{Rose};
 ghost use Rattle.gw_base.specs.Limits.{body_limit};
-ghost use Rattle.http_talk.specs.Asked.{is_post};
+ghost use Rattle.http_talk.specs.Asked.{action_of};
 ghost use Rattle.http_talk.specs.Request.{IsHead};
-ghost use Rattle.door_talk.specs.Requests.{AsksFor, HasMethod, HasRead, IsWithin};
+ghost use Rattle.http_talk.specs.declared.target.Action.TheVariants as action;
+ghost use Rattle.door_talk.specs.Requests.{AsksFor, HasRead, IsPosted, IsWithin};
 
 use crate::asked::Asked;
 use crate::bodies::{BodyRead, hand_on, read_body};
 use crate::heads::{HeadRead, read_head};
 use crate::taker::TakesBody;
-use gw_base::{Door, Failed, Moment};
-use http_talk::{Head, HeadReader, Refusal};
+use gw_base::{Door, Failed, Kind, Moment};
+use http_talk::{Action, Head, HeadReader, Refusal};
 use std::alloc::Global;
 
 /// The most bytes that are read at once.
@@ -20,6 +21,7 @@ const PIECE: usize = 16_384;
 /// Reads the body of a POST, of which the bytes from `from` to `to` of the last piece came already.
 fn read_post<D: Door, G, B: TakesBody<G>>(
     alloc: Global,
+    kind: Kind,
     head: Head,
     from: usize,
     to: usize,
@@ -32,7 +34,7 @@ fn read_post<D: Door, G, B: TakesBody<G>>(
     requires present { (D.beside door.old).present ≡ true }
     requires room { 0 < length piece.old }
     requires part { (from ≤ to) × (to ≤ length piece.old) }
-    requires post { is_post head.target ≡ true }
+    requires post { action_of head.target ≡ action.Post kind }
     requires small { head.length ≤ body_limit }
     ensures asks { IfSome (D.beside door.old).told (λ told. (input : List ℕ) (count : ℕ) → IsHead input count (Ok head)
         → drop count input ≡ drop from (take to piece.old) ++ told.unread
@@ -40,13 +42,13 @@ fn read_post<D: Door, G, B: TakesBody<G>>(
     ensures reads { (bytes : List ℕ) × HasRead (D.beside door.old) (D.beside door.new) bytes
         × (length bytes ≤ head.length - length (drop from (take to piece.old))) }
     ensures taken { B.taken taker.new ≤ head.length }
-    ensures method { HasMethod (B.stands over.now taker.new moment) result }
+    ensures posted { IsPosted (B.stands over.now taker.new moment) result }
     ensures lost { result ≡ Asked.Lost → Rose (D.faults door.old) (D.faults door.new) }
     ensures counts { D.faults door.old ≤ D.faults door.new }
     ensures output { D.told door.new ≡ D.told door.old }
 {
     let size = head.length as usize;
-    if taker.begin(alloc, over, moment, head.target, size).is_err() {
+    if taker.begin(alloc, over, moment, kind, size).is_err() {
         return Asked::NoRoom;
     }
     let (came, _) = piece.split_at(to);
@@ -57,7 +59,7 @@ fn read_post<D: Door, G, B: TakesBody<G>>(
     }
     let len = front.len();
     match read_body(door, piece, size, len, over, taker) {
-        Ok(BodyRead::Whole) => Asked::Post(head.target),
+        Ok(BodyRead::Whole) => Asked::Post(kind),
         Ok(BodyRead::Cut) => Asked::Refused(Refusal::Cut),
         Ok(BodyRead::NoRoom) => Asked::NoRoom,
         Err(Failed) => Asked::Lost,
@@ -81,7 +83,7 @@ pub fn read_request<D: Door, G, B: TakesBody<G>>(
         AsksFor (B.stands over.now taker.new moment) told.unread result) }
     ensures reads { (bytes : List ℕ) × HasRead (D.beside door.old) (D.beside door.new) bytes × IsWithin bytes }
     ensures taken { B.taken taker.old ≤ body_limit → B.taken taker.new ≤ body_limit }
-    ensures method { HasMethod (B.stands over.now taker.new moment) result }
+    ensures posted { IsPosted (B.stands over.now taker.new moment) result }
     ensures lost { result ≡ Asked.Lost → Rose (D.faults door.old) (D.faults door.new) }
     ensures counts { D.faults door.old ≤ D.faults door.new }
     ensures output { D.told door.new ≡ D.told door.old }
@@ -90,10 +92,12 @@ pub fn read_request<D: Door, G, B: TakesBody<G>>(
     reader.clear();
     match read_head(reader, door, &mut piece) {
         Ok(HeadRead::Ended { head, from, to }) => {
-            if !head.target.is_post() {
-                return Asked::Get(head.target);
+            match head.target.action() {
+                Action::Get(resource) => Asked::Get(resource),
+                Action::Post(kind) => read_post(
+                    alloc, kind, head, from, to, &mut piece, over, moment, taker, door,
+                ),
             }
-            read_post(alloc, head, from, to, &mut piece, over, moment, taker, door)
         }
         Ok(HeadRead::Refused(why)) => Asked::Refused(why),
         Ok(HeadRead::Cut(why)) => Asked::Refused(why),

@@ -2,41 +2,40 @@
 ghost use Rattle.std.specs.Prelude.{◌≡◌, [], length, OnOk};
 ghost use Rattle.gw_base.specs.Limits.{body_limit};
 
-use gw_base::{Bytes, Moment};
-use http_talk::Target;
+use gw_base::{Bytes, Kind, Moment};
 use std::alloc::{AllocError, Global};
 
 /// What takes the body of a POST piece by piece, over something that stays as it is in the meantime. A body that is
 /// needed whole is kept, and another is read on the way.
 pub trait TakesBody<G> {
     ghost use Rattle.std.specs.Prelude.{◌≡◌, ◌≤◌, ◌<◌, ◌+◌, ◌++◌, ℕ, ℤ, List, [], length, OnOk};
-    ghost use Rattle.http_talk.specs.declared.target.Target as targets;
+    ghost use Rattle.gw_base.specs.declared.kind.Kind as kinds;
 
-    /// It stands for these first bytes of a body that is posted at a moment to a target.
-    ghost stands: { G → Self → ℤ → targets.Target → List ℕ → Type 0 };
+    /// It stands for these first bytes of a body of a kind that is posted at a moment.
+    ghost stands: { G → Self → ℤ → kinds.Kind → List ℕ → Type 0 };
 
     /// How many bytes it took.
     ghost taken: { Self → ℕ };
 
-    /// Begins with a body of so many bytes that is posted at a moment to a target.
+    /// Begins with a body of a kind and so many bytes that is posted at a moment.
     fn begin(
         &mut self,
         alloc: Global,
         over: &G,
         moment: Moment,
-        target: Target,
+        kind: Kind,
         size: usize,
     ) -> Result<(), AllocError>
-        ensures begins { OnOk result (stands over.now self.new moment target []) }
+        ensures begins { OnOk result (stands over.now self.new moment kind []) }
         ensures none { taken self.new ≡ 0 };
 
     /// Takes the next bytes of the body, which has at most 16,777,216. After Err it may only begin again.
     fn take(&mut self, over: &G, piece: &[u8]) -> Result<(), AllocError>
         requires some { 0 < length piece.now }
         requires room { taken self.old + length piece.now ≤ body_limit }
-        ensures takes { (moment : ℤ) (target : targets.Target) (bytes : List ℕ)
-            → stands over.now self.old moment target bytes
-            → OnOk result (stands over.now self.new moment target (bytes ++ piece.now)) }
+        ensures takes { (moment : ℤ) (kind : kinds.Kind) (bytes : List ℕ)
+            → stands over.now self.old moment kind bytes
+            → OnOk result (stands over.now self.new moment kind (bytes ++ piece.now)) }
         ensures counted { OnOk result (taken self.new ≡ taken self.old + length piece.now) }
         ensures within { taken self.new ≤ taken self.old + length piece.now };
 }
@@ -62,7 +61,7 @@ impl<G> TakesBody<G> for Bytes {
         alloc: Global,
         _over: &G,
         _moment: Moment,
-        _target: Target,
+        _kind: Kind,
         size: usize,
     ) -> Result<(), AllocError> {
         let held = std::mem::replace(self, Bytes::new(alloc));

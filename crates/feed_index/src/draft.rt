@@ -50,7 +50,7 @@ impl<'a, K: Ord, R> Draft<'a, K, R> {
         ensures kept { result.kept ≡ drop gone index.now.entries }
         ensures empty { result.items ≡ [] }
     {
-        index.is_sound();
+        index.soundness_law();
         Draft {
             index,
             gone: gone as usize,

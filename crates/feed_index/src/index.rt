@@ -93,7 +93,7 @@ impl<K: Ord, R> FeedIndex<K, R> {
     }
 
     /// That the keys are distinct and rising, and that the dead bytes are not too many.
-    pub fn is_sound(&self)
+    pub fn soundness_law(&self)
         ensures rising { Rising K.cmp self.now.entries }
         ensures bounded { self.now.dead ≤ most_dead (total self.now.entries) }
     {

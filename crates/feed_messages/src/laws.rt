@@ -9,13 +9,13 @@ ghost use Rattle.feed_reading.specs.Tables.{MeansFeed, MeansEntity, full_dataset
 
 /// A header followed by written entities means the full dataset of just these, where each can be written, as
 /// `entity_bytes` ensures of those that it writes.
-pub fn a_written_feed_is_meant()
+pub fn a_written_feed_is_meant_law()
     ensures { (moment : ℤ) (entities : List Entity) → IsMoment moment → AllByRecursion IsWritable entities
         → MeansFeed (written_feed moment entities) (full_dataset moment entities) }
 {}
 
 /// The same of all entities whose bytes mean them.
-pub fn meant_entities_make_a_feed()
+pub fn meant_entities_make_a_feed_law()
     ensures { (moment : ℤ) (entities : List Entity) → IsMoment moment
         → AllByRecursion (λ entity. MeansEntity (written entity) entity) entities
         → MeansFeed (written_feed moment entities) (full_dataset moment entities) }

@@ -345,7 +345,7 @@ broken_at_end bytes front rest kind h joined broken short =
     (least_of_rest h.fields front rest fault h.read h.faultless (least_break (length front) rest kind b short))
 
 -- bytes that break in another way than that they end too early, and break in this way whatever follows (wire_fields,
--- `a_break_stays`)
+-- `a_break_stays_law`)
 pub broken_stays : (bytes front rest more : List ℕ) (kind : WireKind) → Clear front → bytes ≡ front ++ rest
     → IsBroken bytes (length front) kind → kind ≢ Truncated → IsBroken (bytes ++ more) (length front) kind
     → IsFeedFault (bytes ++ more) (Wire (record { at = length front; kind = kind }))

@@ -16,18 +16,18 @@ ghost use Rattle.feed_reading.specs.Faults.{HasFault, IsFeedFault, IsLongAt};
 ghost use Rattle.feed_reading.specs.FieldFaults.{Faultless, HasFieldFault, HasFaultAfter, IsFirst, moved, place_of};
 
 /// Bytes mean at most one feed.
-pub fn the_feed_is_one()
+pub fn the_feed_is_one_law()
     ensures { (bytes : List ℕ) (feed other : Feed) → MeansFeed bytes feed → MeansFeed bytes other → feed ≡ other }
 {}
 
 /// An entity after a feed is one more entity of it.
-pub fn an_entity_is_added()
+pub fn an_entity_is_added_law()
     ensures { (front back : List ℕ) (feed : Feed) (entity : Entity) → MeansFeed front feed → MeansEntity back entity
         → MeansFeed (front ++ back) (with_entity feed entity) }
 {}
 
 /// Bytes have no fault exactly where they mean some feed and no entity is too long.
-pub fn no_fault_where_a_feed_is_meant()
+pub fn no_fault_where_a_feed_is_meant_law()
     ensures meant { (bytes : List ℕ) → ((fault : FeedFault) → ¬ HasFault bytes fault)
         → ((feed : Feed) × MeansFeed bytes feed) × ((at : ℕ) → ¬ IsLongAt bytes at) }
     ensures no_fault { (bytes : List ℕ) (feed : Feed) → MeansFeed bytes feed → ((at : ℕ) → ¬ IsLongAt bytes at)
@@ -35,7 +35,7 @@ pub fn no_fault_where_a_feed_is_meant()
 {}
 
 /// Bytes have a first fault, or they mean a feed of which no entity is too long.
-pub fn a_fault_or_a_feed()
+pub fn a_fault_or_a_feed_law()
     ensures { (bytes : List ℕ) → ((fault : FeedFault) × IsFeedFault bytes fault)
         ⊎ (((feed : Feed) × MeansFeed bytes feed) × ((at : ℕ) → ¬ IsLongAt bytes at)) }
 {}
@@ -43,7 +43,7 @@ pub fn a_fault_or_a_feed()
 /// The faults of a list of fields with what follows it are those of the fields and those of the rest, so much further;
 /// but for a missing header or version, which is told at the end of the feed. So no fault of a rest comes before one of
 /// the fields, and what is told of the first field that has a fault stays, whatever follows.
-pub fn faults_are_found_field_by_field()
+pub fn faults_are_found_field_by_field_law()
     ensures split { (front rest : List ℕ) (fields : List WireField) (fault : FeedFault) → AreFields front fields
         → HasFieldFault (front ++ rest) fault
         → HasFieldFault front fault ⊎ HasFaultAfter (length front) rest fault }
@@ -60,7 +60,7 @@ pub fn faults_are_found_field_by_field()
 /// After fields without a fault, what is no field has the feed's fault: an entity whose length is over the limit, or
 /// else how the bytes break. Where they break in another way than that they end too early, no bytes that follow make
 /// such an entity of them.
-pub fn what_is_no_field_has_the_fault()
+pub fn what_is_no_field_has_the_fault_law()
     ensures long { (front rest : List ℕ) (fields : List WireField) → AreFields front fields → Faultless front
         → IsLongAt rest 0 → IsFeedFault (front ++ rest) (EntityTooLong (length front)) }
     ensures broken { (front rest : List ℕ) (fields : List WireField) (kind : WireKind) → AreFields front fields
@@ -72,7 +72,7 @@ pub fn what_is_no_field_has_the_fault()
 
 /// At the end of fields without a fault it is told that the header or its version is missing, and else there is no
 /// fault. The version may stand in any of the headers, whose fields are put together.
-pub fn what_is_missing_is_told_at_the_end()
+pub fn what_is_missing_is_told_at_the_end_law()
     ensures header { (bytes : List ℕ) (fields : List WireField) → AreFields bytes fields → Faultless bytes
         → bodies 1 fields ≡ [] → IsFeedFault bytes (MissingField (length bytes) Header) }
     ensures version { (bytes : List ℕ) (fields inner : List WireField) → AreFields bytes fields → Faultless bytes

@@ -17,9 +17,9 @@ pub use fault::FeedFault;
 pub use feed_reader::{Body, FeedReader, HeadSoFar};
 pub use gw_base::FeedHead;
 pub use laws::{
-    a_fault_or_a_feed, an_entity_is_added, faults_are_found_field_by_field,
-    no_fault_where_a_feed_is_meant, the_feed_is_one, what_is_missing_is_told_at_the_end,
-    what_is_no_field_has_the_fault,
+    a_fault_or_a_feed_law, an_entity_is_added_law, faults_are_found_field_by_field_law,
+    no_fault_where_a_feed_is_meant_law, the_feed_is_one_law,
+    what_is_missing_is_told_at_the_end_law, what_is_no_field_has_the_fault_law,
 };
 pub use plain::plain_feed;
 pub use plain_fault::PlainFault;

@@ -82,7 +82,7 @@ answer_taken old now arrivals moment body text accepted window h rolls says sett
     subst (λ (last : List ℕ). SaysFeed (schedule_at old.setting (moment ∷ moments_of arrivals)) moment body last accepted.report) same
     (subst (λ (w : DayStarts). SaysFeed (schedule_over old.setting w) moment body text accepted.report) rolls says) in (
       t.given,
-      record { means = t.is_feed.means; faultless = t.is_feed.faultless; full = t.full; text = now.text; siri = t.siri },
+      record { is_feed = t.is_feed; full = t.full; text = now.text; siri = t.siri },
       record { setting_is = setting; stands = stands_feed old now arrivals moment t.given accepted.report h setting (own ∙ rolls) keeps alerts t.siri },
     )
 
@@ -91,10 +91,4 @@ pub answer_refused : (old now : Kept) (arrivals : List Arrival) (moment : ℤ) (
     → IsRefusedFeed (schedule_over old.setting window) body one
     → FeedAnswer old arrivals moment body (Err one) now
 answer_refused old now arrivals moment body one window rolls refused =
-    by one (subst (λ (w : DayStarts). IsRefusedFeed (schedule_over old.setting w) body one) rolls refused)
-  where
-    by : (last : FeedRefusal) → IsRefusedFeed (schedule_at old.setting (moment ∷ moments_of arrivals)) body last → FeedAnswer old arrivals moment body (Err last) now
-    by (refusal.Feed told) h = h
-    by refusal.Differential h = (h.0, h.1.means, h.1.faultless, h.2)
-    by (refusal.TooManyCalls calls) h = (h.0, h.1.means, h.1.faultless, h.2, h.3)
-    by refusal.Memory h = tt
+    subst (λ (w : DayStarts). IsRefusedFeed (schedule_over old.setting w) body one) rolls refused

@@ -1,3 +1,4 @@
+mod BodyAnswers
 mod EstimatedLemmas
 mod FeedAnswers
 pub mod FewerLemmas

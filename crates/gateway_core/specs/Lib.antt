@@ -1,6 +1,7 @@
 pub mod Alerts
 pub mod Arrivals
 pub mod Arriving
+pub mod Bodies
 pub mod Deliveries
 pub mod Feeds
 pub mod FeedTexts

@@ -1,11 +1,9 @@
 -- What a gateway answers to a body that is taken or refused, and what it stands for then (SIRI 2.0, ServiceDelivery;
 -- GTFS Realtime, FeedMessage).
-use Rattle.std.specs.Prelude.{◌≡◌, ℕ, ℤ, Bool, false, true, nat_le, List, [], ◌∷◌, ◌++◌, codes, decimal, map, Some, None, Result, Ok, Err, is_none, if◌then◌else◌, ⊤}
+use Rattle.std.specs.Prelude.{◌≡◌, ℕ, ℤ, Bool, false, nat_le, List, [], ◌∷◌, ◌++◌, codes, decimal, map, Some, None, Result, Ok, Err, is_none, if◌then◌else◌, ⊤}
 use Rattle.std.specs.List.{count_by}
 use Rattle.std.specs.Result.{result_err}
 use Rattle.gw_base.specs.declared.messages.Feed.{Feed}
-use Rattle.feed_reading.specs.Tables.{MeansFeed}
-use Rattle.feed_reading.specs.Faults.{HasFault, IsFeedFault}
 use Rattle.journey_model.specs.FaultTexts.{fault_text}
 use Rattle.journey_model.specs.FeedReadings.{is_differential}
 use Rattle.journey_model.specs.Records.{Recorded}
@@ -18,16 +16,15 @@ use Rattle.siri_calls.specs.Verdicts as journey_items
 use Rattle.siri_json.specs.Deliveries.{passed_count, tree_of, without_count}
 use Rattle.siri_situations.specs.Situations as situation_verdicts
 use Rattle.stop_schedule.specs.Seen.{seen}
-use Rattle.reverse_calls.specs.Siri.{HasTooMany, IsSiri}
+use Rattle.reverse_calls.specs.Siri.{IsSiri}
 use Rattle.gateway_core.specs.Alerts.{alert_len, alert_limit}
 use Rattle.stop_schedule.specs.Table.{Table}
 use Rattle.service_day.specs.Windows.{DayStarts}
-use Rattle.feed_reading.specs.declared.fault.FeedFault.{FeedFault}
 use Rattle.gateway_core.specs.Arrivals.{Arrival, Given, admitted, admitted_situations, always, feed, has_room, is_same_journey, is_same_number, is_within, journeys, moments_of, most_journeys, most_numbers, schedule_at, situations, window_at}
 use Rattle.gateway_core.specs.Deliveries.{taken}
+use Rattle.gateway_core.specs.FeedTexts.{IsFeed, IsRefusedFeed}
 use Rattle.gateway_core.specs.declared.accepted.Accepted.{Accepted}
 use Rattle.gateway_core.specs.declared.accepted.FeedRefusal.{FeedRefusal}
-use Rattle.gateway_core.specs.declared.accepted.FeedRefusal.TheVariants.{Differential, TooManyCalls}
 use Rattle.gateway_core.specs.declared.setting.Setting.{Setting}
 use Rattle.siri_json.specs.declared.delivery.DeliveryFault.{DeliveryFault}
 use Rattle.siri_json.specs.declared.delivery.DeliveryFault.TheVariants.{NotJson, NotDelivery, Memory}
@@ -117,8 +114,7 @@ pub record TakesSituations (setting : Setting) (arrivals : List Arrival) (moment
 -- the same of a feed, which is a full dataset without a fault
 pub record TakesFeed (setting : Setting) (arrivals : List Arrival) (moment : ℤ) (body : List ℕ) (report : Report)
     (given : Feed) : Type 0 where
-  pub means : MeansFeed body given
-  pub faultless : (fault : FeedFault) → ¬ HasFault body fault
+  pub is_feed : IsFeed body given
   pub full : is_differential given ≡ false
   pub text : List ℕ
   pub siri : IsSiri (schedule_at setting (moment ∷ moments_of arrivals)) given moment text report
@@ -157,12 +153,5 @@ abbrev pub FeedAnswer : Kept → List Arrival → ℤ → List ℕ → Result Ac
 FeedAnswer kept arrivals moment body (Ok accepted) now =
     (given : Feed) × TakesFeed kept.setting arrivals moment body accepted.report given
     × Follows kept arrivals moment (feed given) now
-FeedAnswer kept arrivals moment body (Err (FeedRefusal.Feed fault)) now = IsFeedFault body fault
-FeedAnswer kept arrivals moment body (Err Differential) now =
-    (given : Feed) × MeansFeed body given × ((fault : FeedFault) → ¬ HasFault body fault)
-    × (is_differential given ≡ true)
-FeedAnswer kept arrivals moment body (Err (TooManyCalls calls)) now =
-    (given : Feed) × MeansFeed body given × ((fault : FeedFault) → ¬ HasFault body fault)
-    × (is_differential given ≡ false)
-    × HasTooMany (schedule_at kept.setting (moment ∷ moments_of arrivals)) given calls
-FeedAnswer kept arrivals moment body (Err FeedRefusal.Memory) now = ⊤
+FeedAnswer kept arrivals moment body (Err why) now =
+    IsRefusedFeed (schedule_at kept.setting (moment ∷ moments_of arrivals)) body why

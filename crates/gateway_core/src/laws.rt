@@ -1,14 +1,49 @@
-//! The law of what is rebuilt, the contract of a function that does nothing. It is about the definitions of
-//! `specs/Feeds.antt`.
+//! The laws of what a gateway keeps and serves: contracts of functions that change nothing. They are about the
+//! definitions of `specs/Standing.antt`, `Recording.antt`, `Feeds.antt` and `Gives.antt`.
 ghost use Rattle.std.specs.Prelude.{◌≡◌, ℕ, ℤ, List};
-ghost use Rattle.gateway_core.specs.Feeds.{CountAlike, IsRebuilt};
+ghost use Rattle.gw_base.specs.Moments.{IsMoment};
 ghost use Rattle.journey_model.specs.Records.{Recorded};
 ghost use Rattle.journey_model.specs.Schedules.{Schedule};
 ghost use Rattle.journey_model.specs.declared.situation.Situation.{Situation};
+ghost use Rattle.gateway_core.specs.Arrivals.{Arrival, moments_of, present, schedule_at};
+ghost use Rattle.gateway_core.specs.Feeds.{CountAlike, IsRebuilt};
+ghost use Rattle.gateway_core.specs.Gives.{GivesEach};
+ghost use Rattle.gateway_core.specs.Recording.{AreDecided, ArriveAlike, IsRebuiltOf};
+ghost use Rattle.gateway_core.specs.Standing.{Kept, Stands, served};
+ghost use Rattle.gateway_core.specs.declared.setting.Setting as settings;
+
+use crate::gateway::Gateway;
+use feed_messages::header_bytes;
+use gw_base::Moment;
+
+/// The feed that a gateway serves at a moment is rebuilt of what arrived, and gives each journey its latest reading,
+/// whatever it is that the gateway stands for.
+pub fn serves_what_arrived_law(gate: &Gateway, moment: Moment)
+    ensures rebuilt { (arrivals : List Arrival) → Stands gate.now arrivals
+        → IsRebuiltOf gate.now.setting moment arrivals (served moment gate.now) }
+    ensures gives { (arrivals : List Arrival) → Stands gate.now arrivals
+        → GivesEach moment (schedule_at gate.now.setting (moments_of arrivals)) (present gate.now.setting arrivals)
+        (served moment gate.now) }
+{
+    // The header means the feed without entities, at each moment that there is.
+    let _header = header_bytes(moment);
+    let _gate = gate;
+}
+
+/// The moments of recording decide (SIRI 2.0, RecordedAtTime and Version): of the same records and situations,
+/// in any two orders of arrival, the same feed is rebuilt at each moment, byte for byte.
+pub fn recording_decides_law()
+    ensures rebuilt { (setting : settings.Setting) (arrivals others : List Arrival) (at : ℤ) (feed : List ℕ)
+        → ArriveAlike setting arrivals others → AreDecided arrivals
+        → IsRebuiltOf setting at arrivals feed → IsRebuiltOf setting at others feed }
+    ensures equal { (setting : settings.Setting) (arrivals others : List Arrival) (at : ℤ) (feed other : List ℕ)
+        → ArriveAlike setting arrivals others → AreDecided arrivals
+        → IsRebuiltOf setting at arrivals feed → IsRebuiltOf setting at others other → feed ≡ other }
+{}
 
 /// Two feeds that are rebuilt at one moment from the same records and situations are equal byte for byte; and so are
 /// those that are rebuilt from others, of which the same count.
-pub fn the_rebuilt_feed_is_one()
+pub fn the_rebuilt_feed_is_one_law()
     ensures one { (at : ℤ) (schedule : Schedule) (records : List Recorded) (situations : List Situation)
         (feed other : List ℕ)
         → IsRebuilt at schedule records situations feed → IsRebuilt at schedule records situations other
@@ -17,4 +52,21 @@ pub fn the_rebuilt_feed_is_one()
         (situations further : List Situation) (feed other : List ℕ)
         → CountAlike records others situations further → IsRebuilt at schedule records situations feed
         → IsRebuilt at schedule others further other → feed ≡ other }
+{}
+
+/// What stands for the same arrivals over one setting has the same window, keeps the same and serves the same bytes.
+/// And where the moments of recording and the versions decide (SIRI 2.0, RecordedAtTime and Version), what stands for
+/// the same records and situations in any two orders of arrival, with equal windows, serves the same bytes.
+pub fn what_is_served_is_one_law()
+    ensures window { (kept other : Kept) (arrivals : List Arrival) → kept.setting ≡ other.setting
+        → Stands kept arrivals → Stands other arrivals → kept.window ≡ other.window }
+    ensures journeys { (kept other : Kept) (arrivals : List Arrival) → kept.setting ≡ other.setting
+        → Stands kept arrivals → Stands other arrivals → kept.journeys ≡ other.journeys }
+    ensures situations { (kept other : Kept) (arrivals : List Arrival) → kept.setting ≡ other.setting
+        → Stands kept arrivals → Stands other arrivals → kept.situations ≡ other.situations }
+    ensures served { (kept other : Kept) (arrivals : List Arrival) (at : ℤ) → kept.setting ≡ other.setting
+        → Stands kept arrivals → Stands other arrivals → served at kept ≡ served at other }
+    ensures alike { (kept other : Kept) (arrivals others : List Arrival) (at : ℤ) → IsMoment at
+        → kept.setting ≡ other.setting → ArriveAlike kept.setting arrivals others → AreDecided arrivals
+        → Stands kept arrivals → Stands other others → served at kept ≡ served at other }
 {}

@@ -3,12 +3,9 @@
 #![tactic(auto)]
 
 mod accepted;
-mod arrival_laws;
-mod estimated;
-mod feed_law;
-mod feed_taking;
+mod arriving_feed;
 mod gateway;
-mod journeys;
+mod items;
 mod keys;
 mod laws;
 mod report_text;
@@ -16,17 +13,16 @@ mod reporting;
 mod rolling;
 mod serving;
 mod setting;
-mod situations;
-mod state_laws;
-mod taking;
+mod take;
 
 pub use accepted::{Accepted, FeedRefusal, TakeFault};
-pub use arrival_laws::recording_decides;
-pub use feed_law::serves_what_arrived;
-pub use feed_taking::FeedTaking;
+pub use arriving_feed::FeedTaking;
 pub use gateway::Gateway;
 pub use keys::{Edition, JourneyKey};
-pub use laws::the_rebuilt_feed_is_one;
+pub use laws::{
+    recording_decides_law, serves_what_arrived_law, the_rebuilt_feed_is_one_law,
+    what_is_served_is_one_law,
+};
 pub use reporting::feed_report;
 pub use setting::Setting;
-pub use state_laws::what_is_served_is_one;
+pub use take::{Body, BodyRefusal};

@@ -80,7 +80,7 @@ fn is_before(journeys: &FeedIndex<JourneyKey, Instant>, i: u64, first: Day) -> b
 }
 
 // How many of the first entries are of days before that one.
-fn gone_before(journeys: &FeedIndex<JourneyKey, Instant>, first: Day) -> u64
+fn expired_before(journeys: &FeedIndex<JourneyKey, Instant>, first: Day) -> u64
     ensures within { result ≤ length journeys.now.entries }
     ensures before { AllByRecursion (λ one. int_lt one.key.day first ≡ true)
         (take result journeys.now.entries) }
@@ -99,27 +99,27 @@ fn gone_before(journeys: &FeedIndex<JourneyKey, Instant>, first: Day) -> u64
 
 /// A window by a moment, and how many of the first entries of journeys are of days before it.
 #[derive(Drop)]
-pub(crate) struct Rolled {
+pub(crate) struct WindowMove {
     /// The window.
     pub window: Window,
-    /// How many entries go.
-    pub gone: u64,
+    /// How many of the first entries are over.
+    pub expired: u64,
 }
 
 /// What becomes of a gateway's window by a body that arrives at a moment. Takes no memory.
-pub(crate) fn rolled_by(gate: &Gateway, moment: Moment) -> Rolled
+pub(crate) fn window_move(gate: &Gateway, moment: Moment) -> WindowMove
     ensures own { IsWindowIn gate.now.setting.zone result.window }
     ensures days { length result.window.starts ≡ length gate.now.setting.window.starts }
     ensures rolls { (arrivals : List Arrival) → Stands gate.now arrivals
         → result.window ≡ window_at gate.now.setting (moment ∷ moments_of arrivals) }
-    ensures within { result.gone ≤ length gate.now.journeys }
+    ensures within { result.expired ≤ length gate.now.journeys }
     ensures keeps { (arrivals : List Arrival) → Stands gate.now arrivals
         → KeepsJourneys (schedule_at gate.now.setting (moment ∷ moments_of arrivals))
         (filter (is_within (window_at gate.now.setting (moment ∷ moments_of arrivals)))
         (admitted gate.now.setting arrivals))
-        (drop result.gone gate.now.journeys) }
+        (drop result.expired gate.now.journeys) }
 {
     let window = window_after(&gate.setting, &gate.window, moment);
-    let gone = gone_before(&gate.journeys, window.first());
-    Rolled { window, gone }
+    let expired = expired_before(&gate.journeys, window.first());
+    WindowMove { window, expired }
 }

@@ -99,8 +99,8 @@ no_moment P setting arrivals entry (answered moment bytes some says front) e = a
     other input moment ends bytes (refused why asks is are) = ap is_clock_fault is
     other input moment ends bytes (feed_shown body asks shown is are) = ap is_clock_fault is
     other input moment ends bytes (text_shown body asks shown is are) = ap is_clock_fault is
-    other input moment ends bytes (body_refused target body fault asks why is are) = ap is_clock_fault is
-    other input moment ends bytes (taken target body report given asks brings is are) = ap is_clock_fault is ∙ of_given given
+    other input moment ends bytes (body_refused of body fault asks why is are) = ap is_clock_fault is
+    other input moment ends bytes (taken of body report given asks brings is are) = ap is_clock_fault is ∙ of_given given
 
 -- the clock's count rose where it gave no moment
 clock_rose : (before now : Option (List ℤ)) (b c : ℕ) (moment : Option ℤ) → AsksClock (record { before = before; now = now; faults_before = b; faults_now = c }) moment → moment ≡ None → Rose b c

@@ -11,17 +11,18 @@ use Rattle.gw_base.specs.declared.door.Mark.TheVariants as mark
 use Rattle.gw_base.specs.declared.member.Member.{Member}
 use Rattle.gw_base.specs.declared.messages.Feed.{Feed}
 use Rattle.feed_reading.specs.Tables.{MeansFeed}
-use Rattle.feed_reading.specs.declared.fault.FeedFault.TheVariants as feed_fault
 use Rattle.http_talk.proofs.OneRequest.{one_request}
-use Rattle.http_talk.specs.Asked.{is_post}
-use Rattle.http_talk.specs.Request.{Get, IsRequest, Post, Refused, headed, with_body}
+use Rattle.http_talk.specs.Request.{Get, IsRequest, Post, Refused, headed, request_of, with_body}
 use Rattle.http_talk.specs.declared.answer.Answer.TheVariants as answer
 use Rattle.http_talk.specs.declared.refusal.BodyFault.{BodyFault}
-use Rattle.http_talk.specs.declared.refusal.BodyFault.TheVariants.{Differential, EntityTooLong, MissingField, NotDelivery, NotJson, NotText, TooManyCalls, Wire}
 use Rattle.http_talk.specs.declared.refusal.Refusal.{Refusal}
 use Rattle.http_talk.specs.declared.refusal.Refusal.TheVariants as refusal
-use Rattle.http_talk.specs.declared.target.Target.{Target}
-use Rattle.http_talk.specs.declared.target.Target.TheVariants.{EtGet, EtPost, RtGet, RtPost, SxPost}
+use Rattle.http_talk.specs.declared.target.Action.{Action}
+use Rattle.http_talk.specs.declared.target.Action.TheVariants as action
+use Rattle.http_talk.specs.declared.target.Resource.{Resource}
+use Rattle.http_talk.specs.declared.target.Resource.TheVariants as resource
+use Rattle.gw_base.specs.declared.kind.Kind.{Kind}
+use Rattle.gw_base.specs.declared.kind.Kind.TheVariants as kind
 use Rattle.journey_model.specs.FeedReadings.{is_differential}
 use Rattle.journey_model.specs.Records.{Recorded}
 use Rattle.journey_model.specs.Schedules.{Schedule}
@@ -39,63 +40,64 @@ use Rattle.gateway_core.specs.Standing.{IsLastSiri}
 use Rattle.gateway_core.specs.Taking.{TakesFeed, TakesJourneys, TakesSituations, journeys_with_room, limited_verdicts, report_json, report_on, situations_with_room}
 use Rattle.gateway_core.specs.declared.setting.Setting.{Setting}
 use Rattle.gateway_server.specs.Answers.{IsAnswered, IsFeedShown, answer_of, body_refused, feed_shown, mark_of, refused, refused_with, taken, text_shown}
-use Rattle.gateway_server.specs.Bodies.{Brings, RefusesBody, RefusesDelivery, RefusesFeed}
+use Rattle.gateway_core.specs.Bodies.{Brings, RefusesDelivery, RefusesFeed}
+use Rattle.gateway_core.specs.declared.take.body.BodyRefusal.{BodyRefusal}
+use Rattle.gateway_core.specs.declared.take.body.BodyRefusal.TheVariants as because
+use Rattle.gateway_server.specs.Bodies.{RefusesBody, fault_of}
 use Rattle.gateway_server.specs.Completeness.{EndsWith, IsSoundDelivery, IsSoundFeed, IsSoundSituations, IsUndisturbed, WantsMemory, none_aside}
 use Rattle.gateway_server.specs.Log.{IsFront, IsLawful, IsPosted, answered, lost, no_clock, no_memory}
 use Rattle.gateway_server.proofs.RoomLeft.{all_fit, all_pass, alike_journeys, alike_numbers, own_journey, own_number, report_of}
 
 -- ---- an input asks for one thing
 
-not_refused_get : (input : List ℕ) (why : Refusal) (target : Target) → IsRequest input (Refused why) → IsRequest input (Get target) → ⊥
-not_refused_get input why target a b = not_both (one_request input (Refused why) (Get target) a b)
+not_refused_get : (input : List ℕ) (why : Refusal) (what : Resource) → IsRequest input (Refused why) → IsRequest input (Get what) → ⊥
+not_refused_get input why what a b = not_both (one_request input (Refused why) (Get what) a b)
   where
-    not_both : Refused why ≡ Get target → ⊥
+    not_both : Refused why ≡ Get what → ⊥
     not_both e = cc
 
-not_refused_post : (input body : List ℕ) (why : Refusal) (target : Target) → IsRequest input (Refused why) → IsRequest input (Post target body) → ⊥
-not_refused_post input body why target a b = not_both (one_request input (Refused why) (Post target body) a b)
+not_refused_post : (input body : List ℕ) (why : Refusal) (of : Kind) → IsRequest input (Refused why) → IsRequest input (Post of body) → ⊥
+not_refused_post input body why of a b = not_both (one_request input (Refused why) (Post of body) a b)
   where
-    not_both : Refused why ≡ Post target body → ⊥
+    not_both : Refused why ≡ Post of body → ⊥
     not_both e = cc
 
-not_get_post : (input body : List ℕ) (target other : Target) → IsRequest input (Get target) → IsRequest input (Post other body) → ⊥
-not_get_post input body target other a b = not_both (one_request input (Get target) (Post other body) a b)
+not_get_post : (input body : List ℕ) (what : Resource) (of : Kind) → IsRequest input (Get what) → IsRequest input (Post of body) → ⊥
+not_get_post input body what of a b = not_both (one_request input (Get what) (Post of body) a b)
   where
-    not_both : Get target ≡ Post other body → ⊥
+    not_both : Get what ≡ Post of body → ⊥
     not_both e = cc
 
-same_get : (input : List ℕ) (target other : Target) → IsRequest input (Get target) → IsRequest input (Get other) → target ≡ other
-same_get input target other a b = part (one_request input (Get target) (Get other) a b)
+same_get : (input : List ℕ) (what other : Resource) → IsRequest input (Get what) → IsRequest input (Get other) → what ≡ other
+same_get input what other a b = part (one_request input (Get what) (Get other) a b)
   where
-    part : Get target ≡ Get other → target ≡ other
+    part : Get what ≡ Get other → what ≡ other
     part e = cc
 
-same_post : (input body more : List ℕ) (target other : Target) → IsRequest input (Post target body) → IsRequest input (Post other more) → (target ≡ other) × (body ≡ more)
-same_post input body more target other a b =
-    let same : Post target body ≡ Post other more = one_request input (Post target body) (Post other more) a b in
+same_post : (input body more : List ℕ) (of other : Kind) → IsRequest input (Post of body) → IsRequest input (Post other more) → (of ≡ other) × (body ≡ more)
+same_post input body more of other a b =
+    let same : Post of body ≡ Post other more = one_request input (Post of body) (Post other more) a b in
     (first same, second same)
   where
-    first : Post target body ≡ Post other more → target ≡ other
+    first : Post of body ≡ Post other more → of ≡ other
     first e = cc
 
-    second : Post target body ≡ Post other more → body ≡ more
+    second : Post of body ≡ Post other more → body ≡ more
     second e = cc
 
 -- an input that asks to GET is not posted
-not_posted : (input : List ℕ) (target : Target) → IsRequest input (Get target) → IsPosted input → ⊥
-not_posted input target asks posted =
-    by (is_post posted.1.target) posted.3
-    (one_request input (Get target) (with_body (Ok posted.1) (drop posted.0 input)) asks (headed posted.0 (Ok posted.1) posted.2 refl))
+not_posted : (input : List ℕ) (what : Resource) → IsRequest input (Get what) → IsPosted input → ⊥
+not_posted input what asks posted =
+    by
+    (subst (λ (a : Action). Get what ≡ request_of a posted.1.length (drop posted.0 input)) posted.4
+    (one_request input (Get what) (with_body (Ok posted.1) (drop posted.0 input)) asks (headed posted.0 (Ok posted.1) posted.3 refl)))
   where
-    within : (c : Bool) → Get target ≡ cond c (Post posted.1.target (take posted.1.length (drop posted.0 input))) (Refused refusal.Cut) → ⊥
+    within : (c : Bool) → Get what ≡ cond c (Post posted.2 (take posted.1.length (drop posted.0 input))) (Refused refusal.Cut) → ⊥
     within true e = cc
     within false e = cc
 
-    by : (b : Bool) → b ≡ true
-        → Get target ≡ cond b (cond (nat_le posted.1.length (length (drop posted.0 input))) (Post posted.1.target (take posted.1.length (drop posted.0 input))) (Refused refusal.Cut)) (Get posted.1.target)
-        → ⊥
-    by true post e = within (nat_le posted.1.length (length (drop posted.0 input))) e
-    by false post e = true≢false (sym post)
+    by : Get what ≡ request_of (action.Post posted.2) posted.1.length (drop posted.0 input) → ⊥
+    by e = within (nat_le posted.1.length (length (drop posted.0 input))) e
 
 -- ---- without a cause
 
@@ -125,16 +127,14 @@ same_ok a b e = same_Some a b (ap result_ok e)
 
 -- a delivery that has verdicts is not refused
 not_refused : {A : Type 0} (judge : Data → Result A Member) (body : List ℕ) (root : Data) (all : A) → tree_of body ≡ Some root → judge root ≡ Ok all
-    → (fault : BodyFault) → RefusesDelivery (λ root member. judge root ≡ Err member) body fault → ⊥
-not_refused judge body root all tree ok NotJson why = none-some root (sym why ∙ tree)
-not_refused judge body root all tree ok (NotDelivery member) why =
-    none-some all (ap result_ok (sym why.2 ∙ ap judge (same_Some why.0 root (sym why.1 ∙ tree)) ∙ ok))
-not_refused judge body root all tree ok (Wire at kind) why = why
-not_refused judge body root all tree ok (MissingField at field) why = why
-not_refused judge body root all tree ok (NotText at) why = why
-not_refused judge body root all tree ok (EntityTooLong at) why = why
-not_refused judge body root all tree ok Differential why = why
-not_refused judge body root all tree ok (TooManyCalls calls) why = why
+    → (cause : BodyRefusal) (fault : BodyFault) → RefusesDelivery (λ root member. judge root ≡ Err member) body cause → fault_of cause ≡ Some fault → ⊥
+not_refused judge body root all tree ok because.NotJson fault refuses told = none-some root (sym refuses ∙ tree)
+not_refused judge body root all tree ok (because.NotDelivery member) fault refuses told =
+    none-some all (ap result_ok (sym refuses.2 ∙ ap judge (same_Some refuses.0 root (sym refuses.1 ∙ tree)) ∙ ok))
+not_refused judge body root all tree ok (because.Feed one) fault refuses told = refuses
+not_refused judge body root all tree ok because.Differential fault refuses told = refuses
+not_refused judge body root all tree ok (because.TooManyCalls calls) fault refuses told = refuses
+not_refused judge body root all tree ok because.Memory fault refuses told = none-some fault told
 
 module _ (setting : Setting) (arrivals : List Arrival) (moment : ℤ) where
   -- none of a delivery's journeys is set aside
@@ -172,139 +172,141 @@ module _ (setting : Setting) (arrivals : List Arrival) (moment : ℤ) where
       room = subst (λ (before : List Situation). length (firsts is_same_number (before ++ given)) ≤ most_numbers) (sym (all_pass (admitted_situations arrivals))) sound.room
 
   -- what a body brings that is posted as journeys, and as situations
-  brought_journeys : (body : List ℕ) (records : List Recorded) (passed : ℕ) (target : Target) (report : Report) (given : Given) → target ≡ EtPost
-      → IsSoundDelivery setting arrivals moment body records passed → Brings setting arrivals moment target body report given
+  brought_journeys : (body : List ℕ) (records : List Recorded) (passed : ℕ) (of : Kind) (report : Report) (given : Given) → of ≡ kind.Estimated
+      → IsSoundDelivery setting arrivals moment body records passed → Brings setting arrivals moment of body report given
       → (mark_of given ≡ mark.Taken) × (report ≡ none_aside (length records) passed)
-  brought_journeys body records passed target report (journeys others) is sound brings = (refl, journeys_report body records others passed report sound brings.1)
-  brought_journeys body records passed target report (situations others) is sound brings = absurd (not_both brings.0 is)
+  brought_journeys body records passed of report (journeys others) is sound brings = (refl, journeys_report body records others passed report sound brings.1)
+  brought_journeys body records passed of report (situations others) is sound brings = absurd (not_both brings.0 is)
     where
-      not_both : target ≡ SxPost → target ≡ EtPost → ⊥
+      not_both : of ≡ kind.Situations → of ≡ kind.Estimated → ⊥
       not_both e f = cc
-  brought_journeys body records passed target report (feed one) is sound brings = absurd (not_both brings.0 is)
+  brought_journeys body records passed of report (feed one) is sound brings = absurd (not_both brings.0 is)
     where
-      not_both : target ≡ RtPost → target ≡ EtPost → ⊥
+      not_both : of ≡ kind.Feed → of ≡ kind.Estimated → ⊥
       not_both e f = cc
 
-  brought_situations : (body : List ℕ) (all : List Situation) (passed : ℕ) (target : Target) (report : Report) (given : Given) → target ≡ SxPost
-      → IsSoundSituations setting arrivals moment body all passed → Brings setting arrivals moment target body report given
+  brought_situations : (body : List ℕ) (all : List Situation) (passed : ℕ) (of : Kind) (report : Report) (given : Given) → of ≡ kind.Situations
+      → IsSoundSituations setting arrivals moment body all passed → Brings setting arrivals moment of body report given
       → (mark_of given ≡ mark.Taken) × (report ≡ none_aside (length all) passed)
-  brought_situations body all passed target report (journeys others) is sound brings = absurd (not_both brings.0 is)
+  brought_situations body all passed of report (journeys others) is sound brings = absurd (not_both brings.0 is)
     where
-      not_both : target ≡ EtPost → target ≡ SxPost → ⊥
+      not_both : of ≡ kind.Estimated → of ≡ kind.Situations → ⊥
       not_both e f = cc
-  brought_situations body all passed target report (situations others) is sound brings = (refl, situations_report body all others passed report sound brings.1)
-  brought_situations body all passed target report (feed one) is sound brings = absurd (not_both brings.0 is)
+  brought_situations body all passed of report (situations others) is sound brings = (refl, situations_report body all others passed report sound brings.1)
+  brought_situations body all passed of report (feed one) is sound brings = absurd (not_both brings.0 is)
     where
-      not_both : target ≡ RtPost → target ≡ SxPost → ⊥
+      not_both : of ≡ kind.Feed → of ≡ kind.Situations → ⊥
       not_both e f = cc
 
   -- ---- a feed
 
   module _ (one_feed : (bytes : List ℕ) (one other : Feed) → MeansFeed bytes one → MeansFeed bytes other → one ≡ other) where
-    feed_not_refused : (schedule : Schedule) (body : List ℕ) (one : Feed) → IsSoundFeed schedule body one → (fault : BodyFault) → RefusesFeed schedule body fault → ⊥
-    feed_not_refused schedule body one sound NotJson why = why
-    feed_not_refused schedule body one sound (NotDelivery member) why = why
-    feed_not_refused schedule body one sound (Wire at kind) why = sound.is_feed.1 (feed_fault.Wire (record { at = at; kind = kind })) why.0
-    feed_not_refused schedule body one sound (MissingField at field) why = sound.is_feed.1 (feed_fault.MissingField at field) why.0
-    feed_not_refused schedule body one sound (NotText at) why = sound.is_feed.1 (feed_fault.NotText at) why.0
-    feed_not_refused schedule body one sound (EntityTooLong at) why = sound.is_feed.1 (feed_fault.EntityTooLong at) why.0
-    feed_not_refused schedule body one sound Differential why =
-        true≢false (sym why.2 ∙ ap is_differential (one_feed body why.0 one why.1.0 sound.is_feed.0) ∙ sound.full)
-    feed_not_refused schedule body one sound (TooManyCalls calls) why =
-        sound.few calls (subst (λ (f : Feed). HasTooMany schedule f calls) (one_feed body why.0 one why.1.0 sound.is_feed.0) why.3)
+    feed_not_refused : (schedule : Schedule) (body : List ℕ) (one : Feed) → IsSoundFeed schedule body one
+        → (cause : BodyRefusal) (fault : BodyFault) → RefusesFeed schedule body cause → fault_of cause ≡ Some fault → ⊥
+    feed_not_refused schedule body one sound because.NotJson fault refuses told = refuses
+    feed_not_refused schedule body one sound (because.NotDelivery member) fault refuses told = refuses
+    feed_not_refused schedule body one sound (because.Feed found) fault refuses told = sound.is_feed.faultless found refuses.0
+    feed_not_refused schedule body one sound because.Differential fault refuses told =
+        true≢false (sym refuses.2 ∙ ap is_differential (one_feed body refuses.0 one refuses.1.means sound.is_feed.means) ∙ sound.full)
+    feed_not_refused schedule body one sound (because.TooManyCalls calls) fault refuses told =
+        sound.few calls (subst (λ (f : Feed). HasTooMany schedule f calls) (one_feed body refuses.0 one refuses.1.means sound.is_feed.means) refuses.3)
+    feed_not_refused schedule body one sound because.Memory fault refuses told = none-some fault told
 
-    brought_feed : (body : List ℕ) (one : Feed) (target : Target) (report : Report) (given : Given) → target ≡ RtPost
-        → IsSoundFeed (schedule_at setting (moment ∷ moments_of arrivals)) body one → Brings setting arrivals moment target body report given
+    brought_feed : (body : List ℕ) (one : Feed) (of : Kind) (report : Report) (given : Given) → of ≡ kind.Feed
+        → IsSoundFeed (schedule_at setting (moment ∷ moments_of arrivals)) body one → Brings setting arrivals moment of body report given
         → TakesFeed setting arrivals moment body report one × (mark_of given ≡ mark.Fed)
-    brought_feed body one target report (journeys others) is sound brings = absurd (not_both brings.0 is)
+    brought_feed body one of report (journeys others) is sound brings = absurd (not_both brings.0 is)
       where
-        not_both : target ≡ EtPost → target ≡ RtPost → ⊥
+        not_both : of ≡ kind.Estimated → of ≡ kind.Feed → ⊥
         not_both e f = cc
-    brought_feed body one target report (situations others) is sound brings = absurd (not_both brings.0 is)
+    brought_feed body one of report (situations others) is sound brings = absurd (not_both brings.0 is)
       where
-        not_both : target ≡ SxPost → target ≡ RtPost → ⊥
+        not_both : of ≡ kind.Situations → of ≡ kind.Feed → ⊥
         not_both e f = cc
-    brought_feed body one target report (feed other) is sound brings = (
-      subst (λ (f : Feed). TakesFeed setting arrivals moment body report f) (one_feed body other one brings.1.means sound.is_feed.0) brings.1,
+    brought_feed body one of report (feed other) is sound brings = (
+      subst (λ (f : Feed). TakesFeed setting arrivals moment body report f) (one_feed body other one brings.1.is_feed.means sound.is_feed.means) brings.1,
       refl,
     )
 
   -- ---- what is answered
 
   module _ (input : List ℕ) (ends : Mark) (bytes : List ℕ) where
-    journeys_answered : (body : List ℕ) (records : List Recorded) (passed : ℕ) → IsRequest input (Post EtPost body) → IsSoundDelivery setting arrivals moment body records passed
+    journeys_answered : (body : List ℕ) (records : List Recorded) (passed : ℕ) → IsRequest input (Post kind.Estimated body) → IsSoundDelivery setting arrivals moment body records passed
         → IsAnswered setting arrivals input moment ends bytes
         → (ends ≡ mark.Taken) × (bytes ≡ answer_of answer.Json (report_json (none_aside (length records) passed)))
-    journeys_answered body records passed posted sound (refused why asks is are) = absurd (not_refused_post input body why EtPost asks posted)
-    journeys_answered body records passed posted sound (feed_shown other asks shown is are) = absurd (not_get_post input body RtGet EtPost asks posted)
-    journeys_answered body records passed posted sound (text_shown other asks shown is are) = absurd (not_get_post input body EtGet EtPost asks posted)
-    journeys_answered body records passed posted sound (body_refused target other fault asks why is are) =
-        let same : (target ≡ EtPost) × (other ≡ body) = same_post input other body target EtPost asks posted in
-        absurd (not_refused (journey_items.verdicts (schedule_at setting (moment ∷ moments_of arrivals))) body sound.root sound.all sound.is_tree sound.judged fault
-        (subst (λ (t : Target). RefusesBody (schedule_at setting (moment ∷ moments_of arrivals)) t body fault) same.0
-        (subst (λ (b : List ℕ). RefusesBody (schedule_at setting (moment ∷ moments_of arrivals)) target b fault) same.1 why)))
-    journeys_answered body records passed posted sound (taken target other report given asks brings is are) =
-        let same : (target ≡ EtPost) × (other ≡ body) = same_post input other body target EtPost asks posted in
+    journeys_answered body records passed posted sound (refused why asks is are) = absurd (not_refused_post input body why kind.Estimated asks posted)
+    journeys_answered body records passed posted sound (feed_shown other asks shown is are) = absurd (not_get_post input body resource.Feed kind.Estimated asks posted)
+    journeys_answered body records passed posted sound (text_shown other asks shown is are) = absurd (not_get_post input body resource.Timetable kind.Estimated asks posted)
+    journeys_answered body records passed posted sound (body_refused of other fault asks why is are) =
+        let same : (of ≡ kind.Estimated) × (other ≡ body) = same_post input other body of kind.Estimated asks posted in
+        let told : RefusesBody (schedule_at setting (moment ∷ moments_of arrivals)) kind.Estimated body fault =
+        subst (λ (k : Kind). RefusesBody (schedule_at setting (moment ∷ moments_of arrivals)) k body fault) same.0
+        (subst (λ (b : List ℕ). RefusesBody (schedule_at setting (moment ∷ moments_of arrivals)) of b fault) same.1 why) in
+        absurd (not_refused (journey_items.verdicts (schedule_at setting (moment ∷ moments_of arrivals))) body sound.root sound.all sound.is_tree sound.judged told.0 fault told.1 told.2)
+    journeys_answered body records passed posted sound (taken of other report given asks brings is are) =
+        let same : (of ≡ kind.Estimated) × (other ≡ body) = same_post input other body of kind.Estimated asks posted in
         let brought : (mark_of given ≡ mark.Taken) × (report ≡ none_aside (length records) passed) =
-        brought_journeys body records passed target report given same.0 sound (subst (λ (b : List ℕ). Brings setting arrivals moment target b report given) same.1 brings) in
+        brought_journeys body records passed of report given same.0 sound (subst (λ (b : List ℕ). Brings setting arrivals moment of b report given) same.1 brings) in
         (is ∙ brought.0, are ∙ ap (λ (r : Report). answer_of answer.Json (report_json r)) brought.1)
 
-    situations_answered : (body : List ℕ) (all : List Situation) (passed : ℕ) → IsRequest input (Post SxPost body) → IsSoundSituations setting arrivals moment body all passed
+    situations_answered : (body : List ℕ) (all : List Situation) (passed : ℕ) → IsRequest input (Post kind.Situations body) → IsSoundSituations setting arrivals moment body all passed
         → IsAnswered setting arrivals input moment ends bytes
         → (ends ≡ mark.Taken) × (bytes ≡ answer_of answer.Json (report_json (none_aside (length all) passed)))
-    situations_answered body all passed posted sound (refused why asks is are) = absurd (not_refused_post input body why SxPost asks posted)
-    situations_answered body all passed posted sound (feed_shown other asks shown is are) = absurd (not_get_post input body RtGet SxPost asks posted)
-    situations_answered body all passed posted sound (text_shown other asks shown is are) = absurd (not_get_post input body EtGet SxPost asks posted)
-    situations_answered body all passed posted sound (body_refused target other fault asks why is are) =
-        let same : (target ≡ SxPost) × (other ≡ body) = same_post input other body target SxPost asks posted in
-        absurd (not_refused (situation_items.verdicts (schedule_at setting (moment ∷ moments_of arrivals))) body sound.root sound.all sound.is_tree sound.judged fault
-        (subst (λ (t : Target). RefusesBody (schedule_at setting (moment ∷ moments_of arrivals)) t body fault) same.0
-        (subst (λ (b : List ℕ). RefusesBody (schedule_at setting (moment ∷ moments_of arrivals)) target b fault) same.1 why)))
-    situations_answered body all passed posted sound (taken target other report given asks brings is are) =
-        let same : (target ≡ SxPost) × (other ≡ body) = same_post input other body target SxPost asks posted in
+    situations_answered body all passed posted sound (refused why asks is are) = absurd (not_refused_post input body why kind.Situations asks posted)
+    situations_answered body all passed posted sound (feed_shown other asks shown is are) = absurd (not_get_post input body resource.Feed kind.Situations asks posted)
+    situations_answered body all passed posted sound (text_shown other asks shown is are) = absurd (not_get_post input body resource.Timetable kind.Situations asks posted)
+    situations_answered body all passed posted sound (body_refused of other fault asks why is are) =
+        let same : (of ≡ kind.Situations) × (other ≡ body) = same_post input other body of kind.Situations asks posted in
+        let told : RefusesBody (schedule_at setting (moment ∷ moments_of arrivals)) kind.Situations body fault =
+        subst (λ (k : Kind). RefusesBody (schedule_at setting (moment ∷ moments_of arrivals)) k body fault) same.0
+        (subst (λ (b : List ℕ). RefusesBody (schedule_at setting (moment ∷ moments_of arrivals)) of b fault) same.1 why) in
+        absurd (not_refused (situation_items.verdicts (schedule_at setting (moment ∷ moments_of arrivals))) body sound.root sound.all sound.is_tree sound.judged told.0 fault told.1 told.2)
+    situations_answered body all passed posted sound (taken of other report given asks brings is are) =
+        let same : (of ≡ kind.Situations) × (other ≡ body) = same_post input other body of kind.Situations asks posted in
         let brought : (mark_of given ≡ mark.Taken) × (report ≡ none_aside (length all) passed) =
-        brought_situations body all passed target report given same.0 sound (subst (λ (b : List ℕ). Brings setting arrivals moment target b report given) same.1 brings) in
+        brought_situations body all passed of report given same.0 sound (subst (λ (b : List ℕ). Brings setting arrivals moment of b report given) same.1 brings) in
         (is ∙ brought.0, are ∙ ap (λ (r : Report). answer_of answer.Json (report_json r)) brought.1)
 
     feed_answered : ((bytes : List ℕ) (one other : Feed) → MeansFeed bytes one → MeansFeed bytes other → one ≡ other)
-        → (body : List ℕ) (one : Feed) → IsRequest input (Post RtPost body) → IsSoundFeed (schedule_at setting (moment ∷ moments_of arrivals)) body one
+        → (body : List ℕ) (one : Feed) → IsRequest input (Post kind.Feed body) → IsSoundFeed (schedule_at setting (moment ∷ moments_of arrivals)) body one
         → IsAnswered setting arrivals input moment ends bytes
         → (report : Report) × TakesFeed setting arrivals moment body report one × ((ends ≡ mark.Fed) × (bytes ≡ answer_of answer.Json (report_json report)))
-    feed_answered one_feed body one posted sound (refused why asks is are) = absurd (not_refused_post input body why RtPost asks posted)
-    feed_answered one_feed body one posted sound (feed_shown other asks shown is are) = absurd (not_get_post input body RtGet RtPost asks posted)
-    feed_answered one_feed body one posted sound (text_shown other asks shown is are) = absurd (not_get_post input body EtGet RtPost asks posted)
-    feed_answered one_feed body one posted sound (body_refused target other fault asks why is are) =
-        let same : (target ≡ RtPost) × (other ≡ body) = same_post input other body target RtPost asks posted in
-        absurd (feed_not_refused one_feed (schedule_at setting (moment ∷ moments_of arrivals)) body one sound fault
-        (subst (λ (t : Target). RefusesBody (schedule_at setting (moment ∷ moments_of arrivals)) t body fault) same.0
-        (subst (λ (b : List ℕ). RefusesBody (schedule_at setting (moment ∷ moments_of arrivals)) target b fault) same.1 why)))
-    feed_answered one_feed body one posted sound (taken target other report given asks brings is are) =
-        let same : (target ≡ RtPost) × (other ≡ body) = same_post input other body target RtPost asks posted in
+    feed_answered one_feed body one posted sound (refused why asks is are) = absurd (not_refused_post input body why kind.Feed asks posted)
+    feed_answered one_feed body one posted sound (feed_shown other asks shown is are) = absurd (not_get_post input body resource.Feed kind.Feed asks posted)
+    feed_answered one_feed body one posted sound (text_shown other asks shown is are) = absurd (not_get_post input body resource.Timetable kind.Feed asks posted)
+    feed_answered one_feed body one posted sound (body_refused of other fault asks why is are) =
+        let same : (of ≡ kind.Feed) × (other ≡ body) = same_post input other body of kind.Feed asks posted in
+        let told : RefusesBody (schedule_at setting (moment ∷ moments_of arrivals)) kind.Feed body fault =
+        subst (λ (k : Kind). RefusesBody (schedule_at setting (moment ∷ moments_of arrivals)) k body fault) same.0
+        (subst (λ (b : List ℕ). RefusesBody (schedule_at setting (moment ∷ moments_of arrivals)) of b fault) same.1 why) in
+        absurd (feed_not_refused one_feed (schedule_at setting (moment ∷ moments_of arrivals)) body one sound told.0 fault told.1 told.2)
+    feed_answered one_feed body one posted sound (taken of other report given asks brings is are) =
+        let same : (of ≡ kind.Feed) × (other ≡ body) = same_post input other body of kind.Feed asks posted in
         let brought : TakesFeed setting arrivals moment body report one × (mark_of given ≡ mark.Fed) =
-        brought_feed one_feed body one target report given same.0 sound (subst (λ (b : List ℕ). Brings setting arrivals moment target b report given) same.1 brings) in
+        brought_feed one_feed body one of report given same.0 sound (subst (λ (b : List ℕ). Brings setting arrivals moment of b report given) same.1 brings) in
         (report, brought.0, (is ∙ brought.1, are))
 
-    feed_is_shown : IsRequest input (Get RtGet) → IsAnswered setting arrivals input moment ends bytes
+    feed_is_shown : IsRequest input (Get resource.Feed) → IsAnswered setting arrivals input moment ends bytes
         → (body : List ℕ) × IsFeedShown setting moment arrivals body × ((ends ≡ mark.Shown) × (bytes ≡ answer_of answer.Feed body))
-    feed_is_shown asked (refused why asks is are) = absurd (not_refused_get input why RtGet asks asked)
+    feed_is_shown asked (refused why asks is are) = absurd (not_refused_get input why resource.Feed asks asked)
     feed_is_shown asked (feed_shown body asks shown is are) = (body, shown, (is, are))
-    feed_is_shown asked (text_shown body asks shown is are) = absurd (not_both (same_get input EtGet RtGet asks asked))
+    feed_is_shown asked (text_shown body asks shown is are) = absurd (not_both (same_get input resource.Timetable resource.Feed asks asked))
       where
-        not_both : EtGet ≡ RtGet → ⊥
+        not_both : resource.Timetable ≡ resource.Feed → ⊥
         not_both e = cc
-    feed_is_shown asked (body_refused target body fault asks why is are) = absurd (not_get_post input body RtGet target asked asks)
-    feed_is_shown asked (taken target body report given asks brings is are) = absurd (not_get_post input body RtGet target asked asks)
+    feed_is_shown asked (body_refused of body fault asks why is are) = absurd (not_get_post input body resource.Feed of asked asks)
+    feed_is_shown asked (taken of body report given asks brings is are) = absurd (not_get_post input body resource.Feed of asked asks)
 
-    text_is_shown : IsRequest input (Get EtGet) → IsAnswered setting arrivals input moment ends bytes
+    text_is_shown : IsRequest input (Get resource.Timetable) → IsAnswered setting arrivals input moment ends bytes
         → (body : List ℕ) × IsLastSiri setting arrivals body × ((ends ≡ mark.Shown) × (bytes ≡ answer_of answer.Json body))
-    text_is_shown asked (refused why asks is are) = absurd (not_refused_get input why EtGet asks asked)
-    text_is_shown asked (feed_shown body asks shown is are) = absurd (not_both (same_get input RtGet EtGet asks asked))
+    text_is_shown asked (refused why asks is are) = absurd (not_refused_get input why resource.Timetable asks asked)
+    text_is_shown asked (feed_shown body asks shown is are) = absurd (not_both (same_get input resource.Feed resource.Timetable asks asked))
       where
-        not_both : RtGet ≡ EtGet → ⊥
+        not_both : resource.Feed ≡ resource.Timetable → ⊥
         not_both e = cc
     text_is_shown asked (text_shown body asks shown is are) = (body, shown, (is, are))
-    text_is_shown asked (body_refused target body fault asks why is are) = absurd (not_get_post input body EtGet target asked asks)
-    text_is_shown asked (taken target body report given asks brings is are) = absurd (not_get_post input body EtGet target asked asks)
+    text_is_shown asked (body_refused of body fault asks why is are) = absurd (not_get_post input body resource.Timetable of asked asks)
+    text_is_shown asked (taken of body report given asks brings is are) = absurd (not_get_post input body resource.Timetable of asked asks)
 
 -- ---- the law, for any cause
 
@@ -318,40 +320,40 @@ module _ (Cause : Type 0) (setting : Setting) (arrivals : List Arrival) (entry :
       by (inr wants) = inr wants.1
 
   -- what is got has it
-  got : (Has : Type 0) (target : Target) → IsRequest entry.input (Get target) → (IsAnswered setting arrivals entry.input moment entry.mark entry.output → Has) → Has
-  got Has target asks has = by (undisturbed Cause setting arrivals entry moment calm.calm calm.timed calm.lawful)
+  got : (Has : Type 0) (what : Resource) → IsRequest entry.input (Get what) → (IsAnswered setting arrivals entry.input moment entry.mark entry.output → Has) → Has
+  got Has what asks has = by (undisturbed Cause setting arrivals entry moment calm.calm calm.timed calm.lawful)
     where
       by : IsAnswered setting arrivals entry.input moment entry.mark entry.output ⊎ (IsPosted entry.input × WantsMemory entry) → Has
       by (inl says) = has says
-      by (inr wants) = absurd (not_posted entry.input target asks wants.0)
+      by (inr wants) = absurd (not_posted entry.input what asks wants.0)
 
-  pub journeys_are_taken : (body : List ℕ) (records : List Recorded) (passed : ℕ) → IsRequest entry.input (Post EtPost body) → IsSoundDelivery setting arrivals moment body records passed
+  pub journeys_are_taken : (body : List ℕ) (records : List Recorded) (passed : ℕ) → IsRequest entry.input (Post kind.Estimated body) → IsSoundDelivery setting arrivals moment body records passed
       → EndsWith entry mark.Taken (answer_of answer.Json (report_json (none_aside (length records) passed))) ⊎ WantsMemory entry
   journeys_are_taken body records passed posted sound =
       or_memory (EndsWith entry mark.Taken (answer_of answer.Json (report_json (none_aside (length records) passed))))
       (journeys_answered setting arrivals moment entry.input entry.mark entry.output body records passed posted sound)
 
-  pub situations_are_taken : (body : List ℕ) (given : List Situation) (passed : ℕ) → IsRequest entry.input (Post SxPost body) → IsSoundSituations setting arrivals moment body given passed
+  pub situations_are_taken : (body : List ℕ) (given : List Situation) (passed : ℕ) → IsRequest entry.input (Post kind.Situations body) → IsSoundSituations setting arrivals moment body given passed
       → EndsWith entry mark.Taken (answer_of answer.Json (report_json (none_aside (length given) passed))) ⊎ WantsMemory entry
   situations_are_taken body given passed posted sound =
       or_memory (EndsWith entry mark.Taken (answer_of answer.Json (report_json (none_aside (length given) passed))))
       (situations_answered setting arrivals moment entry.input entry.mark entry.output body given passed posted sound)
 
   pub a_feed_is_taken : ((bytes : List ℕ) (one other : Feed) → MeansFeed bytes one → MeansFeed bytes other → one ≡ other)
-      → (body : List ℕ) (one : Feed) → IsRequest entry.input (Post RtPost body) → IsSoundFeed (schedule_at setting (moment ∷ moments_of arrivals)) body one
+      → (body : List ℕ) (one : Feed) → IsRequest entry.input (Post kind.Feed body) → IsSoundFeed (schedule_at setting (moment ∷ moments_of arrivals)) body one
       → ((report : Report) × TakesFeed setting arrivals moment body report one × EndsWith entry mark.Fed (answer_of answer.Json (report_json report))) ⊎ WantsMemory entry
   a_feed_is_taken one_feed body one posted sound =
       or_memory ((report : Report) × TakesFeed setting arrivals moment body report one × EndsWith entry mark.Fed (answer_of answer.Json (report_json report)))
       (feed_answered setting arrivals moment entry.input entry.mark entry.output one_feed body one posted sound)
 
-  pub the_feed_is_shown : IsRequest entry.input (Get RtGet)
+  pub the_feed_is_shown : IsRequest entry.input (Get resource.Feed)
       → (body : List ℕ) × IsFeedShown setting moment arrivals body × EndsWith entry mark.Shown (answer_of answer.Feed body)
   the_feed_is_shown asks =
-      got ((body : List ℕ) × IsFeedShown setting moment arrivals body × EndsWith entry mark.Shown (answer_of answer.Feed body)) RtGet asks
+      got ((body : List ℕ) × IsFeedShown setting moment arrivals body × EndsWith entry mark.Shown (answer_of answer.Feed body)) resource.Feed asks
       (feed_is_shown setting arrivals moment entry.input entry.mark entry.output asks)
 
-  pub the_text_is_shown : IsRequest entry.input (Get EtGet)
+  pub the_text_is_shown : IsRequest entry.input (Get resource.Timetable)
       → (body : List ℕ) × IsLastSiri setting arrivals body × EndsWith entry mark.Shown (answer_of answer.Json body)
   the_text_is_shown asks =
-      got ((body : List ℕ) × IsLastSiri setting arrivals body × EndsWith entry mark.Shown (answer_of answer.Json body)) EtGet asks
+      got ((body : List ℕ) × IsLastSiri setting arrivals body × EndsWith entry mark.Shown (answer_of answer.Json body)) resource.Timetable asks
       (text_is_shown setting arrivals moment entry.input entry.mark entry.output asks)

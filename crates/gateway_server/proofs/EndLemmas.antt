@@ -1,5 +1,5 @@
 -- How a connection ends.
-use Rattle.std.proofs.Common.{◌≡◌, ◌∙◌, ◌++◌, ◌∷◌, [], ℕ, ℤ, Bool, true, false, List, Option, Some, None, Ok, Err, take, ap, sym, refl, subst}
+use Rattle.std.proofs.Common.{◌≡◌, ◌∙◌, ◌++◌, ◌∷◌, [], ℕ, ℤ, List, Option, Some, None, Ok, Err, drop, take, ap, sym, refl, subst}
 use Rattle.std.specs.Prelude.{IfSome, MatchOption, option_map}
 use Rattle.gw_base.specs.Changes.{Change}
 use Rattle.gw_base.specs.Connections.{Beside, Connections, IsOutput, Logs}
@@ -9,18 +9,22 @@ use Rattle.gw_base.specs.declared.door.Mark.{Mark}
 use Rattle.gw_base.specs.declared.door.Mark.TheVariants as mark
 use Rattle.door_talk.specs.Requests.{AsksFor, HasRead}
 use Rattle.door_talk.specs.declared.asked.Asked.{Asked}
-use Rattle.http_talk.specs.Asked.{is_post}
-use Rattle.http_talk.specs.Request.{Get, IsRequest, Post, Refused, ended, headed, too_long}
+use Rattle.http_talk.specs.Asked.{action_of}
+use Rattle.http_talk.specs.Request.{Get, IsRequest, Post, Refused, ended, headed, request_of, too_long}
 use Rattle.http_talk.specs.declared.answer.Answer.TheVariants as answer
 use Rattle.http_talk.specs.declared.refusal.Refusal.{Refusal}
 use Rattle.http_talk.specs.declared.refusal.Refusal.TheVariants as refusal
-use Rattle.http_talk.specs.declared.target.Target.{Target}
+use Rattle.http_talk.specs.declared.target.Action.{Action}
+use Rattle.http_talk.specs.declared.target.Action.TheVariants as action
+use Rattle.http_talk.specs.declared.target.Resource.{Resource}
+use Rattle.gw_base.specs.declared.kind.Kind.{Kind}
 use Rattle.gateway_core.specs.Arrivals.{Arrival}
 use Rattle.gateway_core.specs.Standing.{Kept, Stands}
 use Rattle.gateway_core.specs.Taking.{report_json}
 use Rattle.gateway_core.specs.declared.setting.Setting.{Setting}
 use Rattle.gateway_server.specs.Answers as answers
-use Rattle.gateway_server.specs.Answers.{answer_of, refused_with, status_of}
+use Rattle.http_talk.specs.Statuses.{status_of}
+use Rattle.gateway_server.specs.Answers.{answer_of, refused_with}
 use Rattle.gateway_server.specs.Log.{IsFront, IsLawful, IsPosted, answered, brought, is_taken, lost, no_clock, no_memory, nothing}
 use Rattle.gateway_server.specs.Serving.{AsksClock, IsFresh, IsLogged, Serves}
 use Rattle.gateway_server.specs.Steps as steps
@@ -33,35 +37,35 @@ front_of P before now text fresh puts =
     (take puts.0 text, puts.2 ∙ ap (λ told. with_bytes told (take puts.0 text)) fresh, (puts.0, puts.1, refl, puts.3))
 
 -- a body that was read whole was posted
-pub is_posted : (input body : List ℕ) (target : Target) → IsRequest input (Post target body) → IsPosted input
-is_posted input body target (ended until is) = absurd (not_refused is)
+pub is_posted : (input body : List ℕ) (of : Kind) → IsRequest input (Post of body) → IsPosted input
+is_posted input body of (ended until is) = absurd (not_refused is)
   where
-    not_refused : Post target body ≡ Refused refusal.Head → ⊥
+    not_refused : Post of body ≡ Refused refusal.Head → ⊥
     not_refused is = cc
-is_posted input body target (too_long long is) = absurd (not_refused is)
+is_posted input body of (too_long long is) = absurd (not_refused is)
   where
-    not_refused : Post target body ≡ Refused refusal.TooManyFields → ⊥
+    not_refused : Post of body ≡ Refused refusal.TooManyFields → ⊥
     not_refused is = cc
-is_posted input body target (headed count (Err why) is_head is) = absurd (not_refused is)
+is_posted input body of (headed count (Err why) is_head is) = absurd (not_refused is)
   where
-    not_refused : Post target body ≡ Refused why → ⊥
+    not_refused : Post of body ≡ Refused why → ⊥
     not_refused is = cc
-is_posted input body target (headed count (Ok head) is_head is) = (count, head, is_head, posted (is_post head.target) refl)
+is_posted input body of (headed count (Ok head) is_head is) = posted (action_of head.target) refl is
   where
-    posted : (c : Bool) → is_post head.target ≡ c → is_post head.target ≡ true
-    posted true e = e
-    posted false e = absurd (not_got (is ∙ rw e refl))
+    posted : (a : Action) → action_of head.target ≡ a → Post of body ≡ request_of a head.length (drop count input) → IsPosted input
+    posted (action.Get what) e same = absurd (not_got same)
       where
-        not_got : Post target body ≡ Get head.target → ⊥
+        not_got : Post of body ≡ Get what → ⊥
         not_got is = cc
+    posted (action.Post other) e same = (count, head, other, is_head, e)
 
 -- ---- after the request
 
 -- a GET was answered
-pub answers_shown : (P : Type 0) (kept : Kept) (arrivals : List Arrival) (input : List ℕ) (moment : ℤ) (target : Target) (before now : Option (List ℕ))
-    → before ≡ Some [] → IsRequest input (Get target) → PutsShown P kept.setting arrivals moment target before now → Stands kept arrivals
+pub answers_shown : (P : Type 0) (kept : Kept) (arrivals : List Arrival) (input : List ℕ) (moment : ℤ) (what : Resource) (before now : Option (List ℕ))
+    → before ≡ Some [] → IsRequest input (Get what) → PutsShown P kept.setting arrivals moment what before now → Stands kept arrivals
     → Answers P kept.setting arrivals input moment mark.Shown now kept
-answers_shown P kept arrivals input moment target before now fresh asks (steps.feed body is shown puts) stands =
+answers_shown P kept arrivals input moment what before now fresh asks (steps.feed body is shown puts) stands =
     let front : (written : List ℕ) × (now ≡ Some written) × IsFront P written (answer_of answer.Feed body) = front_of P before now (answer_of answer.Feed body) fresh puts in record {
       written = front.0;
       told = front.1;
@@ -70,7 +74,7 @@ answers_shown P kept arrivals input moment target before now fresh asks (steps.f
       leaves = nothing refl refl;
       stands = stands;
     }
-answers_shown P kept arrivals input moment target before now fresh asks (steps.text body is shown puts) stands =
+answers_shown P kept arrivals input moment what before now fresh asks (steps.text body is shown puts) stands =
     let front : (written : List ℕ) × (now ≡ Some written) × IsFront P written (answer_of answer.Json body) = front_of P before now (answer_of answer.Json body) fresh puts in record {
       written = front.0;
       told = front.1;
@@ -101,34 +105,34 @@ answers_no_room P kept arrivals input moment before now fresh posted puts stands
     no_room P kept.setting kept arrivals input moment mark.Memory before now fresh posted refl puts stands
 
 -- a POST was answered
-pub answers_taken : (P : Type 0) (kept : Kept) (arrivals : List Arrival) (input : List ℕ) (moment : ℤ) (target : Target) (body : List ℕ) (ends : Mark) (before now : Option (List ℕ)) (after : Kept)
-    → before ≡ Some [] → IsRequest input (Post target body) → PutsTaken P kept arrivals moment target body ends before now after → Stands kept arrivals
+pub answers_taken : (P : Type 0) (kept : Kept) (arrivals : List Arrival) (input : List ℕ) (moment : ℤ) (of : Kind) (body : List ℕ) (ends : Mark) (before now : Option (List ℕ)) (after : Kept)
+    → before ≡ Some [] → IsRequest input (Post of body) → PutsTaken P kept arrivals moment of body ends before now after → Stands kept arrivals
     → Answers P kept.setting arrivals input moment ends now after
-answers_taken P kept arrivals input moment target body ends before now after fresh asks (steps.taken report given brings is puts stands) old =
+answers_taken P kept arrivals input moment of body ends before now after fresh asks (steps.taken report given brings is puts stands) old =
     let front : (written : List ℕ) × (now ≡ Some written) × IsFront P written (answer_of answer.Json (report_json report)) = front_of P before now (answer_of answer.Json (report_json report)) fresh puts in record {
       written = front.0;
       told = front.1;
-      lawful = answered moment (answer_of answer.Json (report_json report)) refl (answers.taken target body report given asks brings is refl) front.2;
+      lawful = answered moment (answer_of answer.Json (report_json report)) refl (answers.taken of body report given asks brings is refl) front.2;
       arrived = record { moment = moment; gives = given } ∷ arrivals;
-      leaves = brought moment target body report given refl is asks brings refl;
+      leaves = brought moment of body report given refl is asks brings refl;
       stands = stands;
     }
-answers_taken P kept arrivals input moment target body ends before now after fresh asks (steps.refused fault why is puts same) old =
+answers_taken P kept arrivals input moment of body ends before now after fresh asks (steps.refused fault why is puts same) old =
     let front : (written : List ℕ) × (now ≡ Some written) × IsFront P written (refused_with (refusal.Body fault)) = front_of P before now (refused_with (refusal.Body fault)) fresh puts in record {
       written = front.0;
       told = front.1;
-      lawful = answered moment (refused_with (refusal.Body fault)) refl (answers.body_refused target body fault asks why is refl) front.2;
+      lawful = answered moment (refused_with (refusal.Body fault)) refl (answers.body_refused of body fault asks why is refl) front.2;
       arrived = arrivals;
       leaves = nothing (ap is_taken is) refl;
       stands = subst (λ (k : Kept). Stands k arrivals) (sym same) old;
     }
-answers_taken P kept arrivals input moment target body ends before now after fresh asks (steps.no_memory is puts same) old =
-    no_room P kept.setting after arrivals input moment ends before now fresh (is_posted input body target asks) is puts (subst (λ (k : Kept). Stands k arrivals) (sym same) old)
+answers_taken P kept arrivals input moment of body ends before now after fresh asks (steps.no_memory is puts same) old =
+    no_room P kept.setting after arrivals input moment ends before now fresh (is_posted input body of asks) is puts (subst (λ (k : Kept). Stands k arrivals) (sym same) old)
 
 -- a request was refused
 pub answers_refused : (P : Type 0) (kept : Kept) (arrivals : List Arrival) (input : List ℕ) (moment : ℤ) (why : Refusal) (before now : Option (List ℕ))
     → before ≡ Some [] → IsRequest input (Refused why) → PutsUnless P before now (refused_with why) → Stands kept arrivals
-    → Answers P kept.setting arrivals input moment (mark.Refused (status_of why)) now kept
+    → Answers P kept.setting arrivals input moment (mark.Refused (status_of why).code) now kept
 answers_refused P kept arrivals input moment why before now fresh asks puts stands =
     let front : (written : List ℕ) × (now ≡ Some written) × IsFront P written (refused_with why) = front_of P before now (refused_with why) fresh puts in record {
       written = front.0;
@@ -199,7 +203,7 @@ serves_at P Q before arrivals told clock old mid new bytes output last moment en
 
 -- ---- what was asked
 
-pub asked_of : (Stands : Target → List ℕ → Type 0) (output : Option (List ℕ)) (beside : Beside) (told : Connections) (asked one : Asked) → IsFresh output beside told
+pub asked_of : (Stands : Kind → List ℕ → Type 0) (output : Option (List ℕ)) (beside : Beside) (told : Connections) (asked one : Asked) → IsFresh output beside told
     → IfSome beside.told (λ told. AsksFor Stands told.unread asked) → asked ≡ one → AsksFor Stands told.input one
 asked_of Stands output beside told asked one fresh asks is =
     subst (AsksFor Stands told.input) is

@@ -1,25 +1,27 @@
 -- What is answered to a connection (RFC 9112), over what arrived of those before it.
 use Rattle.std.specs.Prelude.{◌≡◌, ℕ, ℤ, List, ◌∷◌, ◌++◌, length}
+use Rattle.gw_base.specs.declared.kind.Kind.{Kind}
 use Rattle.gw_base.specs.declared.door.Mark.{Mark}
 use Rattle.gw_base.specs.declared.door.Mark.TheVariants as mark
 use Rattle.http_talk.specs.Answers.{answer_head}
 use Rattle.http_talk.specs.Request.{IsRequest, Get, Post, Refused}
+use Rattle.http_talk.specs.Statuses.{status_of}
 use Rattle.http_talk.specs.Texts.{refusal_text}
 use Rattle.http_talk.specs.declared.answer.Answer.{Answer}
 use Rattle.http_talk.specs.declared.answer.Answer.TheVariants as answer
 use Rattle.http_talk.specs.declared.refusal.BodyFault.{BodyFault}
 use Rattle.http_talk.specs.declared.refusal.Refusal.{Refusal}
 use Rattle.http_talk.specs.declared.refusal.Refusal.TheVariants as refusal
-use Rattle.http_talk.specs.declared.target.Target.{Target}
-use Rattle.http_talk.specs.declared.target.Target.TheVariants.{EtGet, RtGet}
+use Rattle.http_talk.specs.declared.target.Resource.TheVariants as resource
 use Rattle.journey_model.specs.declared.report.Report.{Report}
 use Rattle.gateway_core.specs.Arrivals.{Arrival, Given, feed, journeys, moments_of, present, schedule_at, situations}
+use Rattle.gateway_core.specs.Bodies.{Brings}
 use Rattle.gateway_core.specs.Gives.{GivesEach}
 use Rattle.gateway_core.specs.Recording.{IsRebuiltOf}
 use Rattle.gateway_core.specs.Standing.{IsLastSiri}
 use Rattle.gateway_core.specs.Taking.{report_json}
 use Rattle.gateway_core.specs.declared.setting.Setting.{Setting}
-use Rattle.gateway_server.specs.Bodies.{Brings, RefusesBody}
+use Rattle.gateway_server.specs.Bodies.{RefusesBody}
 
 -- an answer: its head, and after it its body
 unfoldable pub answer_of : Answer → List ℕ → List ℕ
@@ -27,20 +29,6 @@ answer_of kind body = answer_head kind (length body) ++ body
 
 unfoldable pub refused_with : Refusal → List ℕ
 refused_with why = answer_of (answer.Refused why) (refusal_text why)
-
--- the status of a refusal
-abbrev pub status_of : Refusal → ℕ
-status_of refusal.Head = 400
-status_of refusal.Cut = 400
-status_of refusal.Length = 400
-status_of refusal.NotFound = 404
-status_of (refusal.Method allow) = 405
-status_of refusal.NeedLength = 411
-status_of refusal.TooLarge = 413
-status_of refusal.TooManyFields = 431
-status_of refusal.Clock = 500
-status_of refusal.Memory = 503
-status_of (refusal.Body fault) = 400
 
 -- the mark of a connection whose body was taken
 abbrev pub mark_of : Given → Mark
@@ -60,19 +48,19 @@ IsFeedShown setting moment arrivals bytes =
 pub data IsAnswered (setting : Setting) (arrivals : List Arrival) (input : List ℕ) (moment : ℤ) (ends : Mark)
     (bytes : List ℕ) : Type 0 where
   refused : (why : Refusal) → IsRequest input (Refused why)
-      → ends ≡ mark.Refused (status_of why) → bytes ≡ refused_with why
+      → ends ≡ mark.Refused (status_of why).code → bytes ≡ refused_with why
       → IsAnswered setting arrivals input moment ends bytes
-  feed_shown : (body : List ℕ) → IsRequest input (Get RtGet) → IsFeedShown setting moment arrivals body
+  feed_shown : (body : List ℕ) → IsRequest input (Get resource.Feed) → IsFeedShown setting moment arrivals body
       → ends ≡ mark.Shown → bytes ≡ answer_of answer.Feed body
       → IsAnswered setting arrivals input moment ends bytes
-  text_shown : (body : List ℕ) → IsRequest input (Get EtGet) → IsLastSiri setting arrivals body
+  text_shown : (body : List ℕ) → IsRequest input (Get resource.Timetable) → IsLastSiri setting arrivals body
       → ends ≡ mark.Shown → bytes ≡ answer_of answer.Json body
       → IsAnswered setting arrivals input moment ends bytes
-  body_refused : (target : Target) (body : List ℕ) (fault : BodyFault) → IsRequest input (Post target body)
-      → RefusesBody (schedule_at setting (moment ∷ moments_of arrivals)) target body fault
+  body_refused : (of : Kind) (body : List ℕ) (fault : BodyFault) → IsRequest input (Post of body)
+      → RefusesBody (schedule_at setting (moment ∷ moments_of arrivals)) of body fault
       → ends ≡ mark.Refused 400 → bytes ≡ refused_with (refusal.Body fault)
       → IsAnswered setting arrivals input moment ends bytes
-  taken : (target : Target) (body : List ℕ) (report : Report) (given : Given) → IsRequest input (Post target body)
-      → Brings setting arrivals moment target body report given
+  taken : (of : Kind) (body : List ℕ) (report : Report) (given : Given) → IsRequest input (Post of body)
+      → Brings setting arrivals moment of body report given
       → ends ≡ mark_of given → bytes ≡ answer_of answer.Json (report_json report)
       → IsAnswered setting arrivals input moment ends bytes

@@ -23,7 +23,7 @@ use Rattle.gateway_core.specs.Arrivals.{Arrival, admitted, admitted_situations, 
 use Rattle.gateway_core.specs.Taking.{limited_verdicts}
 use Rattle.gateway_core.specs.declared.setting.Setting.{Setting}
 use Rattle.gateway_server.specs.Answers.{refused_with}
-use Rattle.gateway_server.specs.Bodies.{IsFeed}
+use Rattle.gateway_core.specs.FeedTexts.{IsFeed}
 use Rattle.gateway_server.specs.Log.{IsLawful}
 
 -- ---- what is well formed

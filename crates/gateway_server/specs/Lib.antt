@@ -4,5 +4,4 @@ pub mod Completeness
 pub mod Log
 pub mod Posted
 pub mod Serving
-pub mod Taking
 pub mod Steps

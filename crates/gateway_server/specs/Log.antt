@@ -5,24 +5,26 @@ use Rattle.gw_base.specs.Count.{last_count}
 use Rattle.gw_base.specs.declared.door.Entry.{Entry}
 use Rattle.gw_base.specs.declared.door.Mark.{Mark}
 use Rattle.gw_base.specs.declared.door.Mark.TheVariants as mark
-use Rattle.http_talk.specs.Asked.{is_post}
+use Rattle.gw_base.specs.declared.kind.Kind.{Kind}
+use Rattle.http_talk.specs.Asked.{action_of}
 use Rattle.http_talk.specs.Request.{IsHead, IsRequest, Post}
 use Rattle.http_talk.specs.declared.refusal.Refusal.TheVariants as refusal
 use Rattle.http_talk.specs.declared.target.Head.{Head}
-use Rattle.http_talk.specs.declared.target.Target.{Target}
+use Rattle.http_talk.specs.declared.target.Action.TheVariants as action
 use Rattle.journey_model.specs.declared.report.Report.{Report}
 use Rattle.gateway_core.specs.Arrivals.{Arrival, Given}
 use Rattle.gateway_core.specs.declared.setting.Setting.{Setting}
 use Rattle.gateway_server.specs.Answers.{IsAnswered, mark_of, refused_with}
-use Rattle.gateway_server.specs.Bodies.{Brings}
+use Rattle.gateway_core.specs.Bodies.{Brings}
 
 -- an output is a prefix of these bytes, and shorter only for this cause
 abbrev pub IsFront : Type 0 → List ℕ → List ℕ → Type 0
 IsFront Cause output bytes = (n : ℕ) × (n ≤ length bytes) × (output ≡ take n bytes) × (n < length bytes → Cause)
 
--- the head of an input is that of a POST to a target that is posted, whose length is said
+-- the head of an input is that of a POST, whose length is said
 abbrev pub IsPosted : List ℕ → Type 0
-IsPosted input = (count : ℕ) × (head : Head) × IsHead input count (Ok head) × (is_post head.target ≡ true)
+IsPosted input =
+    (count : ℕ) × (head : Head) × (of : Kind) × IsHead input count (Ok head) × (action_of head.target ≡ action.Post of)
 
 -- what a connection's entry may be after what arrived before it: the clock failed and nothing was read; a read failed
 -- and nothing was answered; there was no memory for what was posted; or the connection was answered. The output is a
@@ -54,9 +56,9 @@ is_taken mark.Lost = false
 -- what arrived by the end of a connection, after what arrived before: what its body gives where that was taken, and
 -- otherwise nothing more
 pub data Leaves (setting : Setting) (arrivals : List Arrival) (entry : Entry) (now : List Arrival) : Type 0 where
-  brought : (moment : ℤ) (target : Target) (body : List ℕ) (report : Report) (given : Given)
-      → entry.moment ≡ Some moment → entry.mark ≡ mark_of given → IsRequest entry.input (Post target body)
-      → Brings setting arrivals moment target body report given
+  brought : (moment : ℤ) (of : Kind) (body : List ℕ) (report : Report) (given : Given)
+      → entry.moment ≡ Some moment → entry.mark ≡ mark_of given → IsRequest entry.input (Post of body)
+      → Brings setting arrivals moment of body report given
       → now ≡ record { moment = moment; gives = given } ∷ arrivals
       → Leaves setting arrivals entry now
   nothing : is_taken entry.mark ≡ false → now ≡ arrivals → Leaves setting arrivals entry now

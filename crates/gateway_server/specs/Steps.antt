@@ -7,40 +7,42 @@ use Rattle.gw_base.specs.declared.door.Mark.TheVariants as mark
 use Rattle.http_talk.specs.declared.answer.Answer.TheVariants as answer
 use Rattle.http_talk.specs.declared.refusal.BodyFault.{BodyFault}
 use Rattle.http_talk.specs.declared.refusal.Refusal.TheVariants as refusal
-use Rattle.http_talk.specs.declared.target.Target.{Target}
-use Rattle.http_talk.specs.declared.target.Target.TheVariants.{EtGet, RtGet}
+use Rattle.http_talk.specs.declared.target.Resource.{Resource}
+use Rattle.http_talk.specs.declared.target.Resource.TheVariants as resource
+use Rattle.gw_base.specs.declared.kind.Kind.{Kind}
 use Rattle.journey_model.specs.declared.report.Report.{Report}
 use Rattle.gateway_core.specs.Arrivals.{Arrival, Given, moments_of, schedule_at}
 use Rattle.gateway_core.specs.Standing.{IsLastSiri, Kept, Stands}
 use Rattle.gateway_core.specs.Taking.{report_json}
 use Rattle.gateway_core.specs.declared.setting.Setting.{Setting}
 use Rattle.gateway_server.specs.Answers.{IsFeedShown, answer_of, mark_of, refused_with}
-use Rattle.gateway_server.specs.Bodies.{Brings, RefusesBody}
+use Rattle.gateway_core.specs.Bodies.{Brings}
+use Rattle.gateway_server.specs.Bodies.{RefusesBody}
 use Rattle.gateway_server.specs.Log.{IsLawful, Leaves}
 
 -- a GET puts the feed or the SIRI text
-pub data PutsShown (Cause : Type 0) (setting : Setting) (arrivals : List Arrival) (moment : ℤ) (target : Target)
+pub data PutsShown (Cause : Type 0) (setting : Setting) (arrivals : List Arrival) (moment : ℤ) (what : Resource)
     (before now : Option (List ℕ)) : Type 0 where
-  feed : (body : List ℕ) → target ≡ RtGet → IsFeedShown setting moment arrivals body
+  feed : (body : List ℕ) → what ≡ resource.Feed → IsFeedShown setting moment arrivals body
       → PutsUnless Cause before now (answer_of answer.Feed body)
-      → PutsShown Cause setting arrivals moment target before now
-  text : (body : List ℕ) → target ≡ EtGet → IsLastSiri setting arrivals body
+      → PutsShown Cause setting arrivals moment what before now
+  text : (body : List ℕ) → what ≡ resource.Timetable → IsLastSiri setting arrivals body
       → PutsUnless Cause before now (answer_of answer.Json body)
-      → PutsShown Cause setting arrivals moment target before now
+      → PutsShown Cause setting arrivals moment what before now
 
 -- a POST puts the report on a body that is taken, or its refusal, after which all is as before
-pub data PutsTaken (Cause : Type 0) (kept : Kept) (arrivals : List Arrival) (moment : ℤ) (target : Target)
+pub data PutsTaken (Cause : Type 0) (kept : Kept) (arrivals : List Arrival) (moment : ℤ) (of : Kind)
     (body : List ℕ) (ends : Mark) (before now : Option (List ℕ)) (after : Kept) : Type 0 where
-  taken : (report : Report) (given : Given) → Brings kept.setting arrivals moment target body report given
+  taken : (report : Report) (given : Given) → Brings kept.setting arrivals moment of body report given
       → ends ≡ mark_of given → PutsUnless Cause before now (answer_of answer.Json (report_json report))
       → Stands after (record { moment = moment; gives = given } ∷ arrivals)
-      → PutsTaken Cause kept arrivals moment target body ends before now after
+      → PutsTaken Cause kept arrivals moment of body ends before now after
   refused : (fault : BodyFault) → RefusesBody (schedule_at kept.setting
-      (moment ∷ moments_of arrivals)) target body fault
+      (moment ∷ moments_of arrivals)) of body fault
       → ends ≡ mark.Refused 400 → PutsUnless Cause before now (refused_with (refusal.Body fault)) → after ≡ kept
-      → PutsTaken Cause kept arrivals moment target body ends before now after
+      → PutsTaken Cause kept arrivals moment of body ends before now after
   no_memory : ends ≡ mark.Memory → PutsUnless Cause before now (refused_with refusal.Memory) → after ≡ kept
-      → PutsTaken Cause kept arrivals moment target body ends before now after
+      → PutsTaken Cause kept arrivals moment of body ends before now after
 
 -- the entry of a connection that has a moment
 abbrev pub entry_at : List ℕ → ℤ → Mark → List ℕ → Entry

@@ -2,13 +2,13 @@
 //! log may be is `IsLawful` of `specs/Log.antt`.
 #![tactic(auto)]
 
-mod answering;
+mod answers;
 mod completeness;
-mod looping;
-mod posted;
-mod serving;
-mod took;
+mod connection;
+mod connections;
+mod posted_body;
+mod take;
 
-pub use completeness::what_is_well_formed_is_taken;
-pub use looping::serve;
-pub use serving::serve_one;
+pub use completeness::what_is_well_formed_is_taken_law;
+pub use connection::serve_one;
+pub use connections::serve;

@@ -68,7 +68,7 @@ log_shows Cause setting before now (one ∷ earlier) entry later (is, after, lea
 
 pub shows : (Cause : Type 0) (setting : Setting) (entries : List Entry) (now : List Arrival) → IsLawfulLog Cause setting [] entries now
     → (earlier : List Entry) (entry : Entry) (later : List Entry) → entries ≡ earlier ++ entry ∷ later → entry.mark ≡ mark.Shown
-    → Shows Cause setting earlier entry
+    → Shows Cause setting [] earlier entry
 shows Cause setting entries now lawful earlier entry later is shown =
     let found = log_shows Cause setting [] now earlier entry later (subst (λ (all : List Entry). IsLawfulLog Cause setting [] all now) is lawful) shown in
     record { arrivals = found.0; arrived = found.1; served = found.2 }
@@ -76,8 +76,8 @@ shows Cause setting entries now lawful earlier entry later is shown =
 -- connections that were served over the setting of the words show as told
 pub headline : (Cause End : Type 0) (words : List (List ℕ)) (files : Directory) (command : Serve) (setting : Setting) (told : Connections) (clock : Change (List ℤ)) (now : Beside)
     → IsJob words (serve_job command) → IsSettingOf command.scope (Some command.keep) files (Ok setting)
-    → Served Cause End command.connections setting told clock now
-    → Headline Cause words files told now
+    → Served Cause End command.connections setting [] told clock now
+    → Headline Cause words files [] told now
 headline Cause End words files command setting told clock now accepted setting_is served = record {
   entries = served.entries;
   left = served.left;
@@ -93,7 +93,7 @@ headline Cause End words files command setting told clock now accepted setting_i
 
 -- where no connection was served nothing is shown
 pub no_headline : (Cause : Type 0) (words : List (List ℕ)) (files : Directory) (told : Connections) (before now : Beside) → before.told ≡ Some told → now ≡ before
-    → Headline Cause words files told now
+    → Headline Cause words files [] told now
 no_headline Cause words files told before now tells same = record {
   entries = [];
   left = told;
@@ -107,20 +107,20 @@ no_headline Cause words files told before now tells same = record {
 
 -- where neither door nor clock is called
 pub idle : (Cause : Type 0) (words : List (List ℕ)) (files : Option Directory) (output : Option (List ℕ)) (beside : Beside)
-    → IfSome files (λ folder. (told : Connections) → Tells output beside told → Headline Cause words folder told beside)
+    → IfSome files (λ folder. (told : Connections) → Tells output beside told → Headline Cause words folder [] told beside)
 idle Cause words None output beside = tt
 idle Cause words (Some folder) output beside = λ told tells. no_headline Cause words folder told beside beside tells.tells refl
 
 -- a run of a server
 pub of_run : (words : List (List ℕ)) (command : Serve) (ended : ℕ) (files : Change Directory) (err : Change (List ℕ)) (doorway : Doorway)
-    → IsJob words (serve_job command) → RunsServer command ended files err doorway
+    → IsJob words (serve_job command) → RunsServer command [] ended files err doorway
     → IfSome files.before (λ folder. (told : Connections) → Tells doorway.output.before doorway.before told
-    → Headline (HasFailed doorway.output) words folder told doorway.now)
+    → Headline (HasFailed doorway.output) words folder [] told doorway.now)
 of_run words command ended files err doorway accepted runs = by files.before runs.answer runs.work runs.ends
   where
     by : (before : Option Directory) (answer : Result Setting Exit)
-        → IfSome before (λ folder. UnlessFree is_free answer (IsSettingOf command.scope (Some command.keep) folder)) → EndsServer command answer ended err doorway
-        → IfSome before (λ folder. (told : Connections) → Tells doorway.output.before doorway.before told → Headline (HasFailed doorway.output) words folder told doorway.now)
+        → IfSome before (λ folder. UnlessFree is_free answer (IsSettingOf command.scope (Some command.keep) folder)) → EndsServer command [] answer ended err doorway
+        → IfSome before (λ folder. (told : Connections) → Tells doorway.output.before doorway.before told → Headline (HasFailed doorway.output) words folder [] told doorway.now)
     by None answer work ends = tt
     by (Some folder) (Ok setting) work ends = λ told tells.
         headline (HasFailed doorway.output) (ended ≡ 0) words folder command setting told doorway.clock doorway.now accepted work (ends.1 told tells)
@@ -138,7 +138,7 @@ not_turned_away Memory ended is turned = cc
 
 pub served : {A E : Type 0} (Cause : Type 0) (before : Kept) (setting : Setting) (told : Connections) (clock : Change (List ℤ)) (output : Option (List ℕ)) (beside : Beside) (now : Kept) (count most : ℕ) (end : Result A E)
     → before.setting ≡ setting → count ≤ most → ServesAll Cause before [] told clock output beside now count → OnOk end ((count ≡ most) ⊎ IsEnd beside)
-    → Served Cause (IsOk end) most setting told clock beside
+    → Served Cause (IsOk end) most setting [] told clock beside
 served {A} {E} Cause before setting told clock output beside now count most end same fits all whole = record {
   entries = all.entries;
   left = all.left;
@@ -159,7 +159,7 @@ served {A} {E} Cause before setting told clock output beside now count most end 
 
 -- the same, where it is known in another way whether it came to its end
 pub served_as : (Cause End Other : Type 0) (most : ℕ) (setting : Setting) (told : Connections) (clock : Change (List ℤ)) (now : Beside) → (Other → End)
-    → Served Cause End most setting told clock now → Served Cause Other most setting told clock now
+    → Served Cause End most setting [] told clock now → Served Cause Other most setting [] told clock now
 served_as Cause End Other most setting told clock now by served = record {
   entries = served.entries;
   left = served.left;

@@ -67,7 +67,7 @@ is_full_feed name files feed (body, file, (read, means, full_is)) =
     record {
       body = body;
       file = found_body body_limit name (bytes_of files name) body file;
-      means = subst (λ f. MeansFeed body f) (sym same.0) means.0;
+      means = subst (λ f. MeansFeed body f) (sym same.0) means.means;
       full = subst (λ (f : Feed). is_differential f ≡ false) (sym same.0) same.1;
     }
 

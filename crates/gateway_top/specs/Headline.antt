@@ -6,7 +6,7 @@ use Rattle.gw_base.specs.declared.door.Entry.{Entry}
 use Rattle.gw_base.specs.declared.door.Mark.TheVariants as mark
 use Rattle.http_talk.specs.Request.{IsRequest, Get}
 use Rattle.http_talk.specs.declared.answer.Answer.TheVariants as answer
-use Rattle.http_talk.specs.declared.target.Target.TheVariants.{EtGet, RtGet}
+use Rattle.http_talk.specs.declared.target.Resource.TheVariants as resource
 use Rattle.gateway_core.specs.Arrivals.{Arrival, moments_of, present, schedule_at}
 use Rattle.gateway_core.specs.Gives.{GivesEach}
 use Rattle.gateway_core.specs.Recording.{IsRebuiltOf}
@@ -31,7 +31,7 @@ HasArrived setting before (entry ∷ later) now =
 pub record ServesFeed (Cause : Type 0) (setting : Setting) (arrivals : List Arrival) (entry : Entry) : Type 0 where
   pub moment : ℤ
   pub at : entry.moment ≡ Some moment
-  pub asked : IsRequest entry.input (Get RtGet)
+  pub asked : IsRequest entry.input (Get resource.Feed)
   pub feed : List ℕ
   pub output : IsFront Cause entry.output (answer_of answer.Feed feed)
   pub rebuilt : IsRebuiltOf setting moment arrivals feed
@@ -40,31 +40,33 @@ pub record ServesFeed (Cause : Type 0) (setting : Setting) (arrivals : List Arri
 -- a SIRI text served: it gives every call the propagated time of the last accepted feed, or has no journey where there
 -- was none
 pub record ServesText (Cause : Type 0) (setting : Setting) (arrivals : List Arrival) (entry : Entry) : Type 0 where
-  pub asked : IsRequest entry.input (Get EtGet)
+  pub asked : IsRequest entry.input (Get resource.Timetable)
   pub text : List ℕ
   pub output : IsFront Cause entry.output (answer_of answer.Json text)
   pub says : IsLastSiri setting arrivals text
 
--- an entry shows the one or the other, over what arrived of the entries before it
-pub record Shows (Cause : Type 0) (setting : Setting) (earlier : List Entry) (entry : Entry) : Type 0 where
+-- an entry shows the one or the other, over what had arrived before the log and what arrived of the entries before it
+pub record Shows (Cause : Type 0) (setting : Setting) (past : List Arrival) (earlier : List Entry) (entry : Entry)
+    : Type 0 where
   pub arrivals : List Arrival
-  pub arrived : HasArrived setting [] earlier arrivals
+  pub arrived : HasArrived setting past earlier arrivals
   pub served : ServesFeed Cause setting arrivals entry ⊎ ServesText Cause setting arrivals entry
 
 -- what a server of these words shows, over the setting of its files
-pub record ShowsAsTold (Cause : Type 0) (words : List (List ℕ)) (files : Directory) (earlier : List Entry)
-    (entry : Entry) : Type 0 where
+pub record ShowsAsTold (Cause : Type 0) (words : List (List ℕ)) (files : Directory) (past : List Arrival)
+    (earlier : List Entry) (entry : Entry) : Type 0 where
   pub command : Serve
   pub accepted : IsJob words (serve_job command)
   pub setting : Setting
   pub has_setting : IsSetting command.scope (Some command.keep) files setting
-  pub shows : Shows Cause setting earlier entry
+  pub shows : Shows Cause setting past earlier entry
 
--- over any connections: the log got entries, and each that is marked Shown shows what it is to
-pub record Headline (Cause : Type 0) (words : List (List ℕ)) (files : Directory) (told : Connections)
-    (now : Beside) : Type 0 where
+-- over any connections, after what had arrived before them: the log got entries, and each that is marked Shown shows
+-- what it is to
+pub record Headline (Cause : Type 0) (words : List (List ℕ)) (files : Directory) (past : List Arrival)
+    (told : Connections) (now : Beside) : Type 0 where
   pub entries : List Entry
   pub left : Connections
   pub logged : HasLogged told now entries left
   pub shown : (earlier : List Entry) (entry : Entry) (later : List Entry) → entries ≡ earlier ++ entry ∷ later
-      → entry.mark ≡ mark.Shown → ShowsAsTold Cause words files earlier entry
+      → entry.mark ≡ mark.Shown → ShowsAsTold Cause words files past earlier entry

@@ -1,6 +1,6 @@
 -- How a run of the program ends: its status, what standard output and standard error got, and what a server did at its
 -- door.
-use Rattle.std.specs.Prelude.{◌≡◌, ◌≤◌, ◌⊎◌, ℕ, ℤ, List, ◌++◌, length, take, codes, decimal, Some, Result, Ok, Err, IfSome}
+use Rattle.std.specs.Prelude.{◌≡◌, ◌≤◌, ◌⊎◌, ℕ, ℤ, List, [], ◌++◌, length, take, codes, decimal, Some, Result, Ok, Err, IfSome}
 use Rattle.gw_base.specs.Answers.{UnlessFree}
 use Rattle.gw_base.specs.Changes.{Change}
 use Rattle.gw_base.specs.Connections.{Beside, Connections}
@@ -13,6 +13,7 @@ use Rattle.gateway_top.specs.Work.{Directory, OverFiles, IsSettingOf, IsTaskWork
 use Rattle.gateway_top.specs.Words.{IsJob, IsRefusedAt, Serve, Task, serve_job, task_job}
 use Rattle.gateway_top.specs.declared.exit.Exit.{Exit}
 use Rattle.gateway_top.specs.declared.exit.Exit.TheVariants.{Failed}
+use Rattle.gateway_core.specs.Arrivals.{Arrival}
 use Rattle.gateway_core.specs.declared.setting.Setting.{Setting}
 use Rattle.gateway_server.specs.Serving.{Tells}
 
@@ -114,43 +115,43 @@ pub record IsUncalled (doorway : Doorway) : Type 0 where
   pub clock_faults : doorway.clock.faults_now ≡ doorway.clock.faults_before
 
 -- the faults at a door that tells its connections: those of its entries, and so many besides
-abbrev pub CountsFaults : Setting → ℕ → Doorway → Type 0
-CountsFaults setting besides doorway =
+abbrev pub CountsFaults : Setting → List Arrival → ℕ → Doorway → Type 0
+CountsFaults setting past besides doorway =
     (told : Connections) → Tells doorway.output.before doorway.before told
-    → HasCounted setting told doorway.now besides doorway.output doorway.clock
+    → HasCounted setting past told doorway.now besides doorway.output doorway.clock
 
 -- a server whose connections came to an end: with status 0 and nothing told; or with 74 where its door failed, which is
 -- one fault besides those of the connections
-abbrev pub EndsServing : Setting → ℕ → Change (List ℕ) → Doorway → Type 0
-EndsServing setting ended err doorway =
-    ((ended ≡ 0) × GotNothing err × CountsFaults setting 0 doorway)
-    ⊎ (HasFailed doorway.output × TellsEnd 74 (codes "failed") ended err × CountsFaults setting 1 doorway)
+abbrev pub EndsServing : Setting → List Arrival → ℕ → Change (List ℕ) → Doorway → Type 0
+EndsServing setting past ended err doorway =
+    ((ended ≡ 0) × GotNothing err × CountsFaults setting past 0 doorway)
+    ⊎ (HasFailed doorway.output × TellsEnd 74 (codes "failed") ended err × CountsFaults setting past 1 doorway)
 
 -- a server ends as what it is to work over comes out: early, before its first connection, or after its connections;
 -- and it served what came to a door that tells its connections
-abbrev pub EndsServer : Serve → Result Setting Exit → ℕ → Change (List ℕ) → Doorway → Type 0
-EndsServer command (Err exit) ended err doorway =
+abbrev pub EndsServer : Serve → List Arrival → Result Setting Exit → ℕ → Change (List ℕ) → Doorway → Type 0
+EndsServer command past (Err exit) ended err doorway =
     TellsEnd (status_of exit) (text_of exit) ended err × IsUncalled doorway
-EndsServer command (Ok setting) ended err doorway =
-    EndsServing setting ended err doorway
+EndsServer command past (Ok setting) ended err doorway =
+    EndsServing setting past ended err doorway
     × ((told : Connections) → Tells doorway.output.before doorway.before told
-    → Served (HasFailed doorway.output) (ended ≡ 0) command.connections setting told doorway.clock doorway.now)
+    → Served (HasFailed doorway.output) (ended ≡ 0) command.connections setting past told doorway.clock doorway.now)
 
--- a run of a server: it opens over the files that are told, and ends early by a failed device only where the files
--- failed, or for want of memory
-pub record RunsServer (command : Serve) (ended : ℕ) (files : Change Directory) (err : Change (List ℕ))
-    (doorway : Doorway) : Type 0 where
+-- a run of a server, before which this had arrived: it opens over the files that are told, and ends early by a failed
+-- device only where the files failed, or for want of memory
+pub record RunsServer (command : Serve) (past : List Arrival) (ended : ℕ) (files : Change Directory)
+    (err : Change (List ℕ)) (doorway : Doorway) : Type 0 where
   pub answer : Result Setting Exit
   pub work : IfSome files.before
       (λ told. UnlessFree is_free answer (IsSettingOf command.scope (Some command.keep) told))
   pub cause : answer ≡ Err Failed → HasFailed files
-  pub ends : EndsServer command answer ended err doorway
+  pub ends : EndsServer command past answer ended err doorway
 
--- a run of words of `serve`
+-- a run of words of `serve`, before which nothing had arrived
 pub record IsServing (words : List (List ℕ)) (ended : ℕ) (outside : Outside) : Type 0 where
   pub command : Serve
   pub accepted : IsJob words (serve_job command)
-  pub runs : RunsServer command ended outside.files outside.err outside.doorway
+  pub runs : RunsServer command [] ended outside.files outside.err outside.doorway
   pub nothing : GotNothing outside.out
 
 -- a run of any words, which ended with that status

@@ -16,9 +16,9 @@ pub record HasLogged (told : Connections) (now : Beside) (entries : List Entry) 
 
 -- the connections that were served: their entries are the door's next inputs in order, at most so many, and where that
 -- came to its end so many or all that were to come; their moments are those that the clock gave, fewer only where its
--- count rose; and each is lawful after what arrived of those before it
-pub record Served (Cause End : Type 0) (most : ℕ) (setting : Setting) (told : Connections) (clock : Change (List ℤ))
-    (now : Beside) : Type 0 where
+-- count rose; and each is lawful after what had arrived before them and what arrived of those before it
+pub record Served (Cause End : Type 0) (most : ℕ) (setting : Setting) (past : List Arrival) (told : Connections)
+    (clock : Change (List ℤ)) (now : Beside) : Type 0 where
   pub entries : List Entry
   pub left : Connections
   pub logged : HasLogged told now entries left
@@ -28,11 +28,12 @@ pub record Served (Cause End : Type 0) (most : ℕ) (setting : Setting) (told : 
   pub moments : clock.before ≡ option_map (λ later. moments_given entries ++ later) clock.now
   pub timed : length (moments_given entries) < length entries → Rose clock.faults_before clock.faults_now
   pub arrived : List Arrival
-  pub lawful : IsLawfulLog Cause setting [] entries arrived
+  pub lawful : IsLawfulLog Cause setting past entries arrived
 
 -- each entry that is lost or shorter than its answer, and so many faults besides, have a fault of their own in the
 -- count of the door, and each entry for which the clock failed has one in the clock's
-abbrev pub HasCounted : {Told Given : Type 0} → Setting → Connections → Beside → ℕ → Change Told → Change Given → Type 0
-HasCounted setting told now besides door clock =
+abbrev pub HasCounted : {Told Given : Type 0} → Setting → List Arrival → Connections → Beside → ℕ → Change Told
+    → Change Given → Type 0
+HasCounted setting past told now besides door clock =
     (entries : List Entry) (left : Connections) → HasLogged told now entries left
-    → CountsCauses setting [] entries besides door.faults_before door.faults_now clock.faults_before clock.faults_now
+    → CountsCauses setting past entries besides door.faults_before door.faults_now clock.faults_before clock.faults_now

@@ -35,7 +35,7 @@ use Rattle.gateway_core.specs.Recording.{IsRebuiltOf}
 use Rattle.gateway_core.specs.Reports.{feed_report}
 use Rattle.gateway_core.specs.Taking.{TakesJourneys, TakesSituations}
 use Rattle.gateway_core.specs.declared.setting.Setting.{Setting}
-use Rattle.gateway_server.specs.Bodies.{IsFeed}
+use Rattle.gateway_core.specs.FeedTexts.{IsFeed}
 use Rattle.sample_run.specs.Counts.{counts_text}
 use Rattle.sample_run.specs.Sample.{IsCountOfSample}
 use Rattle.sample_run.specs.declared.counts.SampleCounts.{SampleCounts}

@@ -6,7 +6,7 @@ ghost use Rattle.gateway_core.specs.Arrivals.{Arrival};
 ghost use Rattle.gateway_core.specs.Standing.{Stands};
 ghost use Rattle.gateway_top.specs.Work.{IsConverted};
 
-use gateway_core::{Gateway, serves_what_arrived};
+use gateway_core::{Gateway, serves_what_arrived_law};
 use gw_base::{Bytes, Failed, Moment, Sink, put_all};
 use std::marker::Model;
 
@@ -51,7 +51,7 @@ impl Done {
         ensures { (arrivals : List Arrival) → Stands gate arrivals
             → IsConverted at gate.setting (record { arrivals = arrivals; reports = reports }) (Ok result) }
     {
-        serves_what_arrived(&gate, at);
+        serves_what_arrived_law(&gate, at);
         Done {
             out: Output::Feed(gate, at),
             err: reports,

@@ -1,6 +1,6 @@
 //! A run of `serve`: it opens over its files, and then serves connections. The definitions are those of
 //! `specs/Runs.antt`.
-ghost use Rattle.std.specs.Prelude.{◌≡◌, ◌≤◌, false, IfOk, IsErr, IsOk, OnErr};
+ghost use Rattle.std.specs.Prelude.{◌≡◌, ◌≤◌, [], false, IfOk, IsErr, IsOk, OnErr};
 ghost use Rattle.gw_base.specs.Changes.{change};
 ghost use Rattle.gw_base.specs.Connections.{Connections};
 ghost use Rattle.gw_base.specs.Count.{Rose};
@@ -32,10 +32,10 @@ fn served<D: Door, C: Clock>(
     requires absent { (D.beside door.old).present ≡ false }
     ensures memory { OnErr result ((door.new ≡ door.old) × (clock.new ≡ clock.old)) }
     ensures served { IfOk result (λ end. (told : Connections) → Tells (D.told door.old) (D.beside door.old) told
-        → Served (Rose (D.faults door.old) (D.faults door.new)) (IsOk end) connections setting told
+        → Served (Rose (D.faults door.old) (D.faults door.new)) (IsOk end) connections setting [] told
         (change C.told C.faults clock.old clock.new) (D.beside door.new)) }
     ensures causes { IfOk result (λ end. (told : Connections) → Tells (D.told door.old) (D.beside door.old) told
-        → HasCounted setting told (D.beside door.new) (failures end) (change D.told D.faults door.old door.new)
+        → HasCounted setting [] told (D.beside door.new) (failures end) (change D.told D.faults door.old door.new)
         (change C.told C.faults clock.old clock.new)) }
     ensures absent { (D.beside door.new).present ≡ false }
     ensures failed { IfOk result (λ end. IsErr end → Rose (D.faults door.old) (D.faults door.new)) }
@@ -67,7 +67,7 @@ pub fn run_server<F: Files, D: Door, C: Clock, E: Sink>(
 ) -> u8
     requires window { HasWindow server.now.scope.from server.now.scope.days }
     requires absent { (D.beside door.old).present ≡ false }
-    ensures run { RunsServer (server_of server.now) result (change F.told F.faults files.old files.new)
+    ensures run { RunsServer (server_of server.now) [] result (change F.told F.faults files.old files.new)
         (change E.told E.faults err.old err.new) (record {
           output = change D.told D.faults door.old door.new;
           before = D.beside door.old;

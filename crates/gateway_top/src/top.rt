@@ -1,5 +1,5 @@
 //! The top call: a list of words is carried out over the devices, and a status comes back.
-ghost use Rattle.std.specs.Prelude.{◌≡◌, ◌≤◌, ◌⊎◌, false, codes, IfSome};
+ghost use Rattle.std.specs.Prelude.{◌≡◌, ◌≤◌, ◌⊎◌, [], false, codes, IfSome};
 ghost use Rattle.gw_base.specs.Changes.{change};
 ghost use Rattle.gw_base.specs.Connections.{Connections};
 ghost use Rattle.gw_base.specs.Count.{Rose};
@@ -39,7 +39,8 @@ pub fn gateway<F: Files, D: Door, C: Clock, S: Sink, E: Sink>(
     // are those rebuilt from all deliveries taken.
     ensures headline { IfSome (F.told files.old) (λ folder. (told : Connections)
         → Tells (D.told door.old) (D.beside door.old) told
-        → Headline (Rose (D.faults door.old) (D.faults door.new)) words.now folder told (D.beside door.new)) }
+        → Headline (Rose (D.faults door.old) (D.faults door.new)) words.now folder [] told
+        (D.beside door.new)) }
 
     // The status, and what the devices show before and after: how the run ended, by its words.
     ensures run { IsRun words.now result (record {

@@ -2,6 +2,7 @@
 use Rattle.std.specs.Prelude.{ℕ, List, [], ◌∷◌, ◌++◌, codes, decimal}
 use Rattle.http_talk.specs.declared.answer.Answer.{Answer}
 use Rattle.http_talk.specs.declared.answer.Answer.TheVariants.{Feed, Json, Refused}
+use Rattle.http_talk.specs.Statuses.{Status, status_of}
 use Rattle.http_talk.specs.declared.refusal.Allow.TheVariants.{GetPost, Post}
 use Rattle.http_talk.specs.declared.refusal.Refusal.{Refusal}
 use Rattle.http_talk.specs.declared.refusal.Refusal.TheVariants.{Head, Cut, Length, NotFound, Method, NeedLength, TooLarge, TooManyFields, Clock, Memory, Body}
@@ -10,25 +11,11 @@ use Rattle.http_talk.specs.declared.refusal.Refusal.TheVariants.{Head, Cut, Leng
 abbrev pub line : List ℕ → List ℕ
 line text = text ++ 13 ∷ 10 ∷ []
 
--- the status and the reason of a refusal
-abbrev pub refusal_status : Refusal → List ℕ
-refusal_status Head = codes "400 Bad Request"
-refusal_status Cut = codes "400 Bad Request"
-refusal_status Length = codes "400 Bad Request"
-refusal_status NotFound = codes "404 Not Found"
-refusal_status (Method allow) = codes "405 Method Not Allowed"
-refusal_status NeedLength = codes "411 Length Required"
-refusal_status TooLarge = codes "413 Content Too Large"
-refusal_status TooManyFields = codes "431 Request Header Fields Too Large"
-refusal_status Clock = codes "500 Internal Server Error"
-refusal_status Memory = codes "503 Service Unavailable"
-refusal_status (Body fault) = codes "400 Bad Request"
-
--- the status and the reason
-abbrev pub status : Answer → List ℕ
-status Feed = codes "200 OK"
-status Json = codes "200 OK"
-status (Refused refusal) = refusal_status refusal
+-- the status
+abbrev pub status : Answer → Status
+status Feed = record { code = 200; reason = codes "OK" }
+status Json = record { code = 200; reason = codes "OK" }
+status (Refused refusal) = status_of refusal
 
 -- the type of the body
 abbrev pub content_type : Answer → List ℕ
@@ -57,9 +44,9 @@ allow_line Json = []
 allow_line (Refused refusal) = allow_of refusal
 
 -- a head of these parts: each line of a name, a colon and a space, and the value
-abbrev pub head_text : List ℕ → List ℕ → ℕ → List ℕ → List ℕ
+abbrev pub head_text : Status → List ℕ → ℕ → List ℕ → List ℕ
 head_text status content_type size allow =
-    line (codes "HTTP/1.1 " ++ status)
+    line (codes "HTTP/1.1 " ++ decimal status.code ++ codes " " ++ status.reason)
     ++ line (codes "Content-Type: " ++ content_type)
     ++ line (codes "Content-Length: " ++ decimal size)
     ++ allow

@@ -1,5 +1,5 @@
 -- What a request head asks for (RFC 9110, sections 5.1, 5.6.1, 8.6, 9 and 15.5; RFC 9112, sections 3 and 6).
-use Rattle.std.specs.Prelude.{◌≡◌, ℕ, ◌+◌, ◌<◌, ◌≤◌, Bool, true, false, ◌&&◌, ◌==◌, nat_le, not, if◌then◌else◌, List, [], ◌∷◌, length, map, filter, Result, Ok, Err, codes}
+use Rattle.std.specs.Prelude.{◌≡◌, ℕ, ◌+◌, ◌<◌, ◌≤◌, Bool, ◌&&◌, ◌==◌, nat_le, not, if◌then◌else◌, List, [], ◌∷◌, length, map, filter, Result, Ok, Err, codes}
 use Rattle.std.specs.List.{list_all, list_any, before_first}
 use Rattle.std.specs.Str.{bytes_eq, str_eq_ignore_ascii_case}
 use Rattle.std.specs.Str.Parse.{digits_value}
@@ -7,6 +7,10 @@ use Rattle.std.specs.Char.{is_ascii_digit}
 use Rattle.gw_base.specs.Limits.{body_limit}
 use Rattle.httparse.specs.Grammar.{RequestHead, ReadsRequest}
 use Rattle.httparse.specs.Spans.{name_and_value}
+use Rattle.gw_base.specs.declared.kind.Kind.TheVariants as kind
+use Rattle.http_talk.specs.declared.target.Action.{Action}
+use Rattle.http_talk.specs.declared.target.Action.TheVariants.{Get, Post}
+use Rattle.http_talk.specs.declared.target.Resource.TheVariants as resource
 use Rattle.http_talk.specs.declared.target.Target.{Target}
 use Rattle.http_talk.specs.declared.target.Target.TheVariants.{EtPost, EtGet, SxPost, RtPost, RtGet}
 use Rattle.http_talk.specs.declared.target.Head.{Head}
@@ -65,23 +69,27 @@ length_of fields =
     if list_any (is_named (codes "transfer-encoding")) fields then Err refusal.NeedLength
     else length_said (values_of (codes "content-length") fields)
 
--- the target is POSTed, so that a body follows
-abbrev pub is_post : Target → Bool
-is_post EtPost = true
-is_post EtGet = false
-is_post SxPost = true
-is_post RtPost = true
-is_post RtGet = false
+-- what a request does at a target: it gets what is served there, or posts a body of a kind
+abbrev pub action_of : Target → Action
+action_of EtPost = Post kind.Estimated
+action_of EtGet = Get resource.Timetable
+action_of SxPost = Post kind.Situations
+action_of RtPost = Post kind.Feed
+action_of RtGet = Get resource.Feed
 
 -- what is asked, once the length is known
 abbrev pub with_length : Target → Result ℕ Refusal → Result Head Refusal
 with_length target (Ok size) = Ok (record { target = target; length = size })
 with_length target (Err why) = Err why
 
--- what is asked, once the target is known; of a GET no body is read
+-- what is asked by an action at a target; of a GET no body is read
+abbrev pub with_action : Action → Target → List (List ℕ × List ℕ) → Result Head Refusal
+with_action (Get resource) target fields = Ok (record { target = target; length = 0 })
+with_action (Post kind) target fields = with_length target (length_of fields)
+
+-- what is asked, once the target is known
 abbrev pub with_target : Target → List (List ℕ × List ℕ) → Result Head Refusal
-with_target target fields =
-    if is_post target then with_length target (length_of fields) else Ok (record { target = target; length = 0 })
+with_target target fields = with_action (action_of target) target fields
 
 abbrev pub with_fields : Result Target Refusal → List (List ℕ × List ℕ) → Result Head Refusal
 with_fields (Ok target) fields = with_target target fields

@@ -2,6 +2,7 @@ pub mod Ends
 pub mod Places
 pub mod Asked
 pub mod Request
+pub mod Statuses
 pub mod Texts
 pub mod Answers
 pub mod Whole

@@ -1,9 +1,10 @@
 -- The texts of refusals: the status, the refusal's name, and its arguments, each after a space, numbers in decimal.
-use Rattle.std.specs.Prelude.{ℕ, List, [], ◌∷◌, ◌++◌, codes, decimal}
+use Rattle.std.specs.Prelude.{ℕ, List, ◌++◌, codes, decimal}
 use Rattle.gw_base.specs.Member.{member_name}
 use Rattle.gw_base.specs.Required.{required_name}
 use Rattle.gw_base.specs.declared.wire_kind.WireKind.{WireKind}
 use Rattle.gw_base.specs.declared.wire_kind.WireKind.TheVariants.{Truncated, LongVarint, BadTag, BadGroup, DeepGroup}
+use Rattle.http_talk.specs.Statuses.{status_of}
 use Rattle.http_talk.specs.declared.refusal.BodyFault.{BodyFault}
 use Rattle.http_talk.specs.declared.refusal.BodyFault.TheVariants.{NotJson, NotDelivery, Wire, MissingField, NotText, EntityTooLong, Differential, TooManyCalls}
 use Rattle.http_talk.specs.declared.refusal.Refusal.{Refusal}
@@ -28,20 +29,21 @@ fault_text (EntityTooLong at) = codes "EntityTooLong " ++ decimal at
 fault_text Differential = codes "Differential"
 fault_text (TooManyCalls count) = codes "TooManyCalls " ++ decimal count
 
--- the text of a refusal, before its LF
-abbrev pub refusal_line : Refusal → List ℕ
-refusal_line Head = codes "H400 Head"
-refusal_line Cut = codes "H400 Cut"
-refusal_line Length = codes "H400 Length"
-refusal_line NotFound = codes "H404 NotFound"
-refusal_line (Method allow) = codes "H405 Method"
-refusal_line NeedLength = codes "H411 NeedLength"
-refusal_line TooLarge = codes "H413 TooLarge"
-refusal_line TooManyFields = codes "H431 TooManyFields"
-refusal_line Clock = codes "H500 Clock"
-refusal_line Memory = codes "H503 Memory"
-refusal_line (Body fault) = codes "H400 " ++ fault_text fault
+-- the words of a refusal: its name, or the fault of the body
+abbrev pub refusal_words : Refusal → List ℕ
+refusal_words Head = codes "Head"
+refusal_words Cut = codes "Cut"
+refusal_words Length = codes "Length"
+refusal_words NotFound = codes "NotFound"
+refusal_words (Method allow) = codes "Method"
+refusal_words NeedLength = codes "NeedLength"
+refusal_words TooLarge = codes "TooLarge"
+refusal_words TooManyFields = codes "TooManyFields"
+refusal_words Clock = codes "Clock"
+refusal_words Memory = codes "Memory"
+refusal_words (Body fault) = fault_text fault
 
--- the body of a refusal's answer
+-- the body of a refusal's answer: `H`, the status and the words, and LF
 abbrev pub refusal_text : Refusal → List ℕ
-refusal_text refusal = refusal_line refusal ++ 10 ∷ []
+refusal_text refusal =
+    codes "H" ++ decimal (status_of refusal).code ++ codes " " ++ refusal_words refusal ++ codes "\n"

@@ -7,7 +7,7 @@ ghost use Rattle.http_talk.specs.Ends.{IsHeadLength, line_count};
 use crate::ends::line_count;
 use crate::length::length_of;
 use crate::refusal::Refusal;
-use crate::target::{Head, Target, target_of};
+use crate::target::{Action, Head, Target, target_of};
 use httparse::Status;
 use httparse::spans::{EMPTY_HEADER_SPAN, HeaderSpan, parse_request};
 
@@ -22,12 +22,12 @@ fn with_fields(bytes: &[u8], target: Target, headers: &[HeaderSpan]) -> Result<H
     requires { All (IsHeaderWithin (length bytes.now)) headers.now }
     ensures { result ≡ asked.with_target target (map (header_bytes bytes.now) headers.now) }
 {
-    if !target.is_post() {
-        return Ok(Head { target, length: 0 });
-    }
-    match length_of(bytes, headers) {
-        Ok(length) => Ok(Head { target, length }),
-        Err(why) => Err(why),
+    match target.action() {
+        Action::Get(_) => Ok(Head { target, length: 0 }),
+        Action::Post(_) => match length_of(bytes, headers) {
+            Ok(length) => Ok(Head { target, length }),
+            Err(why) => Err(why),
+        },
     }
 }
 

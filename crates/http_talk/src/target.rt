@@ -3,6 +3,7 @@ ghost use Rattle.std.specs.Prelude.{◌≡◌, ◌==◌, position};
 ghost use Rattle.http_talk.specs.Asked as asked;
 
 use crate::refusal::{Allow, Refusal};
+use gw_base::Kind;
 
 /// A target that is served, with its method (RFC 9112, section 3).
 #[derive(Clone, Copy, Debug, PartialEq, Eq)]
@@ -17,6 +18,22 @@ pub enum Target {
     RtPost,
     /// `GET /gtfs-rt`: the feed that says what is kept.
     RtGet,
+}
+
+/// What is served to a GET (RFC 9110, section 3.1).
+#[derive(Clone, Copy, Debug, PartialEq, Eq)]
+pub enum Resource {
+    /// The feed that says what is kept.
+    Feed,
+    /// The estimated timetable that says what the last feed says.
+    Timetable,
+}
+
+/// What a request does at a target: it gets what is served there, or posts a body of a kind.
+#[derive(Clone, Copy, Debug, PartialEq, Eq)]
+pub enum Action {
+    Get(Resource),
+    Post(Kind),
 }
 
 /// What the head of a request asks for.
@@ -40,13 +57,16 @@ const GET: &[u8] = b"GET";
 const POST: &[u8] = b"POST";
 
 impl Target {
-    /// Whether the target is POSTed, so that a body follows.
-    pub fn is_post(&self) -> bool
-        ensures { result ≡ asked.is_post self.now }
+    /// What a request does there.
+    pub fn action(&self) -> Action
+        ensures { result ≡ asked.action_of self.now }
     {
         match self {
-            Target::EtPost | Target::SxPost | Target::RtPost => true,
-            Target::EtGet | Target::RtGet => false,
+            Target::EtPost => Action::Post(Kind::Estimated),
+            Target::EtGet => Action::Get(Resource::Timetable),
+            Target::SxPost => Action::Post(Kind::Situations),
+            Target::RtPost => Action::Post(Kind::Feed),
+            Target::RtGet => Action::Get(Resource::Feed),
         }
     }
 }

@@ -8,13 +8,14 @@ ghost use Rattle.http_talk.specs.Whole.{told};
 use crate::ends::{HEAD_LIMIT, ends_head};
 use crate::head::answer_of;
 use crate::refusal::Refusal;
-use crate::target::{Head, Target};
+use crate::target::{Action, Head, Resource};
+use gw_base::Kind;
 
-/// A target that is asked for, with the body, which is empty for a GET.
+/// What a whole input asks for: what is served, or that a body of a kind is taken.
 #[derive(Clone, Copy, Debug)]
-pub struct Asked<'a> {
-    pub target: Target,
-    pub body: &'a [u8],
+pub enum WholeRequest<'a> {
+    Get(Resource),
+    Post(Kind, &'a [u8]),
 }
 
 // The length of the input's head.
@@ -32,22 +33,23 @@ fn head_len(input: &[u8]) -> Option<usize>
 }
 
 /// What is asked, with the body, where the head is followed by the rest.
-pub(crate) fn with_rest<'a>(head: Head, rest: &'a [u8]) -> Result<Asked<'a>, Refusal>
+pub(crate) fn with_rest<'a>(head: Head, rest: &'a [u8]) -> Result<WholeRequest<'a>, Refusal>
     ensures { told result ≡ with_body (Ok head) rest.now }
 {
-    let target = head.target;
-    if !target.is_post() {
-        return Ok(Asked { target, body: b"" });
+    match head.target.action() {
+        Action::Get(resource) => Ok(WholeRequest::Get(resource)),
+        Action::Post(kind) => {
+            if head.length > rest.len() as u64 {
+                return Err(Refusal::Cut);
+            }
+            let (body, _) = rest.split_at(head.length as usize);
+            Ok(WholeRequest::Post(kind, body))
+        }
     }
-    if head.length > rest.len() as u64 {
-        return Err(Refusal::Cut);
-    }
-    let (body, _) = rest.split_at(head.length as usize);
-    Ok(Asked { target, body })
 }
 
 /// What a connection's whole input asks for (RFC 9112). Takes no memory.
-pub fn request_of<'a>(input: &'a [u8]) -> Result<Asked<'a>, Refusal>
+pub fn request_of<'a>(input: &'a [u8]) -> Result<WholeRequest<'a>, Refusal>
     ensures { IsRequest input.now (told result) }
 {
     let Some(count) = head_len(input) else {

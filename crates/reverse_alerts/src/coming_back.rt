@@ -10,10 +10,10 @@ use journey_model::Context;
 
 /// Each situation that is read over a context comes back from the entity with which it is served: that is taken as a
 /// situation with an equal alert (SIRI 2.0, PtSituationElement; GTFS Realtime reference, Alert).
-pub fn what_was_read_comes_back(context: &Context<'_>)
+pub fn what_was_read_comes_back_law(context: &Context<'_>)
     ensures { (tree : Data) (one : Situation) (unknown : ℕ)
         → verdict context.now tree ≡ Ok (one, unknown)
         → ComesBack context.now.table one }
 {
-    context.table.is_sound();
+    context.table.soundness_law();
 }

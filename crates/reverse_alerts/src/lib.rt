@@ -12,6 +12,6 @@ mod write_affects;
 mod write_situation;
 mod writing;
 
-pub use coming_back::what_was_read_comes_back;
+pub use coming_back::what_was_read_comes_back_law;
 pub use sx::sx_of;
 pub use sx_fault::SxFault;

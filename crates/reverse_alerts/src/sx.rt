@@ -2,7 +2,7 @@
 ghost use Rattle.reverse_alerts.specs.Sx.{IsAnswer, IsFullAnswer};
 
 use crate::sx_fault::SxFault;
-use crate::texts::have_utf8;
+use crate::texts::all_utf8_law;
 use crate::writing::write_all;
 use gw_base::incrementality::DIFFERENTIAL;
 use gw_base::{Bytes, Feed, Moment};
@@ -18,10 +18,10 @@ fn sx_of_full(
 ) -> Result<(Bytes, Report), SxFault>
     ensures { IsFullAnswer context.now feed.now moment result }
 {
-    context.table.is_sound();
+    context.table.soundness_law();
     let _ = moment.secs();
     let entities = feed.entities.as_slice();
-    have_utf8(context.table, entities);
+    all_utf8_law(context.table, entities);
     match write_all(alloc, context.table, moment, entities) {
         Ok(both) => Ok(both),
         Err(_) => Err(SxFault::Memory),

@@ -11,42 +11,42 @@ use gw_base::{Alert, Entity};
 use stop_schedule::Timetable;
 
 // A text is UTF-8.
-fn is_utf8(text: &str)
+fn utf8_law(text: &str)
     ensures { IsUtf8 text.now }
 {}
 
 // So is one that may be missing.
-fn is_utf8_if(text: Option<&str>)
+fn optional_utf8_law(text: Option<&str>)
     ensures { IfSome (option_copied text.entry) IsUtf8 }
 {
     if let Some(text) = text {
-        is_utf8(text);
+        utf8_law(text);
     }
 }
 
 // The texts that are told of an alert are UTF-8.
-fn says_texts(alert: &Alert)
+fn texts_law(alert: &Alert)
     ensures { SaysTexts alert.now }
 {
-    is_utf8_if(first_text(alert.header.as_slice()));
-    is_utf8_if(first_text(alert.description.as_slice()));
+    optional_utf8_law(first_text(alert.header.as_slice()));
+    optional_utf8_law(first_text(alert.description.as_slice()));
 }
 
 // The id of an entity and the texts of its alert are UTF-8.
-fn has_texts(entity: &Entity)
+fn entity_texts_law(entity: &Entity)
     ensures { HasTexts entity.now }
 {
-    is_utf8(entity.id.as_str());
+    utf8_law(entity.id.as_str());
     if let Some(alert) = &entity.alert {
-        says_texts(alert.get());
+        texts_law(alert.get());
     }
 }
 
 /// The texts of all situations that are taken are UTF-8.
-pub(crate) fn have_utf8(table: &Timetable, entities: &[Entity])
+pub(crate) fn all_utf8_law(table: &Timetable, entities: &[Entity])
     ensures { All HasUtf8 (situations (seen table.now) entities.now) }
 {
     for entity in entities {
-        has_texts(entity);
+        entity_texts_law(entity);
     }
 }

@@ -9,7 +9,7 @@ use gw_base::Moment;
 use journey_model::{Context, DatedReading};
 
 // When a reading was recorded is a moment.
-fn is_recorded(recorded: &Option<Moment>)
+fn recorded_law(recorded: &Option<Moment>)
     ensures { IfSome recorded.now IsMoment }
 {
     if let Some(moment) = recorded {
@@ -18,21 +18,21 @@ fn is_recorded(recorded: &Option<Moment>)
 }
 
 // A reading that can be served can be said.
-fn is_sayable(context: &Context<'_>, one: &DatedReading)
+fn sayable_law(context: &Context<'_>, one: &DatedReading)
     requires { IsServable context.now one.now }
     ensures { IsSayable context.now one.now }
 {
     let _ = one.day.number();
     let _ = context.window.start_of(one.day);
-    is_recorded(&one.recorded);
+    recorded_law(&one.recorded);
 }
 
 /// The readings of a feed, which can be served, can be said. A law, which changes nothing when it runs.
-pub(crate) fn are_sayable(context: &Context<'_>, journeys: &[DatedReading])
+pub(crate) fn all_sayable_law(context: &Context<'_>, journeys: &[DatedReading])
     requires { All (IsServable context.now) journeys.now }
     ensures { All (IsSayable context.now) journeys.now }
 {
     for one in journeys {
-        is_sayable(context, one);
+        sayable_law(context, one);
     }
 }

@@ -9,7 +9,7 @@ ghost use Rattle.reverse_calls.specs.Siri.{IsAnswer, IsFullAnswer, IsReadingsAns
 use crate::counting::calls_of;
 use crate::readings_fault::ReadingsFault;
 use crate::reverse_fault::ReverseFault;
-use crate::sayable::are_sayable;
+use crate::sayable::all_sayable_law;
 use gw_base::incrementality::DIFFERENTIAL;
 use gw_base::{Bytes, Feed, Moment};
 use journey_model::{Context, DatedReading, Report};
@@ -31,8 +31,8 @@ fn said(
     ensures text { IfOk result (λ text. text ≡ delivery_text context.now moment journeys.now) }
     ensures again { IfOk result (SaysAgain context.now moment journeys.now) }
 {
-    context.table.is_sound();
-    are_sayable(context, journeys);
+    context.table.soundness_law();
+    all_sayable_law(context, journeys);
     let _ = moment.secs();
     write_delivery(alloc, context, journeys, moment)
 }

@@ -202,7 +202,7 @@ impl SpanPool {
     }
 
     /// That no two live spans have one slot.
-    pub fn are_apart(&self)
+    pub fn spans_are_apart_law(&self)
         ensures apart { AreApart self.now.spans }
     {
         let _ = &self.bytes;

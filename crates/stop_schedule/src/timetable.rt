@@ -136,7 +136,7 @@ impl Timetable {
 
     /// What every timetable keeps: the ids are told apart, and the stops and the route of each trip are known. A law
     /// for readers of a timetable, which does nothing when it runs.
-    pub fn is_sound(&self)
+    pub fn soundness_law(&self)
         ensures { IsSound (seen self.now) }
     {
         let _ = (self.trips.len(), self.stops.len(), self.routes.len());

@@ -16,8 +16,8 @@ mod writing;
 pub use fault::ListFault;
 pub use field::{Field, Value, WireFault};
 pub use laws::{
-    a_break_is_told, a_break_stays, fields_are_one, fields_join, fields_or_a_break,
-    the_break_is_one, written_fields_are_spellings,
+    a_break_is_told_law, a_break_stays_law, fields_are_one_law, fields_join_law,
+    fields_or_a_break_law, the_break_is_one_law, written_fields_are_spellings_law,
 };
 pub use listing::list_fields;
 pub use reading::{first_number, next_field};

@@ -21,28 +21,28 @@ read_whole g c = subst (ReadsBody (g.D.Sink.beside c.read_body.new.door) (g.B.Ta
     (length c.split_at-3.result.0.now) c.in-Ok-Whole.ensures.reads.0 c.args.head.length) c.in-Ok-Whole.field-0-is c.in-Ok-Whole.ensures.reads.2
 
 stands_whole : (g : Over) (c : goal.In-Ok-Whole g)
-    → g.B.TakesBody.stands c.args.over.now c.read_body.new.taker c.args.moment c.args.head.target (c.split_at-3.result.0.now ++ c.in-Ok-Whole.ensures.reads.0)
+    → g.B.TakesBody.stands c.args.over.now c.read_body.new.taker c.args.moment c.args.kind (c.split_at-3.result.0.now ++ c.in-Ok-Whole.ensures.reads.0)
 stands_whole g c =
-    (read_whole g c).0 c.args.moment c.args.head.target c.split_at-3.result.0.now
+    (read_whole g c).0 c.args.moment c.args.kind c.split_at-3.result.0.now
     (fine c.hand_on.result (sym c.is_err-2.ensures.value ∙ c.if-is_err-2.false)
-    (c.hand_on.ensures.takes c.args.moment c.args.head.target [] (fine c.begin.result (sym c.is_err.ensures.value ∙ c.if-is_err.false) c.begin.ensures.begins)))
+    (c.hand_on.ensures.takes c.args.moment c.args.kind [] (fine c.begin.result (sym c.is_err.ensures.value ∙ c.if-is_err.false) c.begin.ensures.begins)))
 
-pub returns-in-Ok-Whole-clause-method : goal.returns-in-Ok-Whole-clause-method
-returns-in-Ok-Whole-clause-method g c = (c.requires.post, c.split_at-3.result.0.now ++ c.in-Ok-Whole.ensures.reads.0, stands_whole g c)
+pub returns-in-Ok-Whole-clause-posted : goal.returns-in-Ok-Whole-clause-posted
+returns-in-Ok-Whole-clause-posted g c = (c.split_at-3.result.0.now ++ c.in-Ok-Whole.ensures.reads.0, stands_whole g c)
 
 pub returns-in-Ok-Whole-clause-asks : goal.returns-in-Ok-Whole-clause-asks
 returns-in-Ok-Whole-clause-asks g c =
     asks_taken (g.B.TakesBody.stands c.args.over.now c.read_body.new.taker c.args.moment) (g.D.Sink.beside c.args.door.now).told
-    (drop c.args.from (take c.args.to c.args.piece.now)) (c.split_at-3.result.0.now ++ c.in-Ok-Whole.ensures.reads.0) c.args.head
+    (drop c.args.from (take c.args.to c.args.piece.now)) (c.split_at-3.result.0.now ++ c.in-Ok-Whole.ensures.reads.0) c.args.head c.args.kind
     (stands_whole g c)
     (asks_post (g.D.Sink.beside c.args.door.now) (g.D.Sink.beside c.read_body.new.door) c.in-Ok-Whole.ensures.reads.0
-    (drop c.args.from (take c.args.to c.args.piece.now)) c.split_at-3.result.0.now (c.split_at-3.result.0.now ++ c.in-Ok-Whole.ensures.reads.0) c.args.head c.in-Ok-Whole.ensures.reads.1 c.requires.post
+    (drop c.args.from (take c.args.to c.args.piece.now)) c.split_at-3.result.0.now (c.split_at-3.result.0.now ++ c.in-Ok-Whole.ensures.reads.0) c.args.head c.args.kind c.in-Ok-Whole.ensures.reads.1 c.requires.post
     (search rules) refl (omega (arith, length-append c.split_at-3.result.0.now c.in-Ok-Whole.ensures.reads.0, (read_whole g c).1)))
 
 pub returns-in-Ok-Cut-clause-asks : goal.returns-in-Ok-Cut-clause-asks
 returns-in-Ok-Cut-clause-asks g c =
     asks_less (g.D.Sink.beside c.args.door.now) (g.D.Sink.beside c.read_body.new.door) c.in-Ok-Cut.ensures.reads.0
-    (drop c.args.from (take c.args.to c.args.piece.now)) c.split_at-3.result.0.now c.args.head c.in-Ok-Cut.ensures.reads.1 c.requires.post
+    (drop c.args.from (take c.args.to c.args.piece.now)) c.split_at-3.result.0.now c.args.head c.args.kind c.in-Ok-Cut.ensures.reads.1 c.requires.post
     (search rules) read.0 (omega (arith, length-append c.split_at-3.result.0.now c.in-Ok-Cut.ensures.reads.0, read.1))
   where
     read : ReadsBody (g.D.Sink.beside c.read_body.new.door) (g.B.TakesBody.stands c.args.over.now c.hand_on.new.taker) (g.B.TakesBody.stands c.args.over.now c.read_body.new.taker)

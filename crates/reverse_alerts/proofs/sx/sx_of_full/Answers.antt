@@ -11,6 +11,6 @@ returns-in-Ok c =
     let at = subst IsMoment c.secs.ensures.value c.secs.ensures.range in
     subst (λ (lent : Schedule). IsSx lent c.args.feed.now c.args.moment c.in-Ok.both.0 c.in-Ok.both.1) c.context.view_is (is_sx
     (schedule_from c.context.inside.table.now c.context.inside.zone.now c.context.inside.window.now)
-    c.args.feed.now c.args.moment c.in-Ok.both.0 c.in-Ok.both.1 c.is_sound.ensures at
-    (rw c.as_slice-entities.ensures.same at c.have_utf8.ensures) (rw c.as_slice-entities.ensures.same at c.in-Ok.ensures.text)
+    c.args.feed.now c.args.moment c.in-Ok.both.0 c.in-Ok.both.1 c.soundness_law.ensures at
+    (rw c.as_slice-entities.ensures.same at c.all_utf8_law.ensures) (rw c.as_slice-entities.ensures.same at c.in-Ok.ensures.text)
     (rw c.as_slice-entities.ensures.same at c.in-Ok.ensures.report))

@@ -7,7 +7,7 @@ use Rattle.feed_index.proofs.draft.Draft.over.Goals as goal
 pub invariant_of-result : goal.invariant_of-result
 invariant_of-result g c = (
   c.requires.within,
-  c.is_sound.ensures.rising,
+  c.soundness_law.ensures.rising,
   rw c.new.ensures.empty (rising_none (λ (one : Entry _ _). one.key) g.K.Ord.cmp),
   rw c.new.ensures.empty (omega (arith, c.len.ensures.value, length-drop c.args.gone c.args.index.now.entries)),
 )

@@ -6,5 +6,5 @@ pub returns-clause-stands : goal.returns-clause-stands
 returns-clause-stands c = record {
   given = [];
   read = c.make.ensures.stands;
-  folded = c.make-2.ensures.stands (schedule_over c.args.self.now.setting c.rolled_by-window.result.window);
+  folded = c.make-2.ensures.stands (schedule_over c.args.self.now.setting c.window_move-window.result.window);
 }

@@ -30,8 +30,8 @@ returns-in-Err-clause-takes c = λ arrivals h rolls bytes stands.
 pub cut_front-requires : goal.cut_front-requires
 cut_front-requires c = record {
   within =
-      let within : c.rolled_by-window.result.gone ≤ length (map journey_seen c.self.inside.journeys.entries) =
-      subst (λ (k : Kept). c.rolled_by-window.result.gone ≤ length k.journeys) (sym c.self.view_is) c.rolled_by-window.ensures.within in
+      let within : c.window_move-window.result.expired ≤ length (map journey_seen c.self.inside.journeys.entries) =
+      subst (λ (k : Kept). c.window_move-window.result.expired ≤ length k.journeys) (sym c.self.view_is) c.window_move-window.ensures.within in
       let long = journeys_long c.self.inside.journeys.entries in
       omega (arith, within, long);
 }
@@ -39,15 +39,15 @@ cut_front-requires c = record {
 pub invariant_of-self : goal.invariant_of-self
 invariant_of-self c =
     subst
-    (λ (k : Kept). IsWindowIn k.setting.zone c.rolled_by-window.result.window × (length c.rolled_by-window.result.window.starts ≡ length k.setting.window.starts))
-    (sym c.self.view_is) (c.rolled_by-window.ensures.own, c.rolled_by-window.ensures.days)
+    (λ (k : Kept). IsWindowIn k.setting.zone c.window_move-window.result.window × (length c.window_move-window.result.window.starts ≡ length k.setting.window.starts))
+    (sym c.self.view_is) (c.window_move-window.ensures.own, c.window_move-window.ensures.days)
 
 pub returns-clause-takes : goal.returns-clause-takes
 returns-clause-takes c = λ arrivals h rolls bytes stands.
-    let gone : ℕ = c.rolled_by-window.result.gone in
+    let gone : ℕ = c.window_move-window.result.expired in
     let now : c.taking.inside.moment ≡ c.args.taking.moment = ap (λ (t : Arriving). t.moment) c.taking.view_is in
-    let own : c.rolled_by-window.result.window ≡ window_at c.args.self.now.setting (c.args.taking.moment ∷ moments_of arrivals) =
-    subst (λ (m : ℤ). c.rolled_by-window.result.window ≡ window_at c.args.self.now.setting (m ∷ moments_of arrivals)) now (c.rolled_by-window.ensures.rolls arrivals h) in
+    let own : c.window_move-window.result.window ≡ window_at c.args.self.now.setting (c.args.taking.moment ∷ moments_of arrivals) =
+    subst (λ (m : ℤ). c.window_move-window.result.window ≡ window_at c.args.self.now.setting (m ∷ moments_of arrivals)) now (c.window_move-window.ensures.rolls arrivals h) in
     let left : drop gone c.args.self.now.journeys ≡ map journey_seen c.cut_front.new.self.entries =
     ap (λ (k : Kept). drop gone k.journeys) (sym c.self.view_is)
     ∙ journeys_drop c.self.inside.journeys.entries gone
@@ -55,7 +55,7 @@ returns-clause-takes c = λ arrivals h rolls bytes stands.
     answer_taken c.args.self.now
     (record {
       setting = c.self.inside.setting;
-      window = c.rolled_by-window.result.window;
+      window = c.window_move-window.result.window;
       journeys = map journey_seen c.cut_front.new.self.entries;
       situations = map situation_seen c.self.inside.situations.entries;
       text = c.in-Ok.both.0;
@@ -76,7 +76,7 @@ returns-clause-takes c = λ arrivals h rolls bytes stands.
     (λ (m : ℤ).
     KeepsJourneys (schedule_at c.args.self.now.setting (m ∷ moments_of arrivals))
     (filter (is_within (window_at c.args.self.now.setting (m ∷ moments_of arrivals))) (admitted c.args.self.now.setting arrivals)) (drop gone c.args.self.now.journeys))
-    now (c.rolled_by-window.ensures.keeps arrivals h)))
+    now (c.window_move-window.ensures.keeps arrivals h)))
     (ap (λ (k : Kept). k.situations) c.self.view_is) refl
 
 pub returns-clause-text : goal.returns-clause-text

@@ -19,15 +19,15 @@ use Rattle.gateway_core.specs.Deliveries.{schedule_over}
 
 pub returns-in-Err-clause-takes : goal.returns-in-Err-clause-takes
 returns-in-Err-clause-takes c = λ arrivals h.
-    answer_refused c.args.self.now c.args.self.now arrivals c.args.moment c.args.body.now c.in-Err.fault c.rolled_by-window.result.window (c.rolled_by-window.ensures.rolls arrivals h)
-    (subst (λ (s : Setting). IsRefused (schedule_over s c.rolled_by-window.result.window) c.args.body.now c.in-Err.fault)
+    answer_refused c.args.self.now c.args.self.now arrivals c.args.moment c.args.body.now c.in-Err.fault c.window_move-window.result.window (c.window_move-window.ensures.rolls arrivals h)
+    (subst (λ (s : Setting). IsRefused (schedule_over s c.window_move-window.result.window) c.args.body.now c.in-Err.fault)
     (ap (λ (k : Kept). k.setting) c.self.view_is) (rw c.context_over-context.ensures at c.in-Err.ensures.refuses))
 
 pub cut_front-requires : goal.cut_front-requires
 cut_front-requires c = record {
   within =
-      let within : c.rolled_by-window.result.gone ≤ length (map journey_seen c.self.inside.journeys.entries) =
-      subst (λ (k : Kept). c.rolled_by-window.result.gone ≤ length k.journeys) (sym c.self.view_is) c.rolled_by-window.ensures.within in
+      let within : c.window_move-window.result.expired ≤ length (map journey_seen c.self.inside.journeys.entries) =
+      subst (λ (k : Kept). c.window_move-window.result.expired ≤ length k.journeys) (sym c.self.view_is) c.window_move-window.ensures.within in
       let long = journeys_long c.self.inside.journeys.entries in
       omega (arith, within, long);
 }
@@ -35,12 +35,12 @@ cut_front-requires c = record {
 pub invariant_of-self-2 : goal.invariant_of-self-2
 invariant_of-self-2 c =
     subst
-    (λ (k : Kept). IsWindowIn k.setting.zone c.rolled_by-window.result.window × (length c.rolled_by-window.result.window.starts ≡ length k.setting.window.starts))
-    (sym c.self.view_is) (c.rolled_by-window.ensures.own, c.rolled_by-window.ensures.days)
+    (λ (k : Kept). IsWindowIn k.setting.zone c.window_move-window.result.window × (length c.window_move-window.result.window.starts ≡ length k.setting.window.starts))
+    (sym c.self.view_is) (c.window_move-window.ensures.own, c.window_move-window.ensures.days)
 
 pub returns-clause-takes : goal.returns-clause-takes
 returns-clause-takes c = λ arrivals h.
-    let gone : ℕ = c.rolled_by-window.result.gone in
+    let gone : ℕ = c.window_move-window.result.expired in
     let left : drop gone c.args.self.now.journeys ≡ map journey_seen c.cut_front.new.self.entries =
     ap (λ (k : Kept). drop gone k.journeys) (sym c.self.view_is)
     ∙ journeys_drop c.self.inside.journeys.entries gone
@@ -48,18 +48,18 @@ returns-clause-takes c = λ arrivals h.
     answer_taken c.args.self.now
     (record {
       setting = c.self.inside.setting;
-      window = c.rolled_by-window.result.window;
+      window = c.window_move-window.result.window;
       journeys = map journey_seen c.cut_front.new.self.entries;
       situations = map situation_seen c.merge.new.self.entries;
       text = c.self.inside.text;
       dead_journeys = c.cut_front.new.self.dead;
       dead_situations = c.merge.new.self.dead;
     })
-    arrivals c.args.moment c.args.body.now c.in-Ok.made.accepted c.rolled_by-window.result.window
-    (map situation_seen (put_all (slice_cmp nat_cmp) c.self.inside.situations.entries c.in-Ok.made.batch)) h (c.rolled_by-window.ensures.rolls arrivals h)
+    arrivals c.args.moment c.args.body.now c.in-Ok.made.accepted c.window_move-window.result.window
+    (map situation_seen (put_all (slice_cmp nat_cmp) c.self.inside.situations.entries c.in-Ok.made.batch)) h (c.window_move-window.ensures.rolls arrivals h)
     (subst
     (λ (s : Setting).
-    TakesBody (schedule_over s c.rolled_by-window.result.window) (admitted_situations arrivals) c.args.body.now
+    TakesBody (schedule_over s c.window_move-window.result.window) (admitted_situations arrivals) c.args.body.now
     (map situation_seen (put_all (slice_cmp nat_cmp) c.self.inside.situations.entries c.in-Ok.made.batch)) c.in-Ok.made.accepted.report)
     (ap (λ (k : Kept). k.setting) c.self.view_is)
     ((rw c.context_over-context.ensures at c.in-Ok.ensures.takes) (admitted_situations arrivals)
@@ -69,7 +69,7 @@ returns-clause-takes c = λ arrivals h.
     (λ (entries : List JourneyEntry).
     KeepsJourneys (schedule_at c.args.self.now.setting (c.args.moment ∷ moments_of arrivals))
     (filter (is_within (window_at c.args.self.now.setting (c.args.moment ∷ moments_of arrivals))) (admitted c.args.self.now.setting arrivals)) entries)
-    left (c.rolled_by-window.ensures.keeps arrivals h))
+    left (c.window_move-window.ensures.keeps arrivals h))
     (ap (map situation_seen)
     (sym (c.merge.ensures.entries ∙ ap (λ (ready : List (Entry (List ℕ) Edition)). put_all (slice_cmp nat_cmp) ready c.in-Ok.made.batch) c.prepare_for.ensures.same)))
     (ap (λ (k : Kept). k.text) c.self.view_is)

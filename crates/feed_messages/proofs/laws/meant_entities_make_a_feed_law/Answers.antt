@@ -1,0 +1,10 @@
+use Rattle.std.proofs.Common.{◌<◌, ◌^◌, arith}
+use Rattle.std.proofs.lemmas.Int.{ints}
+use Rattle.std.specs.Prelude.{unsigned_abs}
+use Rattle.feed_messages.proofs.Meant.{means_feed}
+use Rattle.feed_messages.proofs.laws.meant_entities_make_a_feed_law.Goals as goal
+
+pub returns : goal.returns
+returns c = λ moment entities is means.
+    let small : unsigned_abs moment < 2 ^ 64 = omega (arith, ints) in
+    means_feed moment entities small means

@@ -1,5 +1,0 @@
-use Rattle.feed_reading.proofs.Building.{means_more}
-use Rattle.feed_reading.proofs.laws.an_entity_is_added.Goals as goal
-
-pub returns : goal.returns
-returns c = means_more

@@ -1,0 +1,3 @@
+//! The items of a delivery, taken one after the other over what is kept.
+pub(crate) mod journeys;
+pub(crate) mod situations;

@@ -1,0 +1,9 @@
+-- It is the lemma, over a timetable that is sound.
+use Rattle.std.proofs.Common.{subst}
+use Rattle.stop_schedule.specs.Sound.{IsSound}
+use Rattle.journey_model.specs.Schedules.{Schedule}
+use Rattle.reverse_alerts.proofs.ComesBack.{comes_back}
+use Rattle.reverse_alerts.proofs.coming_back.what_was_read_comes_back_law.Goals as goal
+
+pub returns : goal.returns
+returns c = λ tree one unknown e. comes_back c.args.context.now tree one unknown (subst (λ (lent : Schedule). IsSound lent.table) c.context.view_is c.soundness_law.ensures) e

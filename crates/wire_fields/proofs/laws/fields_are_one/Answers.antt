@@ -1,5 +1,0 @@
-use Rattle.wire_fields.proofs.Broken.{fields_once}
-use Rattle.wire_fields.proofs.laws.fields_are_one.Goals as goal
-
-pub returns : goal.returns
-returns c = fields_once
