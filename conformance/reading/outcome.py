@@ -38,9 +38,13 @@ def refused(status, text):
 
 def outcome(raw_words, files):
     """The run of the words (bytes each) over files."""
+    return ended(lambda: run(read_words(raw_words), files))
+
+
+def ended(work):
+    """What work comes to: its outcome, or that of the first fault that ends it."""
     try:
-        work = read_words(raw_words)
-        return run(work, files)
+        return work()
     except BadWord as bad:
         return refused(2, f"bad word {bad.at}")
     except FileMissing as missing:

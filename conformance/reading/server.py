@@ -1,6 +1,6 @@
 """A server: what it keeps, how its window of service days rolls, and what each connection is answered.
 
-Left out are a clock that fails (`H500 Clock`) and want of memory (`H503 Memory`).
+Left out are want of memory (`H503 Memory`) and connections that fail while they are read or written.
 """
 
 from dataclasses import dataclass, replace
@@ -12,7 +12,7 @@ from .feeds import FeedFault, read_feed
 from .folder import read_folder
 from .json_text import json_text
 from .moments import local_day
-from .outcome import DIFFERENTIAL, MOST_CALLS, read_zone, take_journeys, take_situations
+from .outcome import DIFFERENTIAL, MOST_CALLS, Outcome, ended, read_zone, take_journeys, take_situations
 from .propagation import FeedReading, readings_of
 from .readings import Context
 from .requests import Refused, read_request
@@ -28,6 +28,7 @@ REASONS = {
     411: "Length Required",
     413: "Content Too Large",
     431: "Request Header Fields Too Large",
+    500: "Internal Server Error",
 }
 FEED, JSON, TEXT = "application/x-protobuf", "application/json", "text/plain; charset=utf-8"
 
@@ -82,6 +83,51 @@ def answered(setting, state, moment, data):
         return refusal(refused), state
     except (NotDelivery, FeedFault) as fault:
         return refusal(Refused(f"H400 {fault}")), state
+
+
+# The log of a run.
+
+
+@dataclass(frozen=True)
+class Entry:
+    """A connection that was served: how it ended, its moment if the clock gave one, and its answer."""
+
+    mark: str
+    moment: int
+    answer: bytes
+
+
+def server_run(raw_words, files, clock, inputs):
+    """The run of a server's words over inputs of connections: its outcome and its log. `clock` gives a moment, or None
+    where it fails, at each call."""
+    log = []
+
+    def serve():
+        setting = Setting(raw_words, files)
+        state = started(setting)
+        for data in inputs[: read_words(raw_words).connections]:
+            entry, state = logged(setting, state, clock(), data)
+            log.append(entry)
+        return Outcome(0)
+
+    return ended(serve), log
+
+
+def logged(setting, state, moment, data):
+    """A connection's entry, and what the server keeps then. Where the clock fails, nothing of the input is read."""
+    if moment is None:
+        return Entry("ClockFault", None, refusal(Refused("H500 Clock"))), state
+    answer, state = answered(setting, state, moment, data)
+    return Entry(mark_of(data, int(answer.split(b" ")[1])), moment, answer), state
+
+
+def mark_of(data, status):
+    if status != 200:
+        return f"Refused {status}"
+    request = read_request(data)
+    if request.method == "GET":
+        return "Shown"
+    return "Fed" if request.path == "/gtfs-rt" else "Taken"
 
 
 # Answers.

@@ -13,20 +13,24 @@ usage: gateway serve      SCHEDULE --keep K --listen ADDRESS --connections C
        gateway make       --seed X --trips T --stops S
        gateway --help | --version
 
+All words stand in this order; a flag and its value are two words.
+
 SCHEDULE  --gtfs DIR ZONE --from DAY --days N: a GTFS Schedule folder, its zone,
           the first service day, and how many service days, from 1 to 32
-ZONE      --zone-rule RULE, a POSIX rule, or --zone-file FILE, a TZif file
+ZONE      --zone-rule RULE, a POSIX rule, or --zone-file FILE, a TZif file, such
+          as /usr/share/zoneinfo/Europe/Paris
+DAY       YYYY-MM-DD; of serve, any day that is over
 K         how many days before the present one stay, below N and at most 31
 ADDRESS   where connections are taken, such as 127.0.0.1:8080
 C         how many connections are served, from 1 to 4294967295
-MOMENT    when the result is made, in UTC
+MOMENT    when the result is made, in UTC: YYYY-MM-DDThh:mm:ssZ
 FILE      a delivery in JSON (--et, --sx), or a feed in protobuf (--feed)
 X, T, S   the numbers of a sample: a seed, from 0 to 2147483647, how many trips,
           from 1 to 20000, and at how many stops each stops, from 2 to 100
 
 serve takes deliveries and feeds by POST, and answers with a feed and a SIRI
 delivery by GET; its window of days rolls on with the clock:
-  ./gateway serve --gtfs FOLDER --zone-rule CET-1CEST,M3.5.0,M10.5.0/3 \\
+  ./gateway serve --gtfs FOLDER --zone-file /usr/share/zoneinfo/Europe/Paris \\
     --from 2026-11-28 --days 3 --keep 1 --listen 127.0.0.1:8080 \\
     --connections 1000000
   curl --data-binary @timetables.json http://127.0.0.1:8080/siri/et
@@ -53,8 +57,9 @@ whole way, reads no file, and counts what the feed says of all stops:
 
 Standard output gets the result, standard error a report on each file or why
 there is no result; of show, the report ends the result; of serve, each answer
-has its own. Statuses: 0 done, 2 bad words, 65 bad input, 66 a missing file,
-71 no memory, 74 a failed device.
+has its own. Statuses: 0 done, 2 bad words (word K, counted from 0, which is the
+command, can't stand there), 65 bad input, 66 a missing file, 71 no memory, 74 a
+failed device.
 ";
 
 // The most bytes of a word: Linux takes no longer one.

@@ -1,4 +1,4 @@
-//! The top call over devices in memory, as tables of cases, and each real device once. It stands apart from the
+//! The top call over devices in memory, and each real device once. It stands apart from the
 //! crate of the top call, since the tests of a crate are proved with its whole text.
 #![tactic(auto)]
 

@@ -1,27 +1,10 @@
-//! Each real device once, and the top call over files and sinks in memory. The top call over the real
-//! devices is run by the repository's own checks.
-mod alerts;
-mod deliveries;
+//! Each real device once, and the top call over a delivery, and over a server whose door and clock fail.
+//! `gateway_cases` has the top call over devices in memory, case by case; the repository's own checks run it over the
+//! real devices.
+mod delivery;
 mod door_faults;
 mod doors;
-mod entities;
-mod failures;
-mod feed;
-mod feeds;
-mod folder;
-mod frame;
-mod full;
-mod hostile;
-mod items;
-mod producer;
-mod rounds;
 mod runs;
-mod samples;
-mod serving;
-mod situations;
-mod told;
-mod updates;
-mod words;
 
 use gateway_top::{DirFiles, StdSink};
 use gw_base::{Bytes, Failed, FileFault, Files, Got, Sink};

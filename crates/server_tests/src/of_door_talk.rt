@@ -2,45 +2,23 @@
 ghost use Rattle.std.specs.Prelude.{◌≡◌, ◌≤◌, false};
 
 use door_talk::*;
-use gw_base::{Bytes, Door, List, MemoryDoor, Moment};
-use http_talk::{Allow, HeadReader, Refusal, Target};
+use gw_base::{Bytes, Door, Kind, List, MemoryDoor, Moment};
+use http_talk::{HeadReader, Refusal};
 use std::alloc::Global;
 use std::process::Abort;
 
-/// Inputs, what they ask for, and the body of a POST.
-static INPUTS: [(&[u8], Asked, &[u8]); 8] = [
-    (b"", Asked::Refused(Refusal::Head), b""),
-    (
-        b"GET /gtfs-rt HTTP/1.1\r\n\r\nmore",
-        Asked::Get(Target::RtGet),
-        b"",
-    ),
+/// Inputs, what they ask for, and the body of a POST: what came of one that is cut stays.
+static INPUTS: [(&[u8], Asked, &[u8]); 2] = [
     (
         b"\r\nPOST /siri/et HTTP/1.1\r\nContent-Length: 4\r\n\r\nbodyand more",
-        Asked::Post(Target::EtPost),
+        Asked::Post(Kind::Estimated),
         b"body",
-    ),
-    (
-        b"POST /siri/sx HTTP/1.1\r\nContent-Length: 0\r\n\r\n",
-        Asked::Post(Target::SxPost),
-        b"",
     ),
     (
         b"POST /gtfs-rt HTTP/1.1\r\nContent-Length: 10\r\n\r\n123456789",
         Asked::Refused(Refusal::Cut),
         b"123456789",
     ),
-    (
-        b"POST /gtfs-rt HTTP/1.1\r\nContent-Length: 16777217\r\n\r\n",
-        Asked::Refused(Refusal::TooLarge),
-        b"",
-    ),
-    (
-        b"PUT /siri/sx HTTP/1.1\r\n\r\n",
-        Asked::Refused(Refusal::Method(Allow::Post)),
-        b"",
-    ),
-    (b"GET /gtfs-rt HTT", Asked::Refused(Refusal::Head), b""),
 ];
 
 // What the next connection asks for. Over any door, so that what a door in memory does isn't in the goals.

@@ -1,161 +1,92 @@
-//! Deliveries and feeds over the sample folder. What the tests share: a gateway that took nothing, deliveries of items,
-//! and what is served.
-mod feeds;
-mod journeys;
-mod serving;
-mod situations;
-
+//! A delivery of each kind and a feed over the sample folder, and what is served then. `gateway_cases` has what is kept
+//! of several ones.
 use crate::settings::setting;
-use gateway_core::{Gateway, TakeFault, feed_report};
-use gw_base::{Bytes, List, MemorySink, Moment};
+use gateway_core::{Gateway, feed_report};
+use gw_base::{List, MemorySink, Moment};
 use journey_model::Report;
-use std::alloc::{AllocError, Global};
+use std::alloc::Global;
 use std::process::Abort;
 
 // 2024-05-01T06:00:00Z.
 const AT: i64 = 1_714_543_200;
 
-// A delivery's items are words; before each of an item's words stands a piece of its own.
-struct Form {
-    head: &'static str,
-    before: [&'static str; 4],
-    tail: &'static str,
-}
+// The journey of T1 is cancelled, and a situation of the route R1.
+const JOURNEY: &[u8] =
+    b"{\"ServiceDelivery\":{\"EstimatedTimetableDelivery\":[{\"EstimatedJourneyVersionFrame\":[{\
+      \"EstimatedVehicleJourney\":[{\"FramedVehicleJourneyRef\":{\"DatedVehicleJourneyRef\":\"T1\",\
+      \"DataFrameRef\":\"2024-05-01\"},\"RecordedAtTime\":\"2024-05-01T06:00:00Z\",\"Cancellation\":true}]}]}]}}";
 
-// The words of an item: a trip, a day, when that was recorded, and what is said besides.
-static JOURNEYS: Form = Form {
-    head: "{\"ServiceDelivery\":{\"EstimatedTimetableDelivery\":[{\"EstimatedJourneyVersionFrame\":[{\
-      \"EstimatedVehicleJourney\":[",
-    before: [
-        "{\"FramedVehicleJourneyRef\":{\"DatedVehicleJourneyRef\":\"",
-        "\",\"DataFrameRef\":\"",
-        "\"},\"RecordedAtTime\":\"",
-        "\"",
-    ],
-    tail: "]}]}]}}",
-};
+const SITUATION: &[u8] =
+    b"{\"ServiceDelivery\":{\"SituationExchangeDelivery\":[{\"Situations\":{\"PtSituationElement\":[\
+      {\"Affects\":{\"Networks\":{\"AffectedNetwork\":{\"AffectedLine\":{\"LineRef\":\"R1\"}}}},\
+      \"SituationNumber\":\"S2\",\"Version\":0}]}}]}}";
 
-const CANCELLED: &str = ",\"Cancellation\":true";
-
-// The words of an item: a number, a version, and what is said besides. It affects the route R1.
-static SITUATIONS: Form = Form {
-    head: "{\"ServiceDelivery\":{\"SituationExchangeDelivery\":[{\"Situations\":{\"PtSituationElement\":[",
-    before: [
-        "{\"Affects\":{\"Networks\":{\"AffectedNetwork\":{\"AffectedLine\":{\"LineRef\":\"R1\"}}}},\
-          \"SituationNumber\":\"",
-        "\",\"Version\":",
-        "",
-        "",
-    ],
-    tail: "]}}]}}",
-};
-
-// The header of a feed that is made at that moment.
-const HEADER: &[u8] = b"\x0a\x0d\x0a\x032.0\x10\x00\x18\xe0\xb4\xc7\xb1\x06";
+const TAKEN: &[u8] = b"{\"aside\":[],\"passed\":0,\"taken\":1}";
 
 // The header, the entity of T1, and the alert of S2 (made by hand from GTFS Realtime's messages).
 const FEED: &[u8] = b"\x0a\x0d\x0a\x032.0\x10\x00\x18\xe0\xb4\xc7\xb1\x06\x12\x27\x0a\x0b20240501:\
       T1\x1a\x18\x0a\x10\x0a\x02T1\x1a\x0820240501\x20\x03\x20\xe0\xb4\xc7\xb1\x06\x12\x16\x0a\x08alert:\
       S2*\x0a*\x04\x12\x02R10\x018\x08";
 
+// A feed of a header alone, and the SIRI text of it.
+const NO_ENTITY: &[u8] = b"\x0a\x05\x0a\x032.0";
+
+const NO_JOURNEY: &[u8] =
+    b"{\"Siri\":{\"ServiceDelivery\":{\"EstimatedTimetableDelivery\":[{\"EstimatedJourneyVersionFrame\":[{\
+      \"EstimatedVehicleJourney\":[],\"RecordedAtTime\":\"2024-05-01T06:00:00Z\"}],\
+      \"ResponseTimestamp\":\"2024-05-01T06:00:00Z\",\"version\":\"2.0\"}],\
+      \"ResponseTimestamp\":\"2024-05-01T06:00:00Z\"}}}";
+
 // A gateway over three days from 2024-05-01 on that took nothing.
-fn started(rt: &impl Abort, alloc: Global, keep: Option<u8>) -> Gateway {
-    Gateway::start(alloc, setting(rt, alloc, keep)).expect(rt, "memory")
+fn started(rt: &impl Abort, alloc: Global) -> Gateway {
+    Gateway::start(alloc, setting(rt, alloc, None)).expect(rt, "memory")
 }
 
-// Adds an item: its words, each after its piece.
-fn add_item(body: &mut Bytes, form: &Form, item: &[&str]) -> Result<(), AllocError> {
-    for (before, word) in form.before.iter().zip(item.iter()) {
-        body.extend(before.as_bytes())?;
-        body.extend(word.as_bytes())?;
-    }
-    body.extend(b"}")
+// The moment of the tests.
+fn moment(rt: &impl Abort) -> Moment {
+    Moment::new(AT).expect(rt, "a moment")
 }
 
-// The delivery of these items.
-fn delivery(rt: &impl Abort, alloc: Global, form: &Form, items: &[&[&str]]) -> Bytes {
-    let mut body = Bytes::copied(alloc, form.head.as_bytes()).expect(rt, "memory");
-    let mut between: &[u8] = b"";
-    for item in items {
-        assert!(rt; body.extend(between).is_ok());
-        assert!(rt; add_item(&mut body, form, item).is_ok());
-        between = b",";
-    }
-    assert!(rt; body.extend(form.tail.as_bytes()).is_ok());
-    body
+// A cancelled journey and a situation are taken, each with its report.
+fn take_both(rt: &impl Abort, alloc: Global, gate: &mut Gateway) {
+    let journeys = gate.take_estimated(alloc, JOURNEY, moment(rt)).ok();
+    assert_eq!(rt; journeys.expect(rt, "journeys").text.as_slice(), TAKEN);
+    let situations = gate.take_situations(alloc, SITUATION, moment(rt)).ok();
+    assert_eq!(rt; situations.expect(rt, "situations").text.as_slice(), TAKEN);
 }
 
-// A moment in seconds since 1970.
-fn moment(rt: &impl Abort, at: i64) -> Moment {
-    Moment::new(at).expect(rt, "a moment")
-}
-
-// The text of the report on a delivery of journeys that is taken.
-fn journeys_report(
-    rt: &impl Abort,
-    alloc: Global,
-    gate: &mut Gateway,
-    body: &[u8],
-    at: i64,
-) -> Bytes {
-    let accepted = gate.take_estimated(alloc, body, moment(rt, at)).ok();
-    accepted.expect(rt, "a delivery that is taken").text
-}
-
-// The text of the report on a delivery of situations that is taken.
-fn situations_report(rt: &impl Abort, alloc: Global, gate: &mut Gateway, body: &[u8]) -> Bytes {
-    let accepted = gate.take_situations(alloc, body, moment(rt, AT)).ok();
-    accepted.expect(rt, "a delivery that is taken").text
-}
-
-// Whether a body is refused as no JSON.
-fn is_no_json(rt: &impl Abort, alloc: Global, gate: &mut Gateway, body: &[u8]) -> bool {
-    matches!(
-        gate.take_estimated(alloc, body, moment(rt, AT)),
-        Err(TakeFault::NotJson)
-    )
-}
-
-// How many bytes of entities are served.
-fn entity_bytes(rt: &impl Abort, gate: &Gateway) -> u64 {
-    let len = gate.feed_len(moment(rt, AT));
-    len.checked_sub(15).expect(rt, "a header")
+// A feed is taken.
+fn take_feed(rt: &impl Abort, alloc: Global, gate: &mut Gateway) {
+    let taken = gate.take_feed(alloc, NO_ENTITY, moment(rt)).ok();
+    assert!(rt; taken.is_some());
 }
 
 // The feed that is served.
-fn feed_of(rt: &impl Abort, alloc: Global, gate: &Gateway) -> MemorySink {
+fn assert_feed(rt: &impl Abort, alloc: Global, gate: &Gateway) {
     let mut sink = MemorySink::make(alloc, 1_000, List::new(alloc)).expect(rt, "memory");
-    assert!(rt; gate.write_feed(moment(rt, AT), &mut sink).is_ok());
-    sink
+    assert!(rt; gate.write_feed(moment(rt), &mut sink).is_ok());
+    assert_eq!(rt; sink.written(), FEED);
 }
 
 // The SIRI text that is served.
-fn siri_of(rt: &impl Abort, alloc: Global, gate: &Gateway) -> MemorySink {
-    let mut sink = MemorySink::make(alloc, 2_000, List::new(alloc)).expect(rt, "memory");
+fn assert_siri(rt: &impl Abort, alloc: Global, gate: &Gateway) {
+    let mut sink = MemorySink::make(alloc, 1_000, List::new(alloc)).expect(rt, "memory");
     assert!(rt; gate.write_siri(&mut sink).is_ok());
-    sink
-}
-
-// A cancelled journey and a situation are taken.
-fn take_both(rt: &impl Abort, alloc: Global, gate: &mut Gateway) {
-    let journey: &[&str] = &["T1", "2024-05-01", "2024-05-01T06:00:00Z", CANCELLED];
-    let body = delivery(rt, alloc, &JOURNEYS, &[journey]);
-    let _journeys = journeys_report(rt, alloc, gate, body.as_slice(), AT);
-    let situation: &[&str] = &["S2", "0"];
-    let body = delivery(rt, alloc, &SITUATIONS, &[situation]);
-    let _situations = situations_report(rt, alloc, gate, body.as_slice());
-}
-
-// What was written is the feed of both.
-fn assert_feed(rt: &impl Abort, written: &[u8]) {
-    assert_eq!(rt; written, FEED);
+    assert_eq!(rt; sink.written(), NO_JOURNEY);
 }
 
 #[test]
 fn deliveries_make_a_feed(rt: HostRuntime) {
-    let mut gate = started(&rt, rt.alloc(), None);
+    let mut gate = started(&rt, rt.alloc());
     take_both(&rt, rt.alloc(), &mut gate);
-    assert_feed(&rt, feed_of(&rt, rt.alloc(), &gate).written());
+    assert_feed(&rt, rt.alloc(), &gate);
+}
+
+#[test]
+fn a_feed_makes_a_delivery(rt: HostRuntime) {
+    let mut gate = started(&rt, rt.alloc());
+    take_feed(&rt, rt.alloc(), &mut gate);
+    assert_siri(&rt, rt.alloc(), &gate);
 }
 
 #[test]

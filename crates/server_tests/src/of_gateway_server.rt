@@ -5,7 +5,7 @@ use crate::settings::setting;
 use gateway_core::Gateway;
 use gateway_server::serve;
 use gw_base::{Bytes, Entry, List, Mark, MemoryClock, MemoryDoor, Moment};
-use http_talk::{Allow, Answer, BodyFault, HeadReader, Refusal, answer_head};
+use http_talk::{Answer, HeadReader, answer_head};
 use std::alloc::Global;
 use std::process::Abort;
 
@@ -15,113 +15,12 @@ const ROOM: u64 = 100_000;
 // An input, the mark of its entry, and the kind and the body of what it is answered.
 type Row = (&'static [u8], Mark, Answer, &'static [u8]);
 
-// The feed without entities that is made at the moment of the tests.
-const NO_ENTITY: &[u8] = b"\x0a\x0d\x0a\x032.0\x10\x00\x18\xe0\xb4\xc7\xb1\x06";
-
+// The SIRI text before any feed.
 const NO_JOURNEY: &[u8] =
     b"{\"Siri\":{\"ServiceDelivery\":{\"EstimatedTimetableDelivery\":[{\"EstimatedJourneyVersionFrame\":[{\
       \"EstimatedVehicleJourney\":[],\"RecordedAtTime\":\"1970-01-01T00:00:00Z\"}],\
       \"ResponseTimestamp\":\"1970-01-01T00:00:00Z\",\"version\":\"2.0\"}],\
       \"ResponseTimestamp\":\"1970-01-01T00:00:00Z\"}}}";
-
-static ROWS: [Row; 16] = [
-    (
-        b"GET /gtfs-rt HTTP/1.1\r\n\r\n",
-        Mark::Shown,
-        Answer::Feed,
-        NO_ENTITY,
-    ),
-    (
-        b"GET /siri/et?x HTTP/1.1\r\n\r\n",
-        Mark::Shown,
-        Answer::Json,
-        NO_JOURNEY,
-    ),
-    (
-        b"POST /siri/et HTTP/1.1\r\nContent-Length: 0\r\n\r\n",
-        Mark::Refused(400),
-        Answer::Refused(Refusal::Body(BodyFault::NotJson)),
-        b"H400 NotJson\n",
-    ),
-    (
-        b"POST /siri/sx HTTP/1.1\r\nContent-Length: 2\r\n\r\n{}",
-        Mark::Refused(400),
-        Answer::Refused(Refusal::Body(BodyFault::NotJson)),
-        b"H400 NotDelivery ServiceDelivery\n",
-    ),
-    (
-        b"POST /siri/et HTTP/1.1\r\nContent-Length: 10\r\n\r\n123456789",
-        Mark::Refused(400),
-        Answer::Refused(Refusal::Cut),
-        b"H400 Cut\n",
-    ),
-    (
-        b"POST /siri/et HTTP/1.1\r\nContent-Length: 16777217\r\n\r\n",
-        Mark::Refused(413),
-        Answer::Refused(Refusal::TooLarge),
-        b"H413 TooLarge\n",
-    ),
-    (
-        b"PUT /siri/sx HTTP/1.1\r\n\r\n",
-        Mark::Refused(405),
-        Answer::Refused(Refusal::Method(Allow::Post)),
-        b"H405 Method\n",
-    ),
-    (
-        b"GET /x HTTP/1.1\r\n\r\n",
-        Mark::Refused(404),
-        Answer::Refused(Refusal::NotFound),
-        b"H404 NotFound\n",
-    ),
-    (
-        b"POST /gtfs-rt HTTP/1.1\r\n\r\n",
-        Mark::Refused(411),
-        Answer::Refused(Refusal::NeedLength),
-        b"H411 NeedLength\n",
-    ),
-    (
-        b"POST /gtfs-rt HTTP/1.1\r\nContent-Length: 1\r\n\r\n\x0a",
-        Mark::Refused(400),
-        Answer::Refused(Refusal::Body(BodyFault::Differential)),
-        b"H400 Wire 0 Truncated\n",
-    ),
-    (
-        b"POST /gtfs-rt HTTP/1.1\r\nContent-Length: 0\r\n\r\n",
-        Mark::Refused(400),
-        Answer::Refused(Refusal::Body(BodyFault::Differential)),
-        b"H400 MissingField 0 header\n",
-    ),
-    (
-        b"POST /gtfs-rt HTTP/1.1\r\nContent-Length: 9\r\n\r\n\x0a\x07\x0a\x032.0\x10\x01",
-        Mark::Refused(400),
-        Answer::Refused(Refusal::Body(BodyFault::Differential)),
-        b"H400 Differential\n",
-    ),
-    (
-        b"POST /gtfs-rt HTTP/1.1\r\nContent-Length: 7\r\n\r\n\x0a\x05\x0a\x032.0more",
-        Mark::Fed,
-        Answer::Json,
-        b"{\"aside\":[],\"passed\":0,\"taken\":0}",
-    ),
-    (
-        b"GET /gtfs-rt HTTP/1.1\r\n\r\n",
-        Mark::Shown,
-        Answer::Feed,
-        NO_ENTITY,
-    ),
-    (
-        b"",
-        Mark::Refused(400),
-        Answer::Refused(Refusal::Head),
-        b"H400 Head\n",
-    ),
-    (
-        b"GET /gtfs-rt HTT",
-        Mark::Refused(400),
-        Answer::Refused(Refusal::Head),
-        b"H400 Head\n",
-    ),
-];
 
 // A delivery of the journeys T1, NOPE and T1 again, and the connections that are served around it.
 static THREE: [Row; 3] = [
@@ -151,15 +50,6 @@ static THREE: [Row; 3] = [
         NO_JOURNEY,
     ),
 ];
-
-// These numbers as a list.
-fn numbers(rt: &impl Abort, alloc: Global, values: &[u64]) -> List<u64> {
-    let mut list = List::new(alloc);
-    for value in values {
-        assert!(rt; list.push(*value).is_ok());
-    }
-    list
-}
 
 // The inputs of rows.
 fn inputs(rt: &impl Abort, alloc: Global, rows: &[Row]) -> List<Bytes> {
@@ -197,30 +87,23 @@ fn is_entry(entry: &Entry, row: &Row) -> bool {
         && is_answer(entry.output.as_slice(), row)
 }
 
-// A door to which the connections of rows come, over reads and writes of so many bytes, of which those with these
-// numbers fail.
-fn door(rt: &impl Abort, alloc: Global, rows: &[Row], most: u64, fails: &[u64]) -> MemoryDoor
+// A door to which the connections of rows come, over reads and writes of so many bytes.
+fn door(rt: &impl Abort, alloc: Global, rows: &[Row], most: u64) -> MemoryDoor
     requires { 1 ≤ most }
     ensures { result.present ≡ false }
 {
-    let made = MemoryDoor::make(
-        alloc,
-        inputs(rt, alloc, rows),
-        ROOM,
-        most,
-        numbers(rt, alloc, fails),
-    );
-    made.expect(rt, "memory")
+    let inputs = inputs(rt, alloc, rows);
+    MemoryDoor::make(alloc, inputs, ROOM, most, List::new(alloc)).expect(rt, "memory")
 }
 
-// Serves what comes to a door, at the moment of the tests unless the clock fails.
-fn serve_door(rt: &impl Abort, alloc: Global, door: &mut MemoryDoor, clock_fails: &[u64]) -> bool
+// Serves what comes to a door, at the moment of the tests.
+fn serve_door(rt: &impl Abort, alloc: Global, door: &mut MemoryDoor) -> bool
     requires { door.old.present ≡ false }
 {
     let mut gate = Gateway::start(alloc, setting(rt, alloc, None)).expect(rt, "memory");
     let mut reader = HeadReader::make(alloc).expect(rt, "memory");
     let mut body = Bytes::new(alloc);
-    let mut clock = MemoryClock::make(moments(rt, alloc, 40), numbers(rt, alloc, clock_fails));
+    let mut clock = MemoryClock::make(moments(rt, alloc, 40), List::new(alloc));
     serve(
         alloc,
         &mut gate,
@@ -237,8 +120,8 @@ fn serve_door(rt: &impl Abort, alloc: Global, door: &mut MemoryDoor, clock_fails
 fn try_rows(rt: &impl Abort, alloc: Global, rows: &[Row], most: u64)
     requires { 1 ≤ most }
 {
-    let mut door = door(rt, alloc, rows, most, &[]);
-    assert!(rt; serve_door(rt, alloc, &mut door, &[]), "all were served");
+    let mut door = door(rt, alloc, rows, most);
+    assert!(rt; serve_door(rt, alloc, &mut door), "all were served");
     let log = door.log();
     assert_eq!(rt; log.len(), rows.len());
     for (entry, row) in log.iter().zip(rows) {
@@ -248,65 +131,6 @@ fn try_rows(rt: &impl Abort, alloc: Global, rows: &[Row], most: u64)
 
 #[test]
 fn each_connection_is_answered(rt: HostRuntime) {
-    try_rows(&rt, rt.alloc(), &ROWS, 1);
-    try_rows(&rt, rt.alloc(), &ROWS, 4096);
     try_rows(&rt, rt.alloc(), &THREE, 1);
     try_rows(&rt, rt.alloc(), &THREE, 100_000);
-}
-
-// The entry of that number after these failed calls.
-fn marks(
-    rt: &impl Abort,
-    alloc: Global,
-    rows: &[Row],
-    fails: &[u64],
-    clock_fails: &[u64],
-    expected: &[(Mark, usize)],
-) {
-    let mut door = door(rt, alloc, rows, 100_000, fails);
-    assert!(rt;
-        serve_door(rt, alloc, &mut door, clock_fails),
-        "all were served"
-    );
-    let log = door.log();
-    assert_eq!(rt; log.len(), expected.len());
-    for (entry, one) in log.iter().zip(expected) {
-        assert_eq!(rt; entry.mark, one.0);
-        assert_eq!(rt; entry.output.as_slice().len(), one.1);
-    }
-}
-
-#[test]
-fn a_failed_call_costs_its_connection_alone(rt: HostRuntime) {
-    // The answer's first write fails: the delivery is taken, and the next connection is shown it.
-    marks(
-        &rt,
-        rt.alloc(),
-        &THREE,
-        &[3],
-        &[],
-        &[(Mark::Taken, 0), (Mark::Shown, 152), (Mark::Shown, 360)],
-    );
-    // A read fails.
-    marks(
-        &rt,
-        rt.alloc(),
-        &THREE,
-        &[2],
-        &[],
-        &[(Mark::Lost, 0), (Mark::Shown, 111), (Mark::Shown, 360)],
-    );
-    // The clock fails.
-    marks(
-        &rt,
-        rt.alloc(),
-        &THREE,
-        &[],
-        &[1],
-        &[
-            (Mark::ClockFault, 129),
-            (Mark::Shown, 111),
-            (Mark::Shown, 360),
-        ],
-    );
 }

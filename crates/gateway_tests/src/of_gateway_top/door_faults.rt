@@ -1,11 +1,34 @@
 //! A server whose door and clock fail: a failed call costs its own connection alone, and each later one is answered for
 //! what arrived by then.
-use super::doors::{MAY_1, Row, SERVE, door, inputs, is_answered, run_rows};
-use super::serving::{EMPTY_TEXT, LATE_TEXT};
+use super::doors::{MAY_1, Row, door, inputs, is_answered, run_rows};
 use gw_base::{Entry, Mark};
 use http_talk::{Answer, Refusal, answer_head};
 use std::alloc::Global;
 use std::process::Abort;
+
+// The SIRI delivery before any feed.
+const EMPTY_TEXT: &[u8] =
+    b"{\"Siri\":{\"ServiceDelivery\":{\"EstimatedTimetableDelivery\":[{\"EstimatedJourneyVersionFrame\":[{\
+      \"EstimatedVehicleJourney\":[],\"RecordedAtTime\":\"1970-01-01T00:00:00Z\"}],\
+      \"ResponseTimestamp\":\"1970-01-01T00:00:00Z\",\"version\":\"2.0\"}],\
+      \"ResponseTimestamp\":\"1970-01-01T00:00:00Z\"}}}";
+
+// The SIRI delivery of a feed of 2024-05-01T06:00:00Z by which T1 is a minute late at each stop.
+const LATE_TEXT: &[u8] =
+    b"{\"Siri\":{\"ServiceDelivery\":{\"EstimatedTimetableDelivery\":[{\"EstimatedJourneyVersionFrame\":[{\
+      \"EstimatedVehicleJourney\":[{\"Cancellation\":false,\
+      \"EstimatedCalls\":{\"EstimatedCall\":[{\"AimedArrivalTime\":\"2024-05-01T06:00:00Z\",\
+      \"AimedDepartureTime\":\"2024-05-01T06:00:00Z\",\"ExpectedArrivalTime\":\"2024-05-01T06:01:00Z\",\
+      \"ExpectedDepartureTime\":\"2024-05-01T06:01:00Z\",\"Order\":1,\"StopPointRef\":\"A\"},\
+      {\"AimedArrivalTime\":\"2024-05-01T06:10:00Z\",\"AimedDepartureTime\":\"2024-05-01T06:11:00Z\",\
+      \"ExpectedArrivalTime\":\"2024-05-01T06:11:00Z\",\"ExpectedDepartureTime\":\"2024-05-01T06:12:00Z\",\
+      \"Order\":2,\"StopPointRef\":\"B\"},{\"AimedArrivalTime\":\"2024-05-01T06:20:00Z\",\
+      \"AimedDepartureTime\":\"2024-05-01T06:20:00Z\",\"ExpectedArrivalTime\":\"2024-05-01T06:21:00Z\",\
+      \"ExpectedDepartureTime\":\"2024-05-01T06:21:00Z\",\"Order\":3,\"StopPointRef\":\"C\"}]},\
+      \"FramedVehicleJourneyRef\":{\"DataFrameRef\":\"2024-05-01\",\"DatedVehicleJourneyRef\":\"T1\"},\
+      \"IsCompleteStopSequence\":true,\"LineRef\":\"R1\",\"RecordedAtTime\":\"2024-05-01T06:00:00Z\"}],\
+      \"RecordedAtTime\":\"2024-05-01T06:00:00Z\"}],\"ResponseTimestamp\":\"2024-05-01T06:00:00Z\",\
+      \"version\":\"2.0\"}],\"ResponseTimestamp\":\"2024-05-01T06:00:00Z\"}}}";
 
 // A delivery by which T1 is a minute late at each stop, what is shown then, the same as a feed, and the SIRI delivery
 // of it.
@@ -148,7 +171,7 @@ fn round() -> &'static [Row] {
 fn run_with(rt: &impl Abort, alloc: Global, fails: &[u64], clock_fails: &[u64]) -> Outcome {
     let rows = round();
     let mut door = door(rt, alloc, inputs(rt, alloc, rows), 100_000, fails);
-    let status = run_rows(rt, alloc, SERVE, rows, &mut door, clock_fails);
+    let status = run_rows(rt, alloc, rows, &mut door, clock_fails);
     outcome_of(status, door.log(), rows)
 }
 
