@@ -14,10 +14,12 @@
 #   --through COMMAND    a command of bash that turns what came, on its standard input, into what is posted
 #
 # Each round is a line on standard output: the time, what came, what became of it. A body that the operator says is
-# unchanged (304) is posted again all the same, since the gateway may have been started anew.
+# unchanged (304) is posted again all the same, since the gateway may have been started anew. The options may stand
+# behind the URLs too.
 #
 # Statuses: 0 taken; 2 bad words; 65 the body was refused, so a person has to look; 69 the operator gave no body;
-# 75 the gateway gave no answer, or one of want (5xx). By a signal it ends with 143.
+# 75 the gateway gave no answer, or one of want (5xx); 76 nothing of the body was taken, and items were set aside, so a
+# person has to look: deploy/explain says what is wrong with them. By a signal it ends with 143.
 set -euo pipefail
 
 MOST_BODY=16777216
@@ -28,8 +30,13 @@ refuse() {
   exit 2
 }
 
-while [[ ${1-} == --* ]]; do
+urls=()
+while [ $# -gt 0 ]; do
   case $1 in
+    --help | -h)
+      sed -n '2,/^set/{/^set/d;s/^#\( \|$\)//;p}' "$0"
+      exit
+      ;;
     --every | --most | --within | --rounds)
       [[ ${2-} =~ ^[1-9][0-9]{0,7}$ ]] || refuse "$1 takes a number from 1"
       declare "${1#--}=$2"
@@ -43,12 +50,17 @@ while [[ ${1-} == --* ]]; do
       [ -n "${2-}" ] || refuse "$1 takes a command"
       through=$2
       ;;
-    *) refuse "$1 is no option" ;;
+    -*) refuse "$1 is no option; --help has them" ;;
+    *)
+      urls+=("$1")
+      shift
+      continue
+      ;;
   esac
   shift 2
 done
-[ $# -eq 2 ] || refuse 'two URLs are needed: FROM TO'
-from=$1 to=$2
+[ "${#urls[@]}" -eq 2 ] || refuse 'two URLs are needed: FROM TO; --help says more'
+from=${urls[0]} to=${urls[1]}
 most=$((most < every ? every : most))
 command -v curl > /dev/null || refuse "curl isn't on the path"
 
@@ -154,18 +166,21 @@ get() {
   esac
 }
 
-# The report in the words of the program's reports on files, with how often each fault is there.
+# Adds the report to `said`, in the words of the program's reports on files, with how often each fault is there: whole, but
+# for the numbers of calls. Where items were set aside and none was taken it answers with the status of that.
 report() {
-  local answer faults
+  local answer faults taken
   answer=$(cat "$folder/answer")
   if ! [[ $answer =~ \"passed\":([0-9]+),\"taken\":([0-9]+)\}$ ]]; then
-    printf 'taken'
+    said+=', taken'
     return
   fi
-  printf 'taken %s passed %s' "${BASH_REMATCH[2]}" "${BASH_REMATCH[1]}"
-  faults=$({ grep -o '"fault":"[A-Za-z]*' "$folder/answer" || true; } | cut -d '"' -f 4 | sort | uniq -c |
-    awk '{ count += $1; each = each ", " $1 " " $2 } END { print count + 0 (count ? " (" substr(each, 3) ")" : "") }')
-  printf ' aside %s' "$faults"
+  taken=${BASH_REMATCH[2]}
+  said+=", taken $taken passed ${BASH_REMATCH[1]}"
+  faults=$({ grep -o '"fault":"[^"]*' "$folder/answer" || true; } | cut -d '"' -f 4 | sed -E 's/ -?[0-9]+//g' | sort | uniq -c |
+    awk '{ n = $1; sub(/^ *[0-9]+ /, ""); count += n; each = each ", " n " " $0 } END { print count + 0 (count ? " (" substr(each, 3) ")" : "") }')
+  said+=" aside $faults"
+  if [ "$taken" -eq 0 ] && [ "$faults" != 0 ]; then return 76; fi
 }
 
 # Posts the body, three times where there is no answer. Adds to `said`, and answers with the status of the round.
@@ -179,7 +194,7 @@ post() {
   fi
   code=$(cat "$folder/code")
   case $code in
-    200) said+=", $(report)" ;;
+    200) report ;;
     5??)
       said+=", no answer: $code $({ grep -a -m 1 '^H5' "$folder/answer" || true; })"
       return 75
