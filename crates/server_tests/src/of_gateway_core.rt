@@ -2,7 +2,7 @@
 //! of several ones.
 use crate::settings::setting;
 use gateway_core::{Gateway, feed_report};
-use gw_base::{List, MemorySink, Moment};
+use gw_base::{Bytes, List, MemorySink, Moment};
 use journey_model::Report;
 use std::alloc::Global;
 use std::process::Abort;
@@ -47,12 +47,29 @@ fn moment(rt: &impl Abort) -> Moment {
     Moment::new(AT).expect(rt, "a moment")
 }
 
+// The text of the report on a delivery of journeys that is taken.
+fn journeys_report(rt: &impl Abort, alloc: Global, gate: &mut Gateway) -> Bytes {
+    let accepted = gate.take_estimated(alloc, JOURNEY, moment(rt)).ok();
+    accepted.expect(rt, "a delivery that is taken").text
+}
+
+// The text of the report on a delivery of situations that is taken.
+fn situations_report(rt: &impl Abort, alloc: Global, gate: &mut Gateway) -> Bytes {
+    let accepted = gate.take_situations(alloc, SITUATION, moment(rt)).ok();
+    accepted.expect(rt, "a delivery that is taken").text
+}
+
+// A report says that one item was taken.
+fn assert_taken(rt: &impl Abort, report: &[u8]) {
+    assert_eq!(rt; report, TAKEN);
+}
+
 // A cancelled journey and a situation are taken, each with its report.
 fn take_both(rt: &impl Abort, alloc: Global, gate: &mut Gateway) {
-    let journeys = gate.take_estimated(alloc, JOURNEY, moment(rt)).ok();
-    assert_eq!(rt; journeys.expect(rt, "journeys").text.as_slice(), TAKEN);
-    let situations = gate.take_situations(alloc, SITUATION, moment(rt)).ok();
-    assert_eq!(rt; situations.expect(rt, "situations").text.as_slice(), TAKEN);
+    let journeys = journeys_report(rt, alloc, gate);
+    assert_taken(rt, journeys.as_slice());
+    let situations = situations_report(rt, alloc, gate);
+    assert_taken(rt, situations.as_slice());
 }
 
 // A feed is taken.
@@ -62,31 +79,41 @@ fn take_feed(rt: &impl Abort, alloc: Global, gate: &mut Gateway) {
 }
 
 // The feed that is served.
-fn assert_feed(rt: &impl Abort, alloc: Global, gate: &Gateway) {
+fn feed_of(rt: &impl Abort, alloc: Global, gate: &Gateway) -> MemorySink {
     let mut sink = MemorySink::make(alloc, 1_000, List::new(alloc)).expect(rt, "memory");
     assert!(rt; gate.write_feed(moment(rt), &mut sink).is_ok());
-    assert_eq!(rt; sink.written(), FEED);
+    sink
 }
 
 // The SIRI text that is served.
-fn assert_siri(rt: &impl Abort, alloc: Global, gate: &Gateway) {
+fn siri_of(rt: &impl Abort, alloc: Global, gate: &Gateway) -> MemorySink {
     let mut sink = MemorySink::make(alloc, 1_000, List::new(alloc)).expect(rt, "memory");
     assert!(rt; gate.write_siri(&mut sink).is_ok());
-    assert_eq!(rt; sink.written(), NO_JOURNEY);
+    sink
+}
+
+// What was written is the feed of both.
+fn assert_feed(rt: &impl Abort, written: &[u8]) {
+    assert_eq!(rt; written, FEED);
+}
+
+// What was written is the SIRI text of no journey.
+fn assert_siri(rt: &impl Abort, written: &[u8]) {
+    assert_eq!(rt; written, NO_JOURNEY);
 }
 
 #[test]
 fn deliveries_make_a_feed(rt: HostRuntime) {
     let mut gate = started(&rt, rt.alloc());
     take_both(&rt, rt.alloc(), &mut gate);
-    assert_feed(&rt, rt.alloc(), &gate);
+    assert_feed(&rt, feed_of(&rt, rt.alloc(), &gate).written());
 }
 
 #[test]
 fn a_feed_makes_a_delivery(rt: HostRuntime) {
     let mut gate = started(&rt, rt.alloc());
     take_feed(&rt, rt.alloc(), &mut gate);
-    assert_siri(&rt, rt.alloc(), &gate);
+    assert_siri(&rt, siri_of(&rt, rt.alloc(), &gate).written());
 }
 
 #[test]
