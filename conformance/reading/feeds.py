@@ -53,7 +53,9 @@ MESSAGES = {
         3: Known("departure", "StopTimeEvent"),
         4: Known("stop_id", "text"),
         5: Known("schedule_relationship", "enum", default=0),
+        6: Known("stop_time_properties", "StopTimeProperties"),
     },
+    "StopTimeProperties": {1: Known("assigned_stop_id", "text")},
     "StopTimeEvent": {1: Known("delay", "int32"), 2: Known("time", "int64")},
     "Alert": {
         1: Known("active_period", "TimeRange", repeated=True),

@@ -152,7 +152,16 @@ class Feeds:
             fields.append(self.text(4, stop))
         if relation != "0" or dice.one_in(4):
             fields.append(self.enum(5, int(relation)))
+        if self.odd(0.2):
+            fields.append(self.properties(stop))
         return b"".join(self.message(fields))
+
+    def properties(self, stop):
+        """The properties of a stop: mostly the id of the stop that is assigned."""
+        dice = self.dice
+        assigned = dice.choice((stop, *self.world.stops, "NOWHERE", ""))
+        fields = [self.again(self.text(1, assigned), self.text(1, "other"))] if not dice.one_in(8) else []
+        return self.embedded(6, fields)
 
     def descriptor(self, trip, day, relation):
         dice = self.dice

@@ -17,9 +17,9 @@ use Rattle.gw_base.specs.declared.messages.TripDescriptor.{TripDescriptor}
 use Rattle.gw_base.specs.declared.messages.TripUpdate.{TripUpdate}
 use Rattle.wire_fields.specs.Grammar.{Payload, Varint, Bytes, WireField}
 use Rattle.feed_reading.specs.Meaning.{number_in, body_in, numbers, bodies, IsUint64, IsUint32, IsInt64, IsInt32, IsEnum, IsBool, IsText, Means, IsJoined, AreBodies, IsMessage, AreMessages}
-use Rattle.feed_reading.specs.Tables.{OfTripDescriptor, OfStopTimeEvent, OfStopTimeUpdate, OfTripUpdate, OfTimeRange, OfEntitySelector, OfTranslation, OfTranslatedString, AreTranslations, OfAlert, OfFeedEntity, MeansFeed, MeansEntity, full_dataset}
+use Rattle.feed_reading.specs.Tables.{OfTripDescriptor, OfStopTimeEvent, OfStopTimeProperties, IsAssigned, OfStopTimeUpdate, OfTripUpdate, OfTimeRange, OfEntitySelector, OfTranslation, OfTranslatedString, AreTranslations, OfAlert, OfFeedEntity, MeansFeed, MeansEntity, full_dataset}
 use Rattle.feed_writing.specs.Writable.{IsWritable}
-use Rattle.feed_writing.specs.Written.{trip_descriptor, stop_time_event, stop_time_update, trip_update, time_range, entity_selector, translation, translated_string, alert, feed_entity, written, header}
+use Rattle.feed_writing.specs.Written.{trip_descriptor, stop_time_event, stop_time_properties, stop_time_update, trip_update, time_range, entity_selector, translation, translated_string, alert, feed_entity, written, header}
 use Rattle.feed_writing.specs.Sound.{IsSoundTrip, IsSoundEvent, IsSoundStop, IsSoundUpdate, IsSoundPeriod, IsSoundSelector, IsSoundTranslation, IsSoundAlert, IsSoundEntity}
 use Rattle.feed_reading.proofs.Building.{one_body, means_more}
 use Rattle.feed_messages.proofs.Headers.{means_header}
@@ -232,11 +232,65 @@ means_event event sound short =
       };
     }
 
+properties_parts : List ℕ → List (ℕ × List Payload)
+properties_parts assigned = (1, body_part (Some assigned)) ∷ []
+
+means_properties : (assigned : List ℕ) → IsUtf8 assigned → length (stop_time_properties assigned) < 2 ^ 64
+    → Means OfStopTimeProperties (stop_time_properties assigned) (Some assigned)
+unfolding properties_parts
+means_properties assigned utf8 short = record {
+  fields = fields_of (properties_parts assigned);
+  read = (builds_optional_text 1 (Some assigned) (omega arith) (omega arith)).read short;
+  table = text_is (properties_parts assigned) 1 (Some assigned) refl utf8;
+}
+
+-- what is found of the properties that are written of an assigned stop, and of none
+properties_found : Option (List ℕ) → Option (Option (List ℕ))
+properties_found None = None
+properties_found (Some assigned) = Some (Some assigned)
+
+found_says : (assigned : Option (List ℕ)) → assigned ≡ unwrap_or (properties_found assigned) None
+unfolding properties_found
+found_says None = refl
+found_says (Some assigned) = refl
+
+properties_from : (assigned : Option (List ℕ)) → IfSome assigned IsUtf8
+    → AllByRecursion (λ body. length body < 2 ^ 64)
+    (filter_map body_in (body_part (option_map stop_time_properties assigned) ++ []))
+    → AreBodies (filter_map body_in (body_part (option_map stop_time_properties assigned) ++ []))
+    × IsJoined OfStopTimeProperties (filter_map body_in (body_part (option_map stop_time_properties assigned) ++ []))
+    (properties_found assigned)
+unfolding properties_found
+properties_from None sound short = (tt, tt)
+properties_from (Some assigned) sound short =
+    let meant = means_properties assigned sound short.0 in (
+      ((meant.fields, meant.read), tt),
+      one_body OfStopTimeProperties (stop_time_properties assigned) (Some assigned) meant,
+    )
+
+assigned_is : (parts : List (ℕ × List Payload)) (number : ℕ) (assigned : Option (List ℕ))
+    → held_by number parts ≡ body_part (option_map stop_time_properties assigned) ++ [] → IfSome assigned IsUtf8
+    → AllByRecursion (λ body. length body < 2 ^ 64) (bodies number (fields_of parts))
+    → IsAssigned number (fields_of parts) assigned
+assigned_is parts number assigned e sound short =
+    let same : bodies number (fields_of parts)
+    ≡ filter_map body_in (body_part (option_map stop_time_properties assigned) ++ []) =
+    held_parts body_in number parts ∙ ap (filter_map body_in) e in
+    record {
+      found = properties_found assigned;
+      message = subst (λ (bodies : List (List ℕ)). AreBodies bodies
+          × IsJoined OfStopTimeProperties bodies (properties_found assigned)) (sym same)
+          (properties_from assigned sound
+          (subst (λ (bodies : List (List ℕ)). AllByRecursion (λ body. length body < 2 ^ 64) bodies) same short));
+      same = found_says assigned;
+    }
+
 stop_parts : StopUpdate → List (ℕ × List Payload)
 stop_parts update =
     (1, number_part update.sequence) ∷ (2, body_part (option_map stop_time_event update.arrival))
     ∷ (3, body_part (option_map stop_time_event update.departure))
-    ∷ (4, body_part update.stop_id) ∷ (5, relation_part update.relation) ∷ []
+    ∷ (4, body_part update.stop_id) ∷ (5, relation_part update.relation)
+    ∷ (6, body_part (option_map stop_time_properties update.assigned)) ∷ []
 
 means_stop : Meant OfStopTimeUpdate stop_time_update IsSoundStop
 unfolding stop_parts
@@ -248,8 +302,9 @@ means_stop update sound short =
     (builds_optional_body 2 stop_time_event update.arrival (omega arith) (omega arith)))
     (builds_optional_body 3 stop_time_event update.departure (omega arith) (omega arith)) in
     let built : Builds (stop_time_update update) (stop_parts update) =
-    then_built (then_built events (builds_optional_text 4 update.stop_id (omega arith) (omega arith)))
-    (builds_relation update.relation (wider update.relation sound.relation)) in
+    then_built (then_built (then_built events (builds_optional_text 4 update.stop_id (omega arith) (omega arith)))
+    (builds_relation update.relation (wider update.relation sound.relation)))
+    (builds_optional_body 6 stop_time_properties update.assigned (omega arith) (omega arith)) in
     let read = built.read short in
     record {
       fields = fields_of (stop_parts update);
@@ -264,6 +319,8 @@ means_stop update sound short =
             (countable_bodies 3 (fields_of (stop_parts update)) (stop_time_update update) read short);
         stop_id = text_is (stop_parts update) 4 update.stop_id refl sound.stop_id;
         schedule_relationship = relation_is (stop_parts update) update.relation refl sound.relation;
+        stop_time_properties = assigned_is (stop_parts update) 6 update.assigned refl sound.assigned
+            (countable_bodies 6 (fields_of (stop_parts update)) (stop_time_update update) read short);
       };
     }
 

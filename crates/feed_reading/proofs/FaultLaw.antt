@@ -10,8 +10,8 @@ use Rattle.wire_fields.proofs.Existence.{decided}
 use Rattle.feed_reading.specs.declared.fault.FeedFault.{FeedFault}
 use Rattle.feed_reading.specs.declared.fault.FeedFault.TheVariants.{EntityTooLong, Wire, NotText, MissingField, Memory}
 use Rattle.feed_reading.specs.Meaning.{numbers, bodies}
-use Rattle.feed_reading.specs.Tables.{OfTripDescriptor, OfStopTimeEvent, OfStopTimeUpdate, OfTripUpdate, OfTimeRange, OfEntitySelector, OfTranslation, OfTranslatedString, OfAlert, OfFeedEntity, header_of, OfFeedHeader, OfFeedMessage, MeansFeed}
-use Rattle.feed_reading.specs.Known.{trip_known, event_known, stop_known, update_known, period_known, selector_known, translation_known, string_known, alert_known, entity_known, header_known, feed_known}
+use Rattle.feed_reading.specs.Tables.{OfTripDescriptor, OfStopTimeEvent, OfStopTimeProperties, OfStopTimeUpdate, OfTripUpdate, OfTimeRange, OfEntitySelector, OfTranslation, OfTranslatedString, OfAlert, OfFeedEntity, header_of, OfFeedHeader, OfFeedMessage, MeansFeed}
+use Rattle.feed_reading.specs.Known.{trip_known, event_known, properties_known, stop_known, update_known, period_known, selector_known, translation_known, string_known, alert_known, entity_known, header_known, feed_known}
 use Rattle.feed_reading.specs.Faults.{whole, IsLongAt, IsTooLong, HasFault}
 use Rattle.feed_reading.proofs.PieceSets.{same_turned, one_listed, faults_same}
 use Rattle.feed_reading.proofs.WholeMessages.{one_whole, whole_not_torn, not_missing, held_not_missing, texts_read, texts_clean, last_there, text_there, Reads, Clean, message_read, required_read, messages_read, message_clean, message_not_missing, messages_clean}
@@ -58,19 +58,27 @@ read_trip end piece pieces fields w none = (
   },
 )
 
+read_properties : Reads properties_known OfStopTimeProperties
+read_properties end piece pieces fields w none =
+    (text_of 1 fields, (texts_read 1 (piece ∷ pieces) fields w (λ f x. none f (inl (inl x))), refl))
+
 read_stop : Reads stop_known OfStopTimeUpdate
 read_stop end piece pieces fields w none =
     let arrival = message_read event_known OfStopTimeEvent read_event end 2 (piece ∷ pieces) fields w
     (λ f x. none f (inl (inl x))) in
     let departure =
     message_read event_known OfStopTimeEvent read_event end 3 (piece ∷ pieces) fields w
-    (λ f x. none f (inr (inl (inl x)))) in (
+    (λ f x. none f (inr (inl (inl x)))) in
+    let properties =
+    message_read properties_known OfStopTimeProperties read_properties end 6 (piece ∷ pieces) fields w
+    (λ f x. none f (inr (inr (inr (inl (inl x)))))) in (
       record {
         sequence = option_map (λ n. n % 2 ^ 32) (number_of 1 fields);
         arrival = arrival.0;
         departure = departure.0;
         stop_id = text_of 4 fields;
         relation = enum_of 5 (pos 0) fields;
+        assigned = unwrap_or properties.0 None;
       },
       record {
         stop_sequence = refl;
@@ -78,6 +86,7 @@ read_stop end piece pieces fields w none =
         departure = departure.1;
         stop_id = (texts_read 4 (piece ∷ pieces) fields w (λ f x. none f (inr (inr (inl (inl x))))), refl);
         schedule_relationship = refl;
+        stop_time_properties = record { found = properties.0; message = properties.1; same = refl };
       },
     )
 
@@ -224,6 +233,11 @@ clean_trip end pieces fields m w t f (inr (inr (inl (inl x)))) = texts_clean 5 p
 clean_trip end pieces fields m w t f (inr (inr (inl (inr x)))) = x
 clean_trip end pieces fields m w t f (inr (inr (inr x))) = x
 
+clean_properties : Clean properties_known OfStopTimeProperties
+clean_properties end pieces fields m w t f (inl (inl x)) = texts_clean 1 pieces fields w t.0 f x
+clean_properties end pieces fields m w t f (inl (inr x)) = x
+clean_properties end pieces fields m w t f (inr x) = x
+
 clean_stop : Clean stop_known OfStopTimeUpdate
 clean_stop end pieces fields m w t f (inl (inl x)) =
     message_clean event_known OfStopTimeEvent clean_event end 2 pieces fields m.arrival w t.arrival f x
@@ -233,7 +247,11 @@ clean_stop end pieces fields m w t f (inr (inl (inl x))) =
 clean_stop end pieces fields m w t f (inr (inl (inr x))) = x
 clean_stop end pieces fields m w t f (inr (inr (inl (inl x)))) = texts_clean 4 pieces fields w t.stop_id.0 f x
 clean_stop end pieces fields m w t f (inr (inr (inl (inr x)))) = x
-clean_stop end pieces fields m w t f (inr (inr (inr x))) = x
+clean_stop end pieces fields m w t f (inr (inr (inr (inl (inl x))))) =
+    message_clean properties_known OfStopTimeProperties clean_properties end 6 pieces fields
+    t.stop_time_properties.found w t.stop_time_properties.message f x
+clean_stop end pieces fields m w t f (inr (inr (inr (inl (inr x))))) = x
+clean_stop end pieces fields m w t f (inr (inr (inr (inr x)))) = x
 
 clean_update : Clean update_known OfTripUpdate
 clean_update end pieces fields m w t f (inl (inl x)) =

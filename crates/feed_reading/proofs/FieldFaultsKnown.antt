@@ -30,7 +30,7 @@ steady_trip : Steady trip_known
 steady_trip = (tt, (tt, (tt, tt)))
 
 steady_stop : Steady stop_known
-steady_stop = (tt, tt, (tt, tt, (tt, tt)))
+steady_stop = (tt, tt, (tt, tt, (tt, (tt, (tt, tt), tt))))
 
 steady_update : Steady update_known
 steady_update = (λ x. x, steady_trip, (steady_stop, tt))

@@ -7,7 +7,7 @@ use Rattle.gw_base.specs.declared.messages.Translation.{Translation}
 use Rattle.wire_fields.specs.Grammar.{WireField}
 use Rattle.wire_fields.proofs.Broken.{fields_once}
 use Rattle.feed_reading.specs.Meaning.{Means, IsJoined}
-use Rattle.feed_reading.specs.Tables.{OfTripDescriptor, OfStopTimeEvent, OfStopTimeUpdate, OfTripUpdate, OfTimeRange, OfEntitySelector, OfTranslation, OfTranslatedString, AreTranslations, OfAlert, OfFeedEntity, header_of, OfFeedHeader, OfFeedMessage, MeansFeed}
+use Rattle.feed_reading.specs.Tables.{OfTripDescriptor, OfStopTimeEvent, OfStopTimeProperties, IsAssigned, OfStopTimeUpdate, OfTripUpdate, OfTimeRange, OfEntitySelector, OfTranslation, OfTranslatedString, AreTranslations, OfAlert, OfFeedEntity, header_of, OfFeedHeader, OfFeedMessage, MeansFeed}
 
 -- of fields the table holds for at most one message
 abbrev Determines : {M : Type 0} → (List WireField → M → Type 0) → Type 0
@@ -53,6 +53,14 @@ one_trip_descriptor fields a b h k = λ i. record {
 one_event : Determines OfStopTimeEvent
 one_event fields a b h k = λ i. record { delay = (h.delay ∙ sym k.delay) i; time = (h.time ∙ sym k.time) i }
 
+one_properties : Determines OfStopTimeProperties
+one_properties fields a b h k = h.1 ∙ sym k.1
+
+one_assigned : (number : ℕ) → Determines (IsAssigned number)
+one_assigned number fields a b h k =
+    h.same ∙ ap (λ (o : Option (Option (List ℕ))). unwrap_or o None)
+    (one_joined OfStopTimeProperties one_properties _ h.found k.found h.message.1 k.message.1) ∙ sym k.same
+
 one_stop_update : Determines OfStopTimeUpdate
 one_stop_update fields a b h k = λ i. record {
   sequence = (h.stop_sequence ∙ sym k.stop_sequence) i;
@@ -60,6 +68,7 @@ one_stop_update fields a b h k = λ i. record {
   departure = one_joined OfStopTimeEvent one_event _ a.departure b.departure h.departure.1 k.departure.1 i;
   stop_id = (h.stop_id.1 ∙ sym k.stop_id.1) i;
   relation = (h.schedule_relationship ∙ sym k.schedule_relationship) i;
+  assigned = one_assigned 6 fields a.assigned b.assigned h.stop_time_properties k.stop_time_properties i;
 }
 
 one_trip_update : Determines OfTripUpdate

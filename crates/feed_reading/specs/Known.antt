@@ -22,8 +22,14 @@ event_known = Nothing
 abbrev pub period_known : Known
 period_known = Nothing
 
+-- a StopTimeProperties has a text
+abbrev pub properties_known : Known
+properties_known = WithText 1 None Nothing
+
 abbrev pub stop_known : Known
-stop_known = WithMessage 2 None event_known (WithMessage 3 None event_known (WithText 4 None Nothing))
+stop_known =
+    WithMessage 2 None event_known
+    (WithMessage 3 None event_known (WithText 4 None (WithMessage 6 None properties_known Nothing)))
 
 abbrev pub update_known : Known
 update_known = WithMessage 1 (Some Trip) trip_known (WithMessages 2 stop_known Nothing)

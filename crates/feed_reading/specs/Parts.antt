@@ -10,6 +10,7 @@ use Rattle.feed_reading.specs.declared.quick.feeds.FeedParts.{FeedParts}
 use Rattle.feed_reading.specs.declared.quick.feeds.HeaderParts.{HeaderParts}
 use Rattle.feed_reading.specs.declared.quick.alerts.PeriodParts.{PeriodParts}
 use Rattle.feed_reading.specs.declared.quick.alerts.SelectorParts.{SelectorParts}
+use Rattle.feed_reading.specs.declared.quick.trips.PropertiesParts.{PropertiesParts}
 use Rattle.feed_reading.specs.declared.quick.trips.StopParts.{StopParts}
 use Rattle.feed_reading.specs.declared.quick.alerts.StringParts.{StringParts}
 use Rattle.feed_reading.specs.declared.quick.alerts.TranslationParts.{TranslationParts}
@@ -33,12 +34,16 @@ pub record AfterTrip (fields : List WireField) (parts : TripParts) : Type 0 wher
   pub relation : IsUint64 4 fields parts.relation
   pub route_id : IsText 5 fields (seen parts.route_id)
 
+pub record AfterProperties (fields : List WireField) (parts : PropertiesParts) : Type 0 where
+  pub assigned : IsText 1 fields (seen parts.assigned)
+
 pub record AfterStop (fields : List WireField) (parts : StopParts) : Type 0 where
   pub sequence : IsUint64 1 fields parts.sequence
   pub arrival : IsFound 2 fields parts.arrival
   pub departure : IsFound 3 fields parts.departure
   pub stop_id : IsText 4 fields (seen parts.stop_id)
   pub relation : IsUint64 5 fields parts.relation
+  pub properties : IsFound 6 fields parts.properties
 
 pub record AfterUpdate (fields : List WireField) (parts : UpdateParts) : Type 0 where
   pub trip : IsFound 1 fields parts.trip

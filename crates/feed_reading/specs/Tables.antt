@@ -1,6 +1,6 @@
 -- Which fields a message has: of each its number, its kind, and what of the message it says (GTFS Realtime reference,
 -- gtfs-realtime.proto). A field that has to be there is one of a kind that may be missing and is not.
-use Rattle.std.specs.Prelude.{◌≡◌, ℕ, ℤ, pos, List, [], ◌∷◌, ◌++◌, codes, Option, Some, unwrap_or, unsigned_abs}
+use Rattle.std.specs.Prelude.{◌≡◌, ℕ, ℤ, pos, List, [], ◌∷◌, ◌++◌, codes, Option, Some, None, unwrap_or, unsigned_abs}
 use Rattle.gw_base.specs.declared.messages.Alert.{Alert}
 use Rattle.gw_base.specs.declared.messages.Entity.{Entity}
 use Rattle.gw_base.specs.declared.messages.Event.{Event}
@@ -24,12 +24,23 @@ pub record OfStopTimeEvent (fields : List WireField) (event : Event) : Type 0 wh
   pub delay : IsInt32 1 fields event.delay
   pub time : IsInt64 2 fields event.time
 
+-- a StopTimeProperties is the id of the stop that is assigned
+abbrev pub OfStopTimeProperties : List WireField → Option (List ℕ) → Type 0
+OfStopTimeProperties fields assigned = IsText 1 fields assigned
+
+-- and assigns none where it is missing
+pub record IsAssigned (number : ℕ) (fields : List WireField) (assigned : Option (List ℕ)) : Type 0 where
+  pub found : Option (Option (List ℕ))
+  pub message : IsMessage OfStopTimeProperties number fields found
+  pub same : assigned ≡ unwrap_or found None
+
 pub record OfStopTimeUpdate (fields : List WireField) (update : StopUpdate) : Type 0 where
   pub stop_sequence : IsUint32 1 fields update.sequence
   pub arrival : IsMessage OfStopTimeEvent 2 fields update.arrival
   pub departure : IsMessage OfStopTimeEvent 3 fields update.departure
   pub stop_id : IsText 4 fields update.stop_id
   pub schedule_relationship : IsEnum 5 (pos 0) fields update.relation
+  pub stop_time_properties : IsAssigned 6 fields update.assigned
 
 pub record OfTripUpdate (fields : List WireField) (update : TripUpdate) : Type 0 where
   pub trip : IsMessage OfTripDescriptor 1 fields (Some update.trip)

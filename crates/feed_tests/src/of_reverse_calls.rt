@@ -53,6 +53,7 @@ fn updates(alloc: Global) -> Result<List<StopUpdate>, AllocError> {
         departure: Some(LATE),
         stop_id: None,
         relation: 0,
+        assigned: None,
     })?;
     Ok(updates)
 }

@@ -28,6 +28,7 @@ pub record IsSoundStop (update : StopUpdate) : Type 0 where
   pub departure : IfSome update.departure IsSoundEvent
   pub stop_id : IfSome update.stop_id IsUtf8
   pub relation : FitsSigned w32 update.relation
+  pub assigned : IfSome update.assigned IsUtf8
 
 pub record IsSoundUpdate (update : TripUpdate) : Type 0 where
   pub trip : IsSoundTrip update.trip

@@ -35,6 +35,10 @@ stop_time_event event = if_there (signed_field 1) event.delay ++ if_there (signe
 abbrev pub relation_field : ℤ → List ℕ
 relation_field relation = if unsigned_abs relation == 0 then [] else signed_field 5 relation
 
+-- the id of the stop that is assigned
+abbrev pub stop_time_properties : List ℕ → List ℕ
+stop_time_properties assigned = bytes_field 1 assigned
+
 abbrev pub stop_time_update : StopUpdate → List ℕ
 stop_time_update update =
     if_there (varint_field 1) update.sequence
@@ -42,6 +46,7 @@ stop_time_update update =
     ++ if_there (λ event. bytes_field 3 (stop_time_event event)) update.departure
     ++ if_there (bytes_field 4) update.stop_id
     ++ relation_field update.relation
+    ++ if_there (λ assigned. bytes_field 6 (stop_time_properties assigned)) update.assigned
 
 abbrev pub trip_update : TripUpdate → List ℕ
 trip_update update =

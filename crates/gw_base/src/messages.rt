@@ -78,6 +78,9 @@ pub struct StopUpdate {
     pub stop_id: Option<Text>,
     /// SCHEDULED 0, SKIPPED 1, NO_DATA 2, UNSCHEDULED 3; `stop_relation` names those that are read.
     pub relation: i32,
+    /// The `stop_id` of the stop that the vehicle calls at in place of the scheduled one (GTFS Realtime,
+    /// StopTimeProperties, `assigned_stop_id`).
+    pub assigned: Option<Text>,
 }
 
 /// The time of an arrival or a departure (GTFS Realtime, StopTimeEvent).

@@ -53,18 +53,28 @@ needs_update start before stop = is_skipped stop.1 || not (same_reading stop.1 (
 abbrev pub event : ℤ → ℤ → Option Event
 event planned time = Some (record { delay = Some (time -ℤ planned); time = Some time })
 
+-- an update without times
+abbrev pub untimed : StopRow → ℤ → StopUpdate
+untimed row relation = record {
+  sequence = Some row.sequence;
+  arrival = None;
+  departure = None;
+  stop_id = None;
+  relation = relation;
+  assigned = None;
+}
+
 -- the update of a stop: SKIPPED, NO_DATA where it is absent, or both events
 abbrev pub update : ℤ → StopRow → StopReading → StopUpdate
-update start row Absent =
-    record { sequence = Some row.sequence; arrival = None; departure = None; stop_id = None; relation = stop_no_data }
-update start row Skipped =
-    record { sequence = Some row.sequence; arrival = None; departure = None; stop_id = None; relation = stop_skipped }
+update start row Absent = untimed row stop_no_data
+update start row Skipped = untimed row stop_skipped
 update start row (Timed arrival departure) = record {
   sequence = Some row.sequence;
   arrival = event (planned start row).0 arrival;
   departure = event (planned start row).1 departure;
   stop_id = None;
   relation = stop_scheduled;
+  assigned = None;
 }
 
 -- the updates of stops that stand after others

@@ -74,6 +74,7 @@ fn update(start: i64, row: &StopRow, reading: &StopReading) -> StopUpdate
         departure,
         stop_id: None,
         relation,
+        assigned: None,
     }
 }
 

@@ -1,11 +1,11 @@
 //! The known fields of each message: `specs/Known.antt`.
-ghost use Rattle.feed_reading.specs.Known.{trip_known, event_known, stop_known, update_known, period_known, selector_known, translation_known, string_known, alert_known, entity_known, header_known, feed_known};
+ghost use Rattle.feed_reading.specs.Known.{trip_known, event_known, properties_known, stop_known, update_known, period_known, selector_known, translation_known, string_known, alert_known, entity_known, header_known, feed_known};
 
 use crate::fault::FeedFault;
 use crate::finder::messages::{KnownMessage, each_faults, once_faults, text_faults};
 use crate::finder::order::earlier;
 use crate::finder::piece::Piece;
-use crate::plain::tables::{Header, TranslatedString};
+use crate::plain::tables::{Header, StopTimeProperties, TranslatedString};
 use gw_base::{
     Alert, Entity, Event, Feed, Period, Required, Selector, StopUpdate, Translation,
     TripDescriptor, TripUpdate,
@@ -51,6 +51,19 @@ impl KnownMessage for TripDescriptor {
     }
 }
 
+impl KnownMessage for StopTimeProperties {
+    ghost known = { properties_known };
+
+    fn faults_inside(
+        alloc: Global,
+        pieces: &[Piece<'_>],
+        end: u64,
+    ) -> Result<Option<FeedFault>, AllocError> {
+        let assigned = text_faults(alloc, pieces, 1, None, end)?;
+        Ok(assigned)
+    }
+}
+
 impl KnownMessage for StopUpdate {
     ghost known = { stop_known };
 
@@ -62,7 +75,8 @@ impl KnownMessage for StopUpdate {
         let arrival = once_faults::<Event>(alloc, pieces, 2, None, end)?;
         let departure = once_faults::<Event>(alloc, pieces, 3, None, end)?;
         let stop_id = text_faults(alloc, pieces, 4, None, end)?;
-        Ok(earlier(arrival, earlier(departure, stop_id)))
+        let properties = once_faults::<StopTimeProperties>(alloc, pieces, 6, None, end)?;
+        Ok(earlier(arrival, earlier(departure, earlier(stop_id, properties))))
     }
 }
 

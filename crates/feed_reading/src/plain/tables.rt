@@ -2,7 +2,7 @@
 ghost use Rattle.std.specs.Prelude.{map};
 ghost use Rattle.wire_fields.specs.Seen.{field_of};
 ghost use Rattle.feed_reading.specs.Plain.{Finds};
-ghost use Rattle.feed_reading.specs.Tables.{OfTripDescriptor, OfStopTimeEvent, OfStopTimeUpdate, OfTripUpdate, OfTimeRange, OfEntitySelector, OfTranslation, OfTranslatedString, AreTranslations, OfAlert, OfFeedEntity, OfFeedHeader, OfFeedMessage};
+ghost use Rattle.feed_reading.specs.Tables.{OfTripDescriptor, OfStopTimeEvent, OfStopTimeProperties, IsAssigned, OfStopTimeUpdate, OfTripUpdate, OfTimeRange, OfEntitySelector, OfTranslation, OfTranslatedString, AreTranslations, OfAlert, OfFeedEntity, OfFeedHeader, OfFeedMessage};
 
 use crate::plain::kinds::{
     boolean, enumeration, int32, int64, required_text, text, uint32, uint64,
@@ -51,6 +51,36 @@ impl Message for TripDescriptor {
     }
 }
 
+// What of a stop differs from the schedule (GTFS Realtime, StopTimeProperties).
+#[derive(Drop)]
+pub struct StopTimeProperties {
+    pub assigned: Option<Text>,
+}
+
+impl Message for StopTimeProperties {
+    ghost table = { λ fields m. OfStopTimeProperties fields m.assigned };
+
+    fn of_fields(alloc: Global, fields: &[Field<'_>]) -> Result<StopTimeProperties, PlainFault> {
+        Ok(StopTimeProperties {
+            assigned: text(alloc, fields, 1)?,
+        })
+    }
+}
+
+// The id of the stop that is assigned, if one is.
+fn assigned_stop(
+    alloc: Global,
+    fields: &[Field<'_>],
+    number: u32,
+) -> Result<Option<Text>, PlainFault>
+    ensures { Finds (IsAssigned number (map field_of fields.now)) result }
+{
+    match embedded(alloc, fields, number)? {
+        Some(StopTimeProperties { assigned }) => Ok(assigned),
+        None => Ok(None),
+    }
+}
+
 impl Message for StopUpdate {
     ghost table = { OfStopTimeUpdate };
 
@@ -61,6 +91,7 @@ impl Message for StopUpdate {
             departure: embedded(alloc, fields, 3)?,
             stop_id: text(alloc, fields, 4)?,
             relation: enumeration(fields, 5, 0),
+            assigned: assigned_stop(alloc, fields, 6)?,
         })
     }
 }

@@ -1,9 +1,13 @@
 //! The messages of a trip, each by its table of `specs/Tables.antt`. Of a number the last one is kept, and read by
 //! its type at the end.
-ghost use Rattle.feed_reading.specs.Tables.{OfTripDescriptor, OfStopTimeEvent, OfStopTimeUpdate, OfTripUpdate};
-ghost use Rattle.feed_reading.specs.Parts.{AfterTrip, AfterEvent, AfterStop, AfterUpdate};
+ghost use Rattle.std.specs.Prelude.{ℕ, List, IfOk};
+ghost use Rattle.wire_fields.specs.Grammar.{WireField};
+ghost use Rattle.feed_reading.specs.Tables.{OfTripDescriptor, OfStopTimeEvent, OfStopTimeProperties, IsAssigned, OfStopTimeUpdate, OfTripUpdate};
+ghost use Rattle.feed_reading.specs.Partly.{IsFound};
+ghost use Rattle.feed_reading.specs.Parts.{AfterTrip, AfterEvent, AfterProperties, AfterStop, AfterUpdate};
 
 use crate::plain::kinds::copied;
+use crate::plain::tables::StopTimeProperties;
 use crate::plain_fault::PlainFault;
 use crate::quick::fields::{as_enum, as_int32, as_int64, as_uint32, number_after, text_after};
 use crate::quick::found::{Found, add_body};
@@ -11,7 +15,7 @@ use crate::quick::nested::{
     Parts, QuickMessage, add_message, read_found, read_parts, read_required,
 };
 use crate::quick::room::with_room;
-use gw_base::{Event, List, StopUpdate, TripDescriptor, TripUpdate};
+use gw_base::{Event, List, StopUpdate, Text, TripDescriptor, TripUpdate};
 use std::alloc::{AllocError, Global};
 use wire_fields::Field;
 
@@ -130,12 +134,65 @@ impl QuickMessage for TripDescriptor {
 }
 
 #[derive(Drop)]
+pub struct PropertiesParts<'a> {
+    assigned: Option<&'a str>,
+}
+
+impl<'a> Parts<'a> for PropertiesParts<'a> {
+    type Whole = StopTimeProperties;
+
+    ghost after = { AfterProperties };
+
+    ghost table = { λ fields m. OfStopTimeProperties fields m.assigned };
+
+    #[inline(always)]
+    fn start(_alloc: Global, _bytes: &[u8]) -> Result<PropertiesParts<'a>, AllocError> {
+        Ok(PropertiesParts { assigned: None })
+    }
+
+    #[inline(always)]
+    fn take(&mut self, _alloc: Global, field: &Field<'a>) -> Result<(), PlainFault> {
+        self.assigned = text_after(1, field, self.assigned)?;
+        Ok(())
+    }
+
+    #[inline(always)]
+    fn finish(self, alloc: Global) -> Result<StopTimeProperties, PlainFault> {
+        Ok(StopTimeProperties {
+            assigned: copied(alloc, self.assigned)?,
+        })
+    }
+}
+
+impl QuickMessage for StopTimeProperties {
+    ghost table = { λ fields m. OfStopTimeProperties fields m.assigned };
+
+    fn read(alloc: Global, bytes: &[u8]) -> Result<StopTimeProperties, PlainFault> {
+        read_parts::<PropertiesParts<'_>>(alloc, bytes)
+    }
+}
+
+// The id of the stop that is assigned, if one is.
+#[inline(always)]
+fn assigned_stop(alloc: Global, found: &Found<'_>) -> Result<Option<Text>, PlainFault>
+    ensures { IfOk result
+        (λ assigned. (number : ℕ) (fields : List WireField) → IsFound number fields found.now
+        → IsAssigned number fields assigned) }
+{
+    match read_found(alloc, found)? {
+        Some(StopTimeProperties { assigned }) => Ok(assigned),
+        None => Ok(None),
+    }
+}
+
+#[derive(Drop)]
 pub struct StopParts<'a> {
     sequence: Option<u64>,
     arrival: Found<'a>,
     departure: Found<'a>,
     stop_id: Option<&'a str>,
     relation: Option<u64>,
+    properties: Found<'a>,
 }
 
 impl<'a> Parts<'a> for StopParts<'a> {
@@ -153,6 +210,7 @@ impl<'a> Parts<'a> for StopParts<'a> {
             departure: Found::Nothing,
             stop_id: None,
             relation: None,
+            properties: Found::Nothing,
         })
     }
 
@@ -170,6 +228,10 @@ impl<'a> Parts<'a> for StopParts<'a> {
             add_body(alloc, 3, field, &mut self.departure)?;
             return Ok(());
         }
+        if field.number == 6 {
+            add_body(alloc, 6, field, &mut self.properties)?;
+            return Ok(());
+        }
         self.stop_id = text_after(4, field, self.stop_id)?;
         self.relation = number_after(5, field, self.relation);
         Ok(())
@@ -183,6 +245,7 @@ impl<'a> Parts<'a> for StopParts<'a> {
             departure: read_found(alloc, &self.departure)?,
             stop_id: copied(alloc, self.stop_id)?,
             relation: as_enum(self.relation, 0),
+            assigned: assigned_stop(alloc, &self.properties)?,
         })
     }
 }

@@ -52,6 +52,7 @@ fn late_stop(sequence: u32) -> StopUpdate {
         departure: Some(late),
         stop_id: None,
         relation: 0,
+        assigned: None,
     }
 }
 
@@ -146,6 +147,7 @@ fn an_early_event_is_written(rt: HostRuntime) -> Result<(), Fail> {
         departure: None,
         stop_id: None,
         relation: 0,
+        assigned: None,
     };
     let trip = TripDescriptor {
         trip_id: None,

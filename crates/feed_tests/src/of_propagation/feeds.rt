@@ -97,6 +97,7 @@ fn update(
         departure: None,
         stop_id: Some(Text::copied(alloc, "A")?),
         relation: 0,
+        assigned: None,
     })?;
     let trip = TripDescriptor {
         trip_id: Some(Text::copied(alloc, trip)?),

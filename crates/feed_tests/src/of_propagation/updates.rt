@@ -144,6 +144,7 @@ fn update(alloc: Global, relation: i32, rows: &[Row]) -> Result<TripUpdate, Allo
             departure: event(*departure, None),
             stop_id: Some(Text::copied(alloc, stop)?),
             relation: *relation,
+            assigned: None,
         })?;
     }
     let trip = TripDescriptor {

@@ -1,7 +1,7 @@
 //! The messages of GTFS Realtime, each by `specs/Written.antt`: fields in rising number.
-ghost use Rattle.std.specs.Prelude.{◌≡◌, ◌-◌, ◌^◌, length, min};
+ghost use Rattle.std.specs.Prelude.{◌≡◌, ◌-◌, ◌^◌, length, min, IsUtf8};
 ghost use Rattle.std.specs.List.{AllByRecursion};
-ghost use Rattle.feed_writing.specs.Written.{if_there, trip_descriptor, stop_time_event, stop_time_update, trip_update, time_range, entity_selector, translation, translated_string, alert, alert as alert_of, feed_entity};
+ghost use Rattle.feed_writing.specs.Written.{if_there, trip_descriptor, stop_time_event, stop_time_properties, stop_time_update, trip_update, time_range, entity_selector, translation, translated_string, alert, alert as alert_of, feed_entity};
 ghost use Rattle.feed_writing.specs.Sound.{IsSoundTrip, IsSoundEvent, IsSoundStop, IsSoundUpdate, IsSoundPeriod, IsSoundSelector, IsSoundTranslation, IsSoundAlert, IsSoundEntity};
 
 use crate::writing::fields::{
@@ -15,8 +15,8 @@ use crate::writing::nested::{
     size_if_there, translations_size,
 };
 use gw_base::{
-    Alert, Buf, Entity, Event, List, Period, Selector, StopUpdate, Translation, TripDescriptor,
-    TripUpdate,
+    Alert, Buf, Entity, Event, List, Period, Selector, StopUpdate, Text, Translation,
+    TripDescriptor, TripUpdate,
 };
 
 impl WrittenMessage for Event {
@@ -77,6 +77,21 @@ impl WrittenMessage for TripDescriptor {
     }
 }
 
+// What of a stop differs from the schedule: the id of the stop that is assigned (GTFS Realtime, StopTimeProperties).
+impl WrittenMessage for Text {
+    ghost written = { stop_time_properties };
+
+    ghost sound = { IsUtf8 };
+
+    fn size(&self) -> u64 {
+        text_size(1, self)
+    }
+
+    fn put(&self, buf: &mut Buf) {
+        put_text(buf, 1, self);
+    }
+}
+
 impl WrittenMessage for StopUpdate {
     ghost written = { stop_time_update };
 
@@ -87,7 +102,8 @@ impl WrittenMessage for StopUpdate {
         let arrival = plus(sequence, optional_message_size(2, &self.arrival));
         let departure = plus(arrival, optional_message_size(3, &self.departure));
         let stop = plus(departure, optional_text_size(4, &self.stop_id));
-        plus(stop, relation_size(&self.relation))
+        let relation = plus(stop, relation_size(&self.relation));
+        plus(relation, optional_message_size(6, &self.assigned))
     }
 
     fn put(&self, buf: &mut Buf) {
@@ -96,6 +112,7 @@ impl WrittenMessage for StopUpdate {
         put_optional_message(buf, 3, &self.departure);
         put_optional_text(buf, 4, &self.stop_id);
         put_relation(buf, &self.relation);
+        put_optional_message(buf, 6, &self.assigned);
     }
 }
 

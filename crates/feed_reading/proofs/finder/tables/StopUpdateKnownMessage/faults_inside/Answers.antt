@@ -4,7 +4,9 @@ use Rattle.feed_reading.proofs.finder.tables.StopUpdateKnownMessage.faults_insid
 
 pub returns : goal.returns
 returns c =
-    let back = rw (← c.earlier.ensures) at
-    (least_either _ _ c.in_ok-departure.departure c.in_ok-stop_id.stop_id c.in_ok-departure.ensures
-    (least_last _ c.in_ok-stop_id.stop_id c.in_ok-stop_id.ensures)) in
-    rw c.earlier-2.ensures (least_either _ _ c.in_ok-arrival.arrival c.earlier.result c.in_ok-arrival.ensures back)
+    let last = rw (← c.earlier.ensures) at
+    (least_either _ _ c.in_ok-stop_id.stop_id c.in_ok-properties.properties c.in_ok-stop_id.ensures
+    (least_last _ c.in_ok-properties.properties c.in_ok-properties.ensures)) in
+    let back = rw (← c.earlier-2.ensures) at
+    (least_either _ _ c.in_ok-departure.departure c.earlier.result c.in_ok-departure.ensures last) in
+    rw c.earlier-3.ensures (least_either _ _ c.in_ok-arrival.arrival c.earlier-2.result c.in_ok-arrival.ensures back)

@@ -16,6 +16,8 @@ returns-then-field-eq1 c = λ fields known. record {
       (λ e. absurd (omega (arith, e, c.if-field-eq1.true))) known.stop_id;
   relation = number_other 5 fields (field_of c.args.field.now) c.args.self.now.relation
       (λ e. absurd (omega (arith, e, c.if-field-eq1.true))) known.relation;
+  properties = found_other 6 fields (field_of c.args.field.now) c.args.self.now.properties
+      (λ e. absurd (omega (arith, e, c.if-field-eq1.true))) known.properties;
 }
 
 pub returns-then-field-eq2 : goal.returns-then-field-eq2
@@ -29,6 +31,8 @@ returns-then-field-eq2 c = λ fields known. record {
       (λ e. absurd (omega (arith, e, c.if-field-eq2.true))) known.stop_id;
   relation = number_other 5 fields (field_of c.args.field.now) c.args.self.now.relation
       (λ e. absurd (omega (arith, e, c.if-field-eq2.true))) known.relation;
+  properties = found_other 6 fields (field_of c.args.field.now) c.args.self.now.properties
+      (λ e. absurd (omega (arith, e, c.if-field-eq2.true))) known.properties;
 }
 
 pub returns-then-field-eq3 : goal.returns-then-field-eq3
@@ -42,6 +46,23 @@ returns-then-field-eq3 c = λ fields known. record {
       (λ e. absurd (omega (arith, e, c.if-field-eq3.true))) known.stop_id;
   relation = number_other 5 fields (field_of c.args.field.now) c.args.self.now.relation
       (λ e. absurd (omega (arith, e, c.if-field-eq3.true))) known.relation;
+  properties = found_other 6 fields (field_of c.args.field.now) c.args.self.now.properties
+      (λ e. absurd (omega (arith, e, c.if-field-eq3.true))) known.properties;
+}
+
+pub returns-then-field-eq6 : goal.returns-then-field-eq6
+returns-then-field-eq6 c = λ fields known. record {
+  sequence = number_other 1 fields (field_of c.args.field.now) c.args.self.now.sequence
+      (λ e. absurd (omega (arith, e, c.if-field-eq6.true))) known.sequence;
+  arrival = found_other 2 fields (field_of c.args.field.now) c.args.self.now.arrival
+      (λ e. absurd (omega (arith, e, c.if-field-eq6.true))) known.arrival;
+  departure = found_other 3 fields (field_of c.args.field.now) c.args.self.now.departure
+      (λ e. absurd (omega (arith, e, c.if-field-eq6.true))) known.departure;
+  stop_id = text_other 4 fields (field_of c.args.field.now) (seen c.args.self.now.stop_id)
+      (λ e. absurd (omega (arith, e, c.if-field-eq6.true))) known.stop_id;
+  relation = number_other 5 fields (field_of c.args.field.now) c.args.self.now.relation
+      (λ e. absurd (omega (arith, e, c.if-field-eq6.true))) known.relation;
+  properties = c.in_ok-add_body-3.ensures fields known.properties;
 }
 
 pub returns : goal.returns
@@ -53,4 +74,6 @@ returns c = λ fields known. record {
       known.departure;
   stop_id = c.in_ok-self.ensures fields known.stop_id;
   relation = c.number_after-self-2.ensures fields known.relation;
+  properties = found_other 6 fields (field_of c.args.field.now) c.args.self.now.properties c.if-field-eq6.false
+      known.properties;
 }

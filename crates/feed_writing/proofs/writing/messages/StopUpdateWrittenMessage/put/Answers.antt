@@ -8,4 +8,5 @@ returns-clause-appends c =
     let events = appends_both
     (appends_both (rw c.wide_unsigned.ensures.same at sequence) c.put_optional_message.ensures.appends)
     c.put_optional_message-2.ensures.appends in
-    appends_both (appends_both events c.put_optional_text.ensures.appends) c.put_relation.ensures.appends
+    let texts = appends_both (appends_both events c.put_optional_text.ensures.appends) c.put_relation.ensures.appends in
+    appends_both texts c.put_optional_message-3.ensures.appends
