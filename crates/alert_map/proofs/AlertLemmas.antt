@@ -7,8 +7,8 @@ use Rattle.std.specs.List.{AllByRecursion, list_all}
 use Rattle.std.specs.Prelude.{IfOk}
 use Rattle.gw_base.specs.declared.messages.Entity.{Entity}
 use Rattle.gw_base.specs.declared.messages.Feed.{Feed}
-use Rattle.stop_schedule.specs.Table.{Table}
-use Rattle.stop_schedule.proofs.IdLemmas.{and-left, and-right}
+use Rattle.timetable.specs.Table.{Table}
+use Rattle.timetable.proofs.IdLemmas.{and-left, and-right}
 use Rattle.journey_model.specs.Situations.{AreKnown, is_known}
 use Rattle.journey_model.specs.declared.situation.Ref.{Ref}
 use Rattle.journey_model.specs.declared.situation.Ref.TheVariants.{Route, Stop, Journey}

@@ -1,6 +1,6 @@
 -- What only private functions cite: each thing that a situation refers to is there.
 use Rattle.std.specs.Prelude.{◌<◌, List, All, length}
-use Rattle.stop_schedule.specs.Table.{Table}
+use Rattle.timetable.specs.Table.{Table}
 use Rattle.journey_model.specs.declared.situation.Ref.{Ref}
 use Rattle.journey_model.specs.declared.situation.Ref.TheVariants.{Route, Stop, Journey}
 

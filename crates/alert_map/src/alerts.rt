@@ -1,6 +1,6 @@
 //! The alert of a situation (GTFS Realtime reference, Alert).
 ghost use Rattle.std.specs.Prelude.{◌≡◌, IfOk, map};
-ghost use Rattle.stop_schedule.specs.Seen.{seen};
+ghost use Rattle.timetable.specs.Seen.{seen};
 ghost use Rattle.journey_model.specs.Situations.{AreKnown};
 ghost use Rattle.alert_map.specs.Alerts as spec;
 
@@ -8,7 +8,7 @@ use crate::selectors::selectors_of;
 use gw_base::{Alert, List, Period, Text, Translation};
 use journey_model::{Situation, ValidPeriod};
 use std::alloc::{AllocError, Global};
-use stop_schedule::Timetable;
+use timetable::Timetable;
 
 // The active periods.
 fn periods_of(alloc: Global, periods: &[ValidPeriod]) -> Result<List<Period>, AllocError>

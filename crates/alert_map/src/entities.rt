@@ -2,7 +2,7 @@
 ghost use Rattle.std.specs.Prelude.{◌≡◌, ◌++◌, ℕ, List, IfOk};
 ghost use Rattle.gw_base.specs.declared.messages.Entity.{Entity};
 ghost use Rattle.gw_base.specs.declared.messages.Feed.{Feed};
-ghost use Rattle.stop_schedule.specs.Seen.{seen};
+ghost use Rattle.timetable.specs.Seen.{seen};
 ghost use Rattle.journey_model.specs.Situations.{AreKnown};
 ghost use Rattle.feed_reading.specs.Tables.{MeansFeed, with_entity};
 ghost use Rattle.feed_writing.specs.Written.{written};
@@ -13,7 +13,7 @@ use feed_messages::entity_bytes;
 use gw_base::{Boxed, Bytes, Entity, Text};
 use journey_model::Situation;
 use std::alloc::{AllocError, Global};
-use stop_schedule::Timetable;
+use timetable::Timetable;
 use wire_fields::first_number;
 
 // The id of a situation's entity.

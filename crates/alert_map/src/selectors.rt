@@ -1,6 +1,6 @@
 //! What a situation refers to, as selectors (GTFS Realtime reference, EntitySelector).
 ghost use Rattle.std.specs.Prelude.{◌≡◌, IfOk, map};
-ghost use Rattle.stop_schedule.specs.Seen.{seen};
+ghost use Rattle.timetable.specs.Seen.{seen};
 ghost use Rattle.service_day.specs.DayTexts.{compact_text};
 ghost use Rattle.alert_map.specs.Known.{IsEachKnown, IsKnown};
 ghost use Rattle.alert_map.specs.Alerts as spec;
@@ -10,7 +10,7 @@ use gw_base::{Boxed, List, Selector, Text, TripDescriptor};
 use journey_model::{Ref, date_text};
 use service_day::{Day, day_compact};
 use std::alloc::{AllocError, Global};
-use stop_schedule::Timetable;
+use timetable::Timetable;
 
 // The selector of a route.
 fn route_selector(alloc: Global, route_id: &str) -> Result<Selector, AllocError>

@@ -14,8 +14,8 @@ use Rattle.gw_base.specs.declared.messages.Entity.{Entity}
 use Rattle.gw_base.specs.declared.messages.Feed.{Feed}
 use Rattle.gw_base.proofs.Elements.{or_assoc, or_none}
 use Rattle.feed_reading.specs.Tables.{full_dataset}
-use Rattle.stop_schedule.specs.Table.{Table}
-use Rattle.stop_schedule.specs.declared.stop_times.StopRow.{StopRow}
+use Rattle.timetable.specs.Table.{Table}
+use Rattle.timetable.specs.declared.stop_row.StopRow.{StopRow}
 use Rattle.journey_model.specs.FeedReadings.{entity_said, given, last_reading, nothing_known, or_nothing}
 use Rattle.journey_model.specs.Readings.{are_near, fits_trip, is_absent}
 use Rattle.journey_model.specs.Records.{Recorded}

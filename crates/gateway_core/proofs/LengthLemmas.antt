@@ -15,8 +15,8 @@ use Rattle.feed_index.specs.declared.entry.Entry.{Entry}
 use Rattle.feed_writing.specs.Written.{feed_entity, header, written}
 use Rattle.journey_model.specs.declared.situation.Situation.{Situation}
 use Rattle.service_day.specs.declared.moments.Instant.{Instant}
-use Rattle.stop_schedule.specs.Seen.{seen}
-use Rattle.stop_schedule.specs.Table.{Table}
+use Rattle.timetable.specs.Seen.{seen}
+use Rattle.timetable.specs.Table.{Table}
 use Rattle.alert_map.specs.Alerts.{alert_message}
 use Rattle.latest_store.specs.Latest.{has_number, is_newer}
 use Rattle.wire_fields.specs.Spelling.{varint}

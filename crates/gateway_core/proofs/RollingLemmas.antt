@@ -6,7 +6,7 @@ use Rattle.std.specs.List.{AllByRecursion}
 use Rattle.service_day.specs.Windows.{DayStarts, IsWindow}
 use Rattle.service_day.specs.declared.moments.Instant.{Instant}
 use Rattle.feed_index.specs.declared.entry.Entry.{Entry}
-use Rattle.stop_schedule.specs.Seen.{seen}
+use Rattle.timetable.specs.Seen.{seen}
 use Rattle.gateway_core.specs.Arrivals.{Arrival, admitted, first_after, first_day, is_within, moments_of, schedule_at, window_at, window_from}
 use Rattle.gateway_core.specs.Deliveries.{schedule_in}
 use Rattle.gateway_core.specs.Settings.{IsWindowIn}

@@ -19,8 +19,8 @@ use Rattle.siri_situations.specs.Situations as judged
 use Rattle.siri_json.specs.declared.delivery.Item.{Item}
 use Rattle.siri_json.specs.declared.delivery.Item.TheVariants.{Taken, Aside}
 use Rattle.siri_json.specs.declared.delivery.Delivery.{Delivery}
-use Rattle.stop_schedule.specs.Seen.{seen}
-use Rattle.stop_schedule.specs.Table.{Table}
+use Rattle.timetable.specs.Seen.{seen}
+use Rattle.timetable.specs.Table.{Table}
 use Rattle.gateway_core.specs.Alerts.{alert_len, alert_limit}
 use Rattle.gateway_core.specs.Arrivals.{Arrival, admitted, admitted_situations, is_within, moments_of, schedule_at, window_at}
 use Rattle.gateway_core.specs.Deliveries.{schedule_over, taken}

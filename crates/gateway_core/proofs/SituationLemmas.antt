@@ -18,7 +18,7 @@ use Rattle.journey_model.specs.declared.fault.Fault.TheVariants.{EntityTooLong, 
 use Rattle.journey_model.specs.declared.report.Report.{Report}
 use Rattle.journey_model.specs.declared.situation.Situation.{Situation}
 use Rattle.siri_json.specs.declared.delivery.Item.{Item}
-use Rattle.stop_schedule.specs.Table.{Table}
+use Rattle.timetable.specs.Table.{Table}
 use Rattle.gateway_core.specs.Alerts.{alert_len, alert_limit}
 use Rattle.gateway_core.specs.Arrivals.{always, has_room, is_same_number, most_numbers}
 use Rattle.journey_model.specs.Reports.{aside_from, aside_at}

@@ -11,7 +11,7 @@ use Rattle.journey_model.specs.Schedules.{Schedule}
 use Rattle.journey_model.specs.declared.fault.Fault.{Fault}
 use Rattle.journey_model.specs.declared.report.Report.{Report}
 use Rattle.journey_model.specs.declared.situation.Situation.{Situation}
-use Rattle.stop_schedule.specs.Seen.{seen}
+use Rattle.timetable.specs.Seen.{seen}
 use Rattle.gw_base.specs.declared.messages.Feed as feeds
 use Rattle.reverse_calls.specs.Siri.{IsSiri}
 use Rattle.latest_store.specs.Latest.{has_number, is_newer, was_later}

@@ -12,8 +12,8 @@ use Rattle.journey_model.specs.Records.{Recorded}
 use Rattle.journey_model.specs.Schedules.{Schedule}
 use Rattle.journey_model.specs.declared.situation.Situation.{Situation}
 use Rattle.latest_store.specs.Latest.{has_number, is_newer, was_later}
-use Rattle.stop_schedule.specs.Seen.{seen}
-use Rattle.stop_schedule.specs.Table.{Table}
+use Rattle.timetable.specs.Seen.{seen}
+use Rattle.timetable.specs.Table.{Table}
 use Rattle.gateway_core.specs.Arrivals.{Arrival, admitted_situations, moments_of, present, schedule_at, window_at}
 use Rattle.gateway_core.specs.Feeds.{comes_before, has_lesser_number}
 use Rattle.gateway_core.specs.Recording.{AreDecided, ArriveAlike, IsRebuiltOf}

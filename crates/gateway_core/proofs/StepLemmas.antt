@@ -10,7 +10,7 @@ use Rattle.journey_model.specs.Schedules.{Schedule}
 use Rattle.journey_model.specs.declared.fault.Fault.{Fault}
 use Rattle.journey_model.specs.declared.fault.Fault.TheVariants.{Full}
 use Rattle.journey_model.specs.declared.situation.Situation.{Situation}
-use Rattle.stop_schedule.specs.Table.{Table}
+use Rattle.timetable.specs.Table.{Table}
 use Rattle.latest_store.specs.Latest.{has_number, is_later, is_newer, was_later}
 use Rattle.gateway_core.specs.Arrivals.{always, is_same_journey, is_same_number, is_within, journey_has_room, situation_has_room, most_journeys, most_numbers}
 use Rattle.gateway_core.specs.Deliveries.{taken}

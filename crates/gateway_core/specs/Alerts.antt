@@ -1,7 +1,7 @@
 -- The alerts of situations in a feed (GTFS Realtime reference, FeedEntity, Alert).
 use Rattle.std.specs.Prelude.{ℕ, List, [], ◌∷◌, if◌then◌else◌}
 use Rattle.gw_base.specs.declared.messages.Entity.{Entity}
-use Rattle.stop_schedule.specs.Table.{Table}
+use Rattle.timetable.specs.Table.{Table}
 use Rattle.journey_model.specs.declared.situation.Situation.{Situation}
 use Rattle.alert_map.specs.Alerts.{alert_message, entity_body_len}
 

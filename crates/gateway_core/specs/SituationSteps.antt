@@ -16,7 +16,7 @@ use Rattle.siri_json.specs.declared.delivery.DeliveryFault.TheVariants.{NotJson,
 use Rattle.siri_situations.specs.Deliveries.{same}
 use Rattle.siri_situations.specs.Situations as judged
 use Rattle.siri_json.specs.declared.delivery.Item.{Item}
-use Rattle.stop_schedule.specs.Table.{Table}
+use Rattle.timetable.specs.Table.{Table}
 use Rattle.gateway_core.specs.Deliveries.{taken}
 use Rattle.feed_index.specs.Drafts.{Drafted, after}
 use Rattle.journey_model.specs.Reports.{aside_from}

@@ -8,8 +8,8 @@ use Rattle.journey_model.specs.Records.{Recorded}
 use Rattle.journey_model.specs.Schedules.{Schedule}
 use Rattle.journey_model.specs.declared.report.Report.{Report}
 use Rattle.journey_model.specs.declared.situation.Situation.{Situation}
-use Rattle.stop_schedule.specs.Seen.{seen}
-use Rattle.stop_schedule.specs.Table.{Table}
+use Rattle.timetable.specs.Seen.{seen}
+use Rattle.timetable.specs.Table.{Table}
 use Rattle.siri_calls.specs.Written.DeliveryTree.{delivery_text}
 use Rattle.reverse_calls.specs.Siri.{IsSiri}
 use Rattle.service_day.specs.Windows.{DayStarts}

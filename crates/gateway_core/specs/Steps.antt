@@ -7,7 +7,7 @@ use Rattle.journey_model.specs.Records.{Recorded}
 use Rattle.journey_model.specs.Schedules.{Schedule}
 use Rattle.journey_model.specs.declared.fault.Fault.{Fault}
 use Rattle.journey_model.specs.declared.situation.Situation.{Situation}
-use Rattle.stop_schedule.specs.Table.{Table}
+use Rattle.timetable.specs.Table.{Table}
 use Rattle.latest_store.specs.Latest.{is_later}
 use Rattle.gateway_core.specs.Arrivals.{always, is_within, most_journeys, most_numbers}
 use Rattle.gateway_core.specs.Deliveries.{taken}

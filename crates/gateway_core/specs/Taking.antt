@@ -15,10 +15,10 @@ use Rattle.serde_json.specs.Data.{Data}
 use Rattle.siri_calls.specs.Verdicts as journey_items
 use Rattle.siri_json.specs.Deliveries.{passed_count, tree_of, without_count}
 use Rattle.siri_situations.specs.Situations as situation_verdicts
-use Rattle.stop_schedule.specs.Seen.{seen}
+use Rattle.timetable.specs.Seen.{seen}
 use Rattle.reverse_calls.specs.Siri.{IsSiri}
 use Rattle.gateway_core.specs.Alerts.{alert_len, alert_limit}
-use Rattle.stop_schedule.specs.Table.{Table}
+use Rattle.timetable.specs.Table.{Table}
 use Rattle.service_day.specs.Windows.{DayStarts}
 use Rattle.gateway_core.specs.Arrivals.{Arrival, Given, admitted, admitted_situations, always, feed, has_room, is_same_journey, is_same_number, is_within, journeys, moments_of, most_journeys, most_numbers, schedule_at, situations, window_at}
 use Rattle.gateway_core.specs.Deliveries.{taken}

@@ -1,6 +1,6 @@
 //! What is kept of a journey and of a situation beside its bytes, and by which key.
 use service_day::Day;
-use stop_schedule::TripNo;
+use timetable::TripNo;
 
 /// A journey: a trip on a service day. Journeys stand in the order of days, and of a day in that of trip numbers.
 #[derive(Clone, Copy, Debug, PartialEq, Eq, PartialOrd, Ord)]

@@ -3,7 +3,7 @@ ghost use Rattle.gateway_core.specs.Settings.{IsWindowIn};
 
 use journey_model::Context;
 use service_day::{Window, Zone};
-use stop_schedule::Timetable;
+use timetable::Timetable;
 
 /// A timetable with the zone of its times, and the window of service days that are served, which is one of that zone.
 #[derive(Drop)]

@@ -34,7 +34,7 @@ use Rattle.serde_json.specs.Data.{Data}
 use Rattle.siri_json.specs.Deliveries.{passed_count, tree_of, without_count}
 use Rattle.siri_calls.specs.Verdicts as journey_items
 use Rattle.siri_situations.specs.Situations as situation_items
-use Rattle.stop_schedule.specs.Seen.{seen}
+use Rattle.timetable.specs.Seen.{seen}
 use Rattle.gateway_core.specs.Arrivals.{Arrival, Given, admitted, admitted_situations, always, feed, firsts, is_same_journey, is_same_number, is_within, journeys, moments_of, most_journeys, most_numbers, schedule_at, situations, window_at}
 use Rattle.gateway_core.specs.Standing.{IsLastSiri}
 use Rattle.gateway_core.specs.Taking.{TakesFeed, TakesJourneys, TakesSituations, journeys_with_room, limited_verdicts, report_json, report_on, situations_with_room}

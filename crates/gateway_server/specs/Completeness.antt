@@ -17,7 +17,7 @@ use Rattle.service_day.specs.Windows.{DayStarts}
 use Rattle.siri_json.specs.Deliveries.{passed_count, tree_of, without_count}
 use Rattle.siri_calls.specs.Verdicts as journey_items
 use Rattle.siri_situations.specs.Situations as situation_items
-use Rattle.stop_schedule.specs.Seen.{seen}
+use Rattle.timetable.specs.Seen.{seen}
 use Rattle.reverse_calls.specs.Siri.{HasTooMany}
 use Rattle.gateway_core.specs.Arrivals.{Arrival, admitted, admitted_situations, firsts, is_same_journey, is_same_number, is_within, moments_of, most_journeys, most_numbers, schedule_at, window_at}
 use Rattle.gateway_core.specs.Taking.{limited_verdicts}

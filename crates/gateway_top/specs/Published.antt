@@ -7,7 +7,7 @@ use Rattle.gw_base.specs.declared.messages.Feed.{Feed}
 use Rattle.service_day.specs.Windows.{IsWindow}
 use Rattle.service_day.specs.Zones.{IsRuleZone, IsTableZone}
 use Rattle.service_day.specs.declared.zones.Rules.{Rules}
-use Rattle.stop_schedule.specs.Seen.{seen}
+use Rattle.timetable.specs.Seen.{seen}
 use Rattle.stop_schedule.specs.Timetable.{timetable}
 use Rattle.feed_reading.specs.Tables.{MeansFeed}
 use Rattle.journey_model.specs.FeedReadings.{is_differential}

@@ -21,11 +21,11 @@ use Rattle.service_day.specs.Zones.{IsRuleZone, IsBadRule, IsTableZone, IsBadTab
 use Rattle.service_day.specs.declared.zones.Rules.{Rules}
 use Rattle.service_day.specs.declared.zones.ZoneFault.{ZoneFault}
 use Rattle.service_day.specs.declared.zones.ZoneFault.TheVariants as zones
-use Rattle.stop_schedule.specs.Seen.{seen}
-use Rattle.stop_schedule.specs.Table.{Table}
+use Rattle.timetable.specs.Seen.{seen}
+use Rattle.timetable.specs.Table.{Table}
 use Rattle.stop_schedule.specs.Timetable.{timetable}
 use Rattle.stop_schedule.specs.declared.table_fault.TableFault.{TableFault}
-use Rattle.stop_schedule.specs.declared.timetable.Timetable.{Timetable}
+use Rattle.timetable.specs.declared.timetable.Timetable.{Timetable}
 use Rattle.gateway_top.specs.Exits.{missing, too_long}
 use Rattle.gateway_top.specs.FolderTexts.{folder_end}
 use Rattle.gateway_core.specs.Arrivals.{Arrival, Given, journeys, moments_of, present, schedule_at, situations}

@@ -4,10 +4,10 @@ use Rattle.std.proofs.lemmas.Bool.{and_parts, leb-true}
 use Rattle.std.proofs.lemmas.Int.{ints}
 use Rattle.gw_base.specs.Moments.{IsMoment}
 use Rattle.service_day.specs.Starts.{IsDayStart}
-use Rattle.stop_schedule.specs.Limits.{time_limit}
-use Rattle.stop_schedule.specs.Planned.{planned}
-use Rattle.stop_schedule.specs.Stops.{is_timed}
-use Rattle.stop_schedule.specs.declared.stop_times.StopRow.{StopRow}
+use Rattle.timetable.specs.Limits.{time_limit}
+use Rattle.timetable.specs.Planned.{planned}
+use Rattle.timetable.specs.Stops.{is_timed}
+use Rattle.timetable.specs.declared.stop_row.StopRow.{StopRow}
 use Rattle.journey_model.specs.Readings.{AreMoments, are_near, is_near}
 use Rattle.journey_model.specs.Times.{is_delay}
 use Rattle.journey_model.specs.declared.readings.StopReading.{StopReading}

@@ -1,7 +1,7 @@
 -- What messages name: texts that count, and the routes, stops and trips of a timetable.
 use Rattle.std.specs.Prelude.{ℕ, ℤ, List, [], ◌∷◌, position, Option, Some, None, option_map}
 use Rattle.std.specs.Str.{bytes_eq}
-use Rattle.stop_schedule.specs.Table.{Table}
+use Rattle.timetable.specs.Table.{Table}
 use Rattle.journey_model.specs.declared.situation.Ref.{Ref}
 use Rattle.journey_model.specs.declared.situation.Ref.TheVariants.{Route, Stop, Journey}
 

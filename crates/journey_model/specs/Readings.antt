@@ -2,8 +2,8 @@
 use Rattle.std.specs.Prelude.{◌&&◌, ℤ, ◌-ℤ◌, Bool, true, false, List, [], ◌∷◌}
 use Rattle.gw_base.specs.Moments.{IsMoment}
 use Rattle.journey_model.specs.Times.{is_delay}
-use Rattle.stop_schedule.specs.Planned.{planned}
-use Rattle.stop_schedule.specs.declared.stop_times.StopRow.{StopRow}
+use Rattle.timetable.specs.Planned.{planned}
+use Rattle.timetable.specs.declared.stop_row.StopRow.{StopRow}
 use Rattle.journey_model.specs.declared.readings.StopReading.{StopReading}
 use Rattle.journey_model.specs.declared.readings.StopReading.TheVariants.{Absent, Skipped, Timed}
 use Rattle.journey_model.specs.declared.readings.JourneyReading.{JourneyReading}

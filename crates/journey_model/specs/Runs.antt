@@ -1,8 +1,8 @@
 -- A trip on a day, as updates and calls are read over it.
 use Rattle.std.specs.Prelude.{ℕ, ℤ, pos, List, slice_get}
 use Rattle.std.specs.Option.{option_map_or}
-use Rattle.stop_schedule.specs.Planned.{planned}
-use Rattle.stop_schedule.specs.declared.stop_times.StopRow.{StopRow}
+use Rattle.timetable.specs.Planned.{planned}
+use Rattle.timetable.specs.declared.stop_row.StopRow.{StopRow}
 
 -- the ids of the timetable's stops, by which they are numbered; the second at which the service day starts; and the
 -- stops of the trip with their planned times

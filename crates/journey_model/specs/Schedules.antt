@@ -2,9 +2,9 @@
 use Rattle.std.specs.Prelude.{◌≡◌, ◌<◌, ℕ, ℤ, Bool, true, length, Option, Some, option_map, is_some, refl}
 use Rattle.service_day.specs.Windows.{DayStarts, start_in}
 use Rattle.service_day.specs.declared.zones.Rules.{Rules}
-use Rattle.stop_schedule.specs.Seen.{seen}
-use Rattle.stop_schedule.specs.Table.{Table}
-use Rattle.stop_schedule.specs.declared.timetable.Timetable.{Timetable}
+use Rattle.timetable.specs.Seen.{seen}
+use Rattle.timetable.specs.Table.{Table}
+use Rattle.timetable.specs.declared.timetable.Timetable.{Timetable}
 use Rattle.journey_model.specs.Readings.{fits_trip}
 use Rattle.journey_model.specs.Runs.{Run}
 use Rattle.journey_model.specs.declared.readings.JourneyReading.{JourneyReading}

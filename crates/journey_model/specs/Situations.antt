@@ -1,7 +1,7 @@
 -- What situations refer to.
 use Rattle.std.specs.Prelude.{Bool, List, length, nat_lt, IsTrue}
 use Rattle.std.specs.List.{list_all}
-use Rattle.stop_schedule.specs.Table.{Table}
+use Rattle.timetable.specs.Table.{Table}
 use Rattle.journey_model.specs.declared.situation.Ref.{Ref}
 use Rattle.journey_model.specs.declared.situation.Ref.TheVariants.{Route, Stop, Journey}
 

@@ -5,8 +5,8 @@ use Rattle.service_day.specs.Windows.{DayStarts}
 use Rattle.service_day.specs.contracts.windows.Window as window
 use Rattle.service_day.specs.contracts.zones.Zone as zone
 use Rattle.service_day.specs.declared.zones.Rules.{Rules}
-use Rattle.stop_schedule.specs.contracts.timetable.Timetable as timetable
-use Rattle.stop_schedule.specs.declared.timetable.Timetable.{Timetable}
+use Rattle.timetable.specs.contracts.timetable.Timetable as timetable
+use Rattle.timetable.specs.declared.timetable.Timetable.{Timetable}
 use Rattle.journey_model.specs.Schedules.{Schedule, schedule_from}
 use mathlib.Core.Path.{contract}
 

@@ -2,12 +2,12 @@
 ghost use Rattle.std.specs.Prelude.{◌≡◌, ◌<◌, ◌≤◌, length, true, option_map, IfSome};
 ghost use Rattle.service_day.specs.Starts.{IsDayStart};
 ghost use Rattle.gw_base.specs.Moments.{IsMoment};
-ghost use Rattle.stop_schedule.specs.Limits.{stop_limit};
-ghost use Rattle.stop_schedule.specs.Stops.{are_rising, are_timed};
+ghost use Rattle.timetable.specs.Limits.{stop_limit};
+ghost use Rattle.timetable.specs.Stops.{are_rising, are_timed};
 
 use service_day::{Day, Window, Zone};
 use std::marker::Model;
-use stop_schedule::{StopRow, Timetable, TripNo};
+use timetable::{StopRow, Timetable, TripNo};
 
 /// What journeys are read over: a timetable, the zone of its times, and a window. A contract sees the `Schedule` of the
 /// three. That the window is one of the zone is kept by whoever lends them.

@@ -4,7 +4,7 @@ ghost use Rattle.std.specs.List.{list_any};
 ghost use Rattle.journey_model.specs.Matching as spec;
 
 use crate::context::DatedTrip;
-use stop_schedule::{StopNo, StopRow};
+use timetable::{StopNo, StopRow};
 
 /// The stop that an update names by its `stop_id`.
 #[derive(Clone, Copy, Debug, PartialEq, Eq)]

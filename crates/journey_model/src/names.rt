@@ -2,13 +2,13 @@
 //! `specs/Names.antt`.
 ghost use Rattle.std.specs.Prelude.{◌≡◌};
 ghost use Rattle.std.specs.Option.{option_copied};
-ghost use Rattle.stop_schedule.specs.Seen.{seen};
+ghost use Rattle.timetable.specs.Seen.{seen};
 ghost use Rattle.journey_model.specs.Names as spec;
 
 use crate::situation::Ref;
 use gw_base::Text;
 use service_day::Day;
-use stop_schedule::Timetable;
+use timetable::Timetable;
 
 /// The text of a member, where it isn't empty: an empty one counts as missing.
 pub fn filled_text(text: &Option<Text>) -> Option<&str>

@@ -4,7 +4,7 @@ ghost use Rattle.journey_model.specs.Readings as spec;
 
 use gw_base::{List, Moment};
 use service_day::{Day, Instant};
-use stop_schedule::TripNo;
+use timetable::TripNo;
 
 /// How a stop of a journey reads.
 #[derive(Clone, Copy, Debug, PartialEq, Eq)]

@@ -1,7 +1,7 @@
 //! Situations: what a SIRI situation exchange says of routes, stops and journeys.
 use gw_base::{List, Text};
 use service_day::Day;
-use stop_schedule::{RouteNo, StopNo, TripNo};
+use timetable::{RouteNo, StopNo, TripNo};
 
 /// A span of time in which a situation holds (SIRI 2.0, ValidityPeriod), in whole seconds since 1970.
 #[derive(Clone, Copy, Debug, PartialEq, Eq)]

@@ -4,11 +4,11 @@ ghost use Rattle.std.specs.Prelude.{◌≡◌, ◌+ℤ◌, ◌-ℤ◌};
 ghost use Rattle.std.specs.Option.{ForSome};
 ghost use Rattle.gw_base.specs.Moments.{IsMoment};
 ghost use Rattle.journey_model.specs.Times as spec;
-ghost use Rattle.stop_schedule.specs.Planned.{planned};
+ghost use Rattle.timetable.specs.Planned.{planned};
 
 use crate::context::DatedTrip;
 use crate::fault::Fault;
-use stop_schedule::StopRow;
+use timetable::StopRow;
 
 // The longest delay that is read, either way, in seconds: a week.
 const LONGEST_DELAY: i128 = 604_800;
@@ -30,7 +30,7 @@ impl DatedTrip<'_> {
     ghost use Rattle.std.specs.Prelude.{◌≡◌, pos, slice_get};
     ghost use Rattle.std.specs.Option.{option_map_or};
     ghost use Rattle.journey_model.specs.Times.{ArePlanned};
-    ghost use Rattle.stop_schedule.specs.Planned.{planned};
+    ghost use Rattle.timetable.specs.Planned.{planned};
 
     /// The planned arrival and departure of a stop of the trip, in seconds since 1970.
     pub fn planned_times(&self, row: &StopRow) -> (i64, i64)

@@ -1,8 +1,8 @@
 -- A stop of a trip is known.
 use Rattle.std.proofs.Common.{◌≡◌, ℕ, ◌<◌, nat_lt, true, List, [], ◌∷◌, slice_get, Some, zero, suc, ltb-true}
 use Rattle.std.proofs.lemmas.Bool.{and_parts}
-use Rattle.stop_schedule.specs.Stops.{are_known}
-use Rattle.stop_schedule.specs.declared.stop_times.StopRow.{StopRow}
+use Rattle.timetable.specs.Stops.{are_known}
+use Rattle.timetable.specs.declared.stop_row.StopRow.{StopRow}
 
 -- each stop of a trip is one of so many
 pub known_at : (stops : ℕ) (rows : List StopRow) (place : ℕ) (row : StopRow) → are_known stops rows ≡ true

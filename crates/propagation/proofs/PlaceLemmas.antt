@@ -18,7 +18,7 @@ use Rattle.journey_model.specs.declared.matching.MatchFault.{MatchFault}
 use Rattle.journey_model.specs.declared.matching.MatchFault.TheVariants as match
 use Rattle.journey_model.specs.declared.matching.NamedStop.{NamedStop}
 use Rattle.journey_model.specs.declared.matching.NamedStop.TheVariants.{Missing, Unknown, Known}
-use Rattle.stop_schedule.specs.declared.stop_times.StopRow.{StopRow}
+use Rattle.timetable.specs.declared.stop_row.StopRow.{StopRow}
 use Rattle.propagation.specs.Saying.{placed_all, placed_at, placed_by, says_at, says_times}
 use Rattle.propagation.specs.Spreading.{are_rising_from}
 use Rattle.propagation.specs.declared.placing.Placed.{Placed}

@@ -16,8 +16,8 @@ use Rattle.gw_base.specs.declared.messages.Feed.{Feed}
 use Rattle.gw_base.specs.declared.messages.StopUpdate.{StopUpdate}
 use Rattle.gw_base.specs.declared.messages.TripUpdate.{TripUpdate}
 use Rattle.service_day.specs.Windows.{start_in}
-use Rattle.stop_schedule.specs.Planned.{planned}
-use Rattle.stop_schedule.specs.declared.stop_times.StopRow.{StopRow}
+use Rattle.timetable.specs.Planned.{planned}
+use Rattle.timetable.specs.declared.stop_row.StopRow.{StopRow}
 use Rattle.gw_base.specs.Chains.{◌>>=◌}
 use Rattle.journey_model.specs.FeedReadings as feeds
 use Rattle.journey_model.specs.FeedReadings.{day_named, entity_said, given_all, is_last, last_of_each, reading_said, readings, recorded_in, said_of_day, said_of_trip, said_on, stops_said, trip_named, update_said, with_reading}

@@ -8,9 +8,9 @@ use Rattle.std.proofs.lemmas.List.Folds.{list_any-append}
 use Rattle.std.specs.List.{list_all, range_with_len}
 use Rattle.std.specs.Option.{option_map_or, option_or}
 use Rattle.std.proofs.lemmas.List.FromFn.{map-range_with_len_more}
-use Rattle.stop_schedule.specs.Planned.{planned}
-use Rattle.stop_schedule.specs.declared.stop_times.StopRow.{StopRow}
-use Rattle.stop_schedule.proofs.IdLemmas.{and-left, and-right}
+use Rattle.timetable.specs.Planned.{planned}
+use Rattle.timetable.specs.declared.stop_row.StopRow.{StopRow}
+use Rattle.timetable.proofs.IdLemmas.{and-left, and-right}
 use Rattle.gw_base.specs.declared.messages.StopUpdate.{StopUpdate}
 use Rattle.gw_base.proofs.Elements.{or_assoc, or_none}
 use Rattle.journey_model.proofs.Suppliers.{Rise, last_supplier, supplier-last}

@@ -9,7 +9,7 @@ ghost use Rattle.propagation.specs.Folding.{bare_feed, is_dated};
 use gw_base::{Moment, TripUpdate};
 use journey_model::{Context, filled_text};
 use service_day::{Day, DayForm, local_day, read_day};
-use stop_schedule::TripNo;
+use timetable::TripNo;
 
 // The moment of that many seconds since 1970, where there is one.
 fn moment_of(secs: u64) -> Option<Moment>

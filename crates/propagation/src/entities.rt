@@ -15,7 +15,7 @@ use gw_base::{Boxed, Entity, TripUpdate};
 use journey_model::{Context, DatedReading, DatedTrip, Fault};
 use service_day::Day;
 use std::alloc::{AllocError, Global};
-use stop_schedule::TripNo;
+use timetable::TripNo;
 
 // What an update says of a trip on a day of the window, on which the trip runs.
 fn read_dated(

@@ -13,7 +13,7 @@ use journey_model::{Context, DatedReading, Fault, Report};
 use service_day::Day;
 use std::alloc::{AllocError, Global};
 use std::collections::HashSet;
-use stop_schedule::TripNo;
+use timetable::TripNo;
 
 /// What a feed says of journeys.
 #[derive(Debug, Drop)]

@@ -16,7 +16,7 @@ use gw_base::stop_relation::{NO_DATA, SCHEDULED, SKIPPED};
 use gw_base::{List, StopUpdate};
 use journey_model::{DatedTrip, Fault, MatchFault, NamedStop, filled_text, match_update};
 use std::alloc::Global;
-use stop_schedule::{StopNo, Timetable, TripNo};
+use timetable::{StopNo, Timetable, TripNo};
 
 /// What an update says at its place.
 #[derive(Clone, Copy, Debug, PartialEq, Eq)]

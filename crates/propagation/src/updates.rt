@@ -12,7 +12,7 @@ use gw_base::TripUpdate;
 use gw_base::trip_relation::{CANCELED, SCHEDULED};
 use journey_model::{DatedTrip, Fault, JourneyReading};
 use std::alloc::Global;
-use stop_schedule::Timetable;
+use timetable::Timetable;
 
 // What the updates of the stops of a trip say.
 fn stops_said(

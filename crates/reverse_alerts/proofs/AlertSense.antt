@@ -2,8 +2,8 @@
 use Rattle.std.proofs.Common.{◌≡◌, ℕ, List, [], ◌∷◌, map, Bool, true, false, ◌&&◌, ◌||◌, if◌then◌else◌, filter, is_some, is_none, Option, Some, None, refl, ap, ◌∙◌}
 use Rattle.std.specs.List.{list_all, list_any}
 use Rattle.std.proofs.lemmas.Bool.{and_parts, or_from}
-use Rattle.stop_schedule.specs.Sound.{IsSound}
-use Rattle.stop_schedule.specs.Table.{Table}
+use Rattle.timetable.specs.Sound.{IsSound}
+use Rattle.timetable.specs.Table.{Table}
 use Rattle.journey_model.specs.declared.situation.Situation.{Situation}
 use Rattle.journey_model.specs.declared.situation.ValidPeriod.{ValidPeriod}
 use Rattle.alert_map.specs.Alerts.{alert, period_of, translations}

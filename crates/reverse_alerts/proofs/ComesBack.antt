@@ -5,8 +5,8 @@ use Rattle.std.specs.Option.{option_or}
 use Rattle.std.proofs.lemmas.Bool.{and_parts}
 use Rattle.gw_base.specs.declared.member.Member.{Member}
 use Rattle.gw_base.specs.Chains.{unless_fault}
-use Rattle.stop_schedule.specs.Sound.{IsSound}
-use Rattle.stop_schedule.specs.Table.{Table}
+use Rattle.timetable.specs.Sound.{IsSound}
+use Rattle.timetable.specs.Table.{Table}
 use Rattle.journey_model.specs.Schedules.{Schedule}
 use Rattle.journey_model.specs.declared.fault.Fault.TheVariants.{BadField}
 use Rattle.journey_model.specs.declared.situation.Ref.{Ref}

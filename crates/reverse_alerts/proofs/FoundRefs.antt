@@ -5,7 +5,7 @@ use Rattle.std.proofs.lemmas.Bool.{and_from}
 use Rattle.std.proofs.lemmas.List.Elements.{filter_map-append}
 use Rattle.gw_base.specs.declared.member.Member.{Member}
 use Rattle.service_day.specs.Days.{IsDay}
-use Rattle.stop_schedule.specs.Table.{Table}
+use Rattle.timetable.specs.Table.{Table}
 use Rattle.gw_base.specs.Chains.{◌>>=◌}
 use Rattle.gw_base.proofs.Elements.{all_append}
 use Rattle.journey_model.specs.declared.fault.Fault.{Fault}

@@ -2,7 +2,7 @@
 use Rattle.std.proofs.Common.{◌≡◌, ℕ, ◌<◌, ◌-◌, List, [], ◌∷◌, length, Bool, true, false, if◌then◌else◌, position, bytes_eq, Option, Some, None, Result, Ok, Err, codes, refl, ap, subst, ◌∙◌, ℤ, pos, arith}
 use Rattle.std.specs.List.{list_all}
 use Rattle.gw_base.specs.declared.member.Member.{Member}
-use Rattle.stop_schedule.specs.Table.{Table}
+use Rattle.timetable.specs.Table.{Table}
 use Rattle.gw_base.specs.Chains.{◌>>=◌}
 use Rattle.journey_model.specs.Schedules.{Schedule}
 use Rattle.journey_model.specs.declared.fault.Fault.{Fault}

@@ -7,9 +7,9 @@ use Rattle.service_day.specs.Days.{IsDay}
 use Rattle.service_day.specs.DayTexts.{compact_text, day_of}
 use Rattle.service_day.specs.declared.days.DayForm.TheVariants.{Compact}
 use Rattle.service_day.proofs.DayTextLemmas.{compact_day-compact_text, length-compact_text}
-use Rattle.stop_schedule.specs.Ids.{are_ids}
-use Rattle.stop_schedule.specs.Sound.{IsSound}
-use Rattle.stop_schedule.specs.Table.{Table}
+use Rattle.timetable.specs.Ids.{are_ids}
+use Rattle.timetable.specs.Sound.{IsSound}
+use Rattle.timetable.specs.Table.{Table}
 use Rattle.journey_model.specs.Ids.{id_of}
 use Rattle.journey_model.specs.Names.{filled_text, journey_named, route_named, stop_named}
 use Rattle.journey_model.specs.declared.situation.Ref.{Ref}

@@ -7,9 +7,9 @@ use Rattle.gw_base.specs.Moments.{IsMoment}
 use Rattle.gw_base.proofs.Elements.{all_filter}
 use Rattle.service_day.specs.Utc.{moment_text}
 use Rattle.service_day.proofs.MomentTextLemmas.{IsUtf8-dashed_text, IsUtf8-moment_text}
-use Rattle.stop_schedule.specs.Ids.{are_ids}
-use Rattle.stop_schedule.specs.Sound.{IsSound}
-use Rattle.stop_schedule.specs.Table.{Table}
+use Rattle.timetable.specs.Ids.{are_ids}
+use Rattle.timetable.specs.Sound.{IsSound}
+use Rattle.timetable.specs.Table.{Table}
 use Rattle.journey_model.specs.Ids.{id_of}
 use Rattle.journey_model.specs.declared.situation.Ref.{Ref}
 use Rattle.journey_model.specs.declared.situation.Ref.TheVariants.{Route, Stop, Journey}

@@ -19,7 +19,7 @@ use Rattle.gw_base.specs.declared.messages.Entity.{Entity}
 use Rattle.gw_base.specs.declared.messages.Period.{Period}
 use Rattle.gw_base.proofs.Elements.{or_neither}
 use Rattle.gw_base.specs.Chains.{unless_fault}
-use Rattle.stop_schedule.specs.Table.{Table}
+use Rattle.timetable.specs.Table.{Table}
 use Rattle.journey_model.specs.declared.fault.Fault.{Fault}
 use Rattle.journey_model.specs.declared.fault.Fault.TheVariants.{BadField}
 use Rattle.journey_model.specs.Reports.{aside_from}

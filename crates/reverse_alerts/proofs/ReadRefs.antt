@@ -7,8 +7,8 @@ use Rattle.gw_base.specs.declared.member.Member.{Member}
 use Rattle.service_day.specs.Days.{IsDay}
 use Rattle.service_day.specs.DayTexts.{dashed_text}
 use Rattle.service_day.proofs.MomentTextLemmas.{day_of-dashed_text, some-dashed_text}
-use Rattle.stop_schedule.specs.Sound.{IsSound}
-use Rattle.stop_schedule.specs.Table.{Table}
+use Rattle.timetable.specs.Sound.{IsSound}
+use Rattle.timetable.specs.Table.{Table}
 use Rattle.gw_base.specs.Chains.{◌>>=◌}
 use Rattle.journey_model.specs.Ids.{id_of}
 use Rattle.journey_model.specs.declared.fault.Fault.{Fault}

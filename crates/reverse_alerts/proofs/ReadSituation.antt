@@ -2,8 +2,8 @@
 use Rattle.std.proofs.Common.{◌≡◌, ℕ, ◌==◌, List, [], ◌∷◌, length, map, Bool, true, not, if◌then◌else◌, option_map, Option, Some, None, Result, Ok, Err, codes, refl, sym, ap, subst, ◌∙◌, ℤ, pos}
 use Rattle.std.specs.List.{AllByRecursion}
 use Rattle.gw_base.specs.declared.member.Member.{Member}
-use Rattle.stop_schedule.specs.Sound.{IsSound}
-use Rattle.stop_schedule.specs.Table.{Table}
+use Rattle.timetable.specs.Sound.{IsSound}
+use Rattle.timetable.specs.Table.{Table}
 use Rattle.gw_base.specs.Chains.{◌>>=◌}
 use Rattle.journey_model.specs.Schedules.{Schedule}
 use Rattle.journey_model.specs.declared.fault.Fault.{Fault}

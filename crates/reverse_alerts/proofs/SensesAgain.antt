@@ -3,8 +3,8 @@ use Rattle.std.proofs.Common.{◌≡◌, ℕ, List, [], ◌∷◌, map, if◌the
 use Rattle.std.specs.List.{cons_option}
 use Rattle.gw_base.specs.declared.messages.Alert.{Alert}
 use Rattle.gw_base.specs.declared.messages.Entity.{Entity}
-use Rattle.stop_schedule.specs.Sound.{IsSound}
-use Rattle.stop_schedule.specs.Table.{Table}
+use Rattle.timetable.specs.Sound.{IsSound}
+use Rattle.timetable.specs.Table.{Table}
 use Rattle.journey_model.specs.declared.fault.Fault.{Fault}
 use Rattle.journey_model.specs.declared.situation.Situation.{Situation}
 use Rattle.journey_model.specs.FeedReadings.{given}

@@ -2,7 +2,7 @@
 use Rattle.std.proofs.Common.{◌≡◌, ◌∙◌, ◌++◌, ℕ, ℤ, Bool, List, Some, Result, Err, codes, ap, refl, sym}
 use Rattle.std.proofs.lemmas.List.{append-nil}
 use Rattle.gw_base.specs.declared.messages.Alert.{Alert}
-use Rattle.stop_schedule.specs.Table.{Table}
+use Rattle.timetable.specs.Table.{Table}
 use Rattle.journey_model.specs.declared.fault.Fault.{Fault}
 use Rattle.journey_model.specs.declared.report.Report.{Report}
 use Rattle.journey_model.specs.declared.situation.Situation.{Situation}

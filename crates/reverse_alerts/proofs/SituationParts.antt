@@ -1,7 +1,7 @@
 -- The tree of a situation as an object whose members may be missing, and what each name finds there.
 use Rattle.std.proofs.Common.{◌≡◌, ℕ, List, [], ◌∷◌, ◌++◌, map, if◌then◌else◌, option_map, Option, Some, None, codes, append-nil, append_assoc, refl, sym, ap, subst, ◌∙◌, ℤ, pos, int_eq}
 use Rattle.gw_base.proofs.Elements.{or_none}
-use Rattle.stop_schedule.specs.Table.{Table}
+use Rattle.timetable.specs.Table.{Table}
 use Rattle.journey_model.specs.declared.situation.Situation.{Situation}
 use Rattle.serde_json.specs.Data.{Data, string}
 use Rattle.serde_json.specs.Find.{get}

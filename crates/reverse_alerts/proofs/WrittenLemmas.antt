@@ -6,7 +6,7 @@ use Rattle.json.specs.Print.{escape_byte, quoted}
 use Rattle.service_day.specs.Utc.{moment_text}
 use Rattle.serde_json.specs.Data.{Items, array, string}
 use Rattle.serde_json.specs.Written.{comma_if, compact_text, items_text, members_text}
-use Rattle.stop_schedule.specs.Table.{Table}
+use Rattle.timetable.specs.Table.{Table}
 use Rattle.journey_model.specs.declared.situation.Ref.{Ref}
 use Rattle.journey_model.specs.declared.situation.Ref.TheVariants.{Route, Stop, Journey}
 use Rattle.journey_model.specs.declared.situation.Situation.{Situation}

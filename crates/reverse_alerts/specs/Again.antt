@@ -6,7 +6,7 @@ use Rattle.journey_model.specs.declared.situation.Situation.{Situation}
 use Rattle.serde_json.specs.Data.{Data}
 use Rattle.siri_json.specs.Deliveries.{tree_of}
 use Rattle.siri_situations.specs.Situations.{verdicts}
-use Rattle.stop_schedule.specs.Table.{Table}
+use Rattle.timetable.specs.Table.{Table}
 use Rattle.alert_map.specs.Alerts.{alert, alert_message}
 use Rattle.reverse_alerts.specs.Taken.{entity_verdict}
 

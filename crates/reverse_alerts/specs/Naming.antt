@@ -2,7 +2,7 @@
 use Rattle.std.specs.Prelude.{◌+◌, ℕ, List, length, [], ◌∷◌, ◌++◌, Option, Some, None}
 use Rattle.std.specs.List.{filter}
 use Rattle.alert_map.specs.Known.{IsEachKnown}
-use Rattle.stop_schedule.specs.Table.{Table}
+use Rattle.timetable.specs.Table.{Table}
 use Rattle.journey_model.specs.declared.situation.Ref.{Ref}
 use Rattle.reverse_alerts.specs.Kept.{is_journey, is_route, is_stop}
 use Rattle.reverse_alerts.specs.declared.selectors.NamedRefs.{NamedRefs}

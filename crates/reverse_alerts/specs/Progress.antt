@@ -4,7 +4,7 @@ use Rattle.std.specs.Option.{option_or}
 use Rattle.serde_json.specs.Written.{comma_if}
 use Rattle.gw_base.specs.Count.{last_count}
 use Rattle.gw_base.specs.declared.messages.Alert.{Alert}
-use Rattle.stop_schedule.specs.Table.{Table}
+use Rattle.timetable.specs.Table.{Table}
 use Rattle.journey_model.specs.declared.fault.Fault.{Fault}
 use Rattle.journey_model.specs.declared.fault.Fault.TheVariants.{NoAffects}
 use Rattle.journey_model.specs.declared.report.Report.{Report}

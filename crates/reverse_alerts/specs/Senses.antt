@@ -7,7 +7,7 @@ use Rattle.gw_base.specs.Enums.{medical_emergency, modified_service, no_service,
 use Rattle.gw_base.specs.declared.messages.Alert.{Alert}
 use Rattle.gw_base.specs.declared.messages.Period.{Period}
 use Rattle.gw_base.specs.declared.messages.Translation.{Translation}
-use Rattle.stop_schedule.specs.Table.{Table}
+use Rattle.timetable.specs.Table.{Table}
 use Rattle.journey_model.specs.Names.{filled_text}
 use Rattle.journey_model.specs.declared.situation.Ref.{Ref}
 use Rattle.journey_model.specs.declared.situation.ValidPeriod.{ValidPeriod}

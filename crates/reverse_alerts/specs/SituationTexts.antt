@@ -6,7 +6,7 @@ use Rattle.serde_json.specs.Written.{comma_if}
 use Rattle.gw_base.specs.Limits.{last_moment}
 use Rattle.gw_base.specs.declared.messages.Period.{Period}
 use Rattle.service_day.specs.DayTexts.{dashed_text}
-use Rattle.stop_schedule.specs.Table.{Table}
+use Rattle.timetable.specs.Table.{Table}
 use Rattle.journey_model.specs.Ids.{id_of}
 use Rattle.journey_model.specs.declared.situation.Ref.{Ref}
 use Rattle.journey_model.specs.declared.situation.Ref.TheVariants.{Route, Stop, Journey}

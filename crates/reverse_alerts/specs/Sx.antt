@@ -6,7 +6,7 @@ use Rattle.journey_model.specs.FeedReadings.{is_differential}
 use Rattle.journey_model.specs.Schedules.{Schedule}
 use Rattle.journey_model.specs.declared.report.Report.{Report}
 use Rattle.journey_model.specs.declared.situation.Situation.{Situation}
-use Rattle.stop_schedule.specs.Table.{Table}
+use Rattle.timetable.specs.Table.{Table}
 use Rattle.alert_map.specs.Alerts.{alert}
 use Rattle.reverse_alerts.specs.Again.{SaysAgain}
 use Rattle.reverse_alerts.specs.Senses.{Sense, sense}

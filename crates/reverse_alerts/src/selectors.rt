@@ -1,6 +1,6 @@
 //! What the selectors of an alert name. The functions meet `specs/Kept.antt`.
 ghost use Rattle.std.specs.Prelude.{◌≡◌, ◌<◌, [], OnOk};
-ghost use Rattle.stop_schedule.specs.Seen.{seen};
+ghost use Rattle.timetable.specs.Seen.{seen};
 ghost use Rattle.reverse_alerts.specs.Kept as spec;
 ghost use Rattle.reverse_alerts.specs.Naming as naming;
 
@@ -8,7 +8,7 @@ use gw_base::{List, Selector, TripDescriptor};
 use journey_model::{Ref, filled_text, journey_named, route_named, stop_named};
 use service_day::{DayForm, read_day};
 use std::alloc::{AllocError, Global};
-use stop_schedule::Timetable;
+use timetable::Timetable;
 
 /// What the selectors of an alert name, each kind in order.
 #[derive(Drop)]

@@ -1,14 +1,14 @@
 //! The texts of a feed's alerts are UTF-8, so a delivery can say them. Laws, which change nothing when they run.
 ghost use Rattle.std.specs.Prelude.{All, IfSome, IsUtf8};
 ghost use Rattle.std.specs.Option.{option_copied};
-ghost use Rattle.stop_schedule.specs.Seen.{seen};
+ghost use Rattle.timetable.specs.Seen.{seen};
 ghost use Rattle.reverse_alerts.specs.Sayable.{HasUtf8};
 ghost use Rattle.reverse_alerts.specs.Taken.{situations};
 ghost use Rattle.reverse_alerts.specs.Texts.{HasTexts, SaysTexts};
 
 use crate::senses::first_text;
 use gw_base::{Alert, Entity};
-use stop_schedule::Timetable;
+use timetable::Timetable;
 
 // A text is UTF-8.
 fn utf8_law(text: &str)

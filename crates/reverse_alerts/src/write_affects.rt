@@ -1,6 +1,6 @@
 //! What a situation affects (SIRI 2.0, Affects), written. The functions meet `specs/SituationTexts.antt`.
 ghost use Rattle.std.specs.Prelude.{◌≡◌, ◌++◌, false, OnOk};
-ghost use Rattle.stop_schedule.specs.Seen.{seen};
+ghost use Rattle.timetable.specs.Seen.{seen};
 ghost use Rattle.alert_map.specs.Known.{IsEachKnown, IsKnown};
 ghost use Rattle.reverse_alerts.specs.Naming.{AreKnown};
 ghost use Rattle.reverse_alerts.specs.SituationTexts as spec;
@@ -11,7 +11,7 @@ use journey_model::Ref;
 use service_day::{Day, day_text};
 use siri_calls::{put_comma, put_text};
 use std::alloc::AllocError;
-use stop_schedule::Timetable;
+use timetable::Timetable;
 
 // Adds a line by its id.
 fn put_line(out: &mut Bytes, id: &str) -> Result<(), AllocError>

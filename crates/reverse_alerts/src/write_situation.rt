@@ -3,7 +3,7 @@
 ghost use Rattle.std.specs.Prelude.{◌≡◌, ◌++◌, false, All, codes, map, OnOk};
 ghost use Rattle.std.specs.Option.{option_copied};
 ghost use Rattle.siri_calls.specs.Written.DeliveryTexts.{led_moment};
-ghost use Rattle.stop_schedule.specs.Seen.{seen};
+ghost use Rattle.timetable.specs.Seen.{seen};
 ghost use Rattle.reverse_alerts.specs.Kept.{all_named};
 ghost use Rattle.reverse_alerts.specs.Naming.{AreKnown, refs_of};
 ghost use Rattle.reverse_alerts.specs.Senses as senses;
@@ -22,7 +22,7 @@ use gw_base::alert_effect::{
 use gw_base::{Alert, Bytes, Moment, Period, Translation};
 use siri_calls::{put_comma, put_moment, put_text};
 use std::alloc::AllocError;
-use stop_schedule::Timetable;
+use timetable::Timetable;
 
 // The word of an effect (SIRI 2.0, Condition), which an unknown one lacks.
 fn condition_of(effect: &i32) -> Option<&'static str>

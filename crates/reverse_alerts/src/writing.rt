@@ -3,7 +3,7 @@ ghost use Rattle.std.specs.Prelude.{◌≡◌, ◌-◌, ◌++◌, ◌<◌, All, 
 ghost use Rattle.std.specs.Option.{option_copied};
 ghost use Rattle.gw_base.specs.Count.{last_count};
 ghost use Rattle.serde_json.specs.Written.{comma_if};
-ghost use Rattle.stop_schedule.specs.Seen.{seen};
+ghost use Rattle.timetable.specs.Seen.{seen};
 ghost use Rattle.reverse_alerts.specs.Kept.{all_named, selectors_passed};
 ghost use Rattle.reverse_alerts.specs.Naming.{refs_of};
 ghost use Rattle.reverse_alerts.specs.Progress as spec;
@@ -19,7 +19,7 @@ use gw_base::{Alert, Bytes, Entity, List, Moment};
 use journey_model::{Fault, Report};
 use siri_calls::{put_comma, put_moment};
 use std::alloc::{AllocError, Global};
-use stop_schedule::Timetable;
+use timetable::Timetable;
 
 /// A delivery of situations that is being written.
 #[derive(Drop)]

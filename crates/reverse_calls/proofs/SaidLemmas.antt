@@ -1,7 +1,7 @@
 -- What the readings of a feed keep, for the delivery that says them.
 use Rattle.std.proofs.Common.{◌≡◌, ℕ, List, All, Result, Ok, Err, IfOk, sym, subst, ℤ}
 use Rattle.gw_base.specs.Moments.{IsMoment}
-use Rattle.stop_schedule.specs.Sound.{IsSound}
+use Rattle.timetable.specs.Sound.{IsSound}
 use Rattle.journey_model.specs.Schedules.{Schedule}
 use Rattle.journey_model.specs.declared.readings.DatedReading.{DatedReading}
 use Rattle.siri_calls.specs.Written.DeliveryTree.{delivery_text}

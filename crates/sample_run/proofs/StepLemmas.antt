@@ -15,11 +15,11 @@ use Rattle.siri_json.specs.declared.delivery.DeliveryFault.{DeliveryFault}
 use Rattle.siri_json.specs.declared.delivery.DeliveryFault.TheVariants.{NotDelivery, NotJson}
 use Rattle.siri_json.specs.declared.delivery.DeliveryFault.TheVariants as deliveries
 use Rattle.stop_schedule.specs.Answers.{is_free as is_free_table}
-use Rattle.stop_schedule.specs.Seen.{seen}
+use Rattle.timetable.specs.Seen.{seen}
 use Rattle.stop_schedule.specs.Timetable.{timetable}
 use Rattle.stop_schedule.specs.declared.table_fault.TableFault.{TableFault}
 use Rattle.stop_schedule.specs.declared.table_fault.TableFault.TheVariants as tables
-use Rattle.stop_schedule.specs.declared.timetable.Timetable.{Timetable}
+use Rattle.timetable.specs.declared.timetable.Timetable.{Timetable}
 use Rattle.gateway_core.specs.Arrivals.{Arrival, moments_of, schedule_at}
 use Rattle.gateway_core.specs.Feeds.{IsFeedOf}
 use Rattle.gateway_core.specs.Standing.{Kept}

@@ -6,11 +6,11 @@ use Rattle.gw_base.specs.declared.messages.Feed.{Feed}
 use Rattle.gw_base.specs.Limits.{body_limit}
 use Rattle.service_day.specs.Windows.{IsWindow}
 use Rattle.service_day.specs.Zones.{IsRuleZone}
-use Rattle.stop_schedule.specs.Seen.{seen}
-use Rattle.stop_schedule.specs.Table.{Table}
+use Rattle.timetable.specs.Seen.{seen}
+use Rattle.timetable.specs.Table.{Table}
 use Rattle.stop_schedule.specs.Timetable.{timetable}
 use Rattle.stop_schedule.specs.declared.table_fault.TableFault.{TableFault}
-use Rattle.stop_schedule.specs.declared.timetable.Timetable.{Timetable}
+use Rattle.timetable.specs.declared.timetable.Timetable.{Timetable}
 use Rattle.feed_reading.specs.Faults.{IsTold}
 use Rattle.feed_reading.specs.Tables.{MeansFeed}
 use Rattle.feed_reading.specs.declared.fault.FeedFault.{FeedFault}

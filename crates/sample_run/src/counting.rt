@@ -5,8 +5,9 @@ ghost use Rattle.gw_base.specs.Count.{last_count};
 ghost use Rattle.journey_model.specs.declared.readings.JourneyReading as readings;
 ghost use Rattle.propagation.specs.Feeds.{IsServable};
 ghost use Rattle.sample_maker.specs.Pieces.{all_below};
-ghost use Rattle.stop_schedule.specs.Limits.{row_limit, stop_limit};
-ghost use Rattle.stop_schedule.specs.Seen.{seen};
+ghost use Rattle.stop_schedule.specs.Limits.{row_limit};
+ghost use Rattle.timetable.specs.Limits.{stop_limit};
+ghost use Rattle.timetable.specs.Seen.{seen};
 ghost use Rattle.stop_schedule.specs.declared.table_file.TableFile.TheVariants as file;
 ghost use Rattle.sample_run.specs.Counts as spec;
 ghost use Rattle.sample_run.specs.Steps as steps;
@@ -17,7 +18,7 @@ use gw_base::{Entity, Feed};
 use journey_model::{Context, DatedReading, JourneyReading, StopReading};
 use propagation::readings_of;
 use std::alloc::{AllocError, Global};
-use stop_schedule::{Timetable, TripNo};
+use timetable::{Timetable, TripNo};
 
 // How the stops of a trip read that the feed gives.
 fn given(context: &Context<'_>, one: &DatedReading) -> Tally

@@ -8,7 +8,7 @@ use journey_model::{
 use service_day::{DayForm, read_day};
 use std::alloc::{AllocError, Global};
 use std::process::Abort;
-use stop_schedule::{RouteNo, StopNo, StopRow, Timetable, TripNo};
+use timetable::{RouteNo, StopNo, StopRow, Timetable, TripNo};
 
 // Faults with their texts.
 static TEXTS: [(Fault, &str); 6] = [

@@ -11,7 +11,7 @@ use sparse_planner::plan;
 use std::alloc::{AllocError, Global};
 use std::process::Abort;
 use std::test::Fail;
-use stop_schedule::{StopNo, StopRow, TripNo};
+use timetable::{StopNo, StopRow, TripNo};
 
 // The start of 2024-05-01 in Paris.
 const START: i64 = 1_714_514_400;

@@ -3,7 +3,7 @@ use gateway_core::Setting;
 use service_day::{DayForm, Window, Zone, read_day};
 use std::alloc::Global;
 use std::process::Abort;
-use stop_schedule::Timetable;
+use timetable::Timetable;
 use test_folder::{paris, sample};
 
 // The timetable over three days from 2024-05-01 on.

@@ -7,14 +7,14 @@ use Rattle.std.proofs.lemmas.List.Elements.{All-get_or, All-from_recursion}
 use Rattle.std.specs.List.{AllByRecursion, list_all}
 use Rattle.service_day.specs.Starts.{IsDayStart}
 use Rattle.service_day.specs.Windows.{start_in}
-use Rattle.stop_schedule.proofs.StopStep.{all-at}
-use Rattle.stop_schedule.specs.Limits.{stop_limit}
-use Rattle.stop_schedule.specs.Held.{are_in_range, is_in_range, stops_held}
-use Rattle.stop_schedule.specs.Planned.{planned}
-use Rattle.stop_schedule.specs.Stops.{are_known, are_rising, are_stops_of, are_timed, is_timed}
-use Rattle.stop_schedule.specs.declared.carried.CarriedTrip.{CarriedTrip}
-use Rattle.stop_schedule.specs.declared.stop_times.StopRow.{StopRow}
-use Rattle.stop_schedule.proofs.SoundLemmas.{each-in, stops-in}
+use Rattle.timetable.proofs.IdLemmas.{all-at}
+use Rattle.timetable.specs.Limits.{stop_limit}
+use Rattle.timetable.specs.Held.{are_in_range, is_in_range, stops_held}
+use Rattle.timetable.specs.Planned.{planned}
+use Rattle.timetable.specs.Stops.{are_known, are_rising, are_stops_of, are_timed, is_timed}
+use Rattle.timetable.specs.declared.carried_trip.CarriedTrip.{CarriedTrip}
+use Rattle.timetable.specs.declared.stop_row.StopRow.{StopRow}
+use Rattle.timetable.proofs.SoundLemmas.{each-in, stops-in}
 use Rattle.journey_model.specs.Dated.{run_of}
 use Rattle.journey_model.specs.Readings.{AreMoments, are_near, fits_trip, is_near}
 use Rattle.journey_model.specs.Runs.{Run}

@@ -4,7 +4,7 @@ use Rattle.std.specs.Prelude.{slice_get}
 use Rattle.std.proofs.lemmas.List.{append-nil}
 use Rattle.std.proofs.lemmas.Option.{get_or_from_slice_get}
 use Rattle.std.specs.List.{enumerate_from, flat_map, zip}
-use Rattle.stop_schedule.specs.declared.stop_times.StopRow.{StopRow}
+use Rattle.timetable.specs.declared.stop_row.StopRow.{StopRow}
 use Rattle.journey_model.specs.Ids.{id_of}
 use Rattle.journey_model.specs.declared.readings.StopReading.{StopReading}
 use Rattle.show_command.specs.Lines.{numbered_line, stop_line}

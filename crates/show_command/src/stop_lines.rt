@@ -2,7 +2,7 @@
 ghost use Rattle.std.specs.Prelude.{◌≡◌, ◌++◌, ◌<◌, OnOk, IfOk, All, length, true};
 ghost use Rattle.std.specs.List.{zip};
 ghost use Rattle.gw_base.specs.Moments.{IsMoment};
-ghost use Rattle.stop_schedule.specs.Stops.{are_known};
+ghost use Rattle.timetable.specs.Stops.{are_known};
 ghost use Rattle.journey_model.specs.Readings.{AreMoments};
 ghost use Rattle.show_command.specs.Lines as spec;
 
@@ -11,7 +11,7 @@ use itoa::Buffer;
 use journey_model::StopReading;
 use service_day::{Day, day_text, write_moment};
 use std::alloc::{AllocError, Global};
-use stop_schedule::{StopRow, Timetable};
+use timetable::{StopRow, Timetable};
 
 /// The words for a journey: its service day and the id of its trip.
 pub(crate) fn journey_name(alloc: Global, day: Day, trip_id: &str) -> Result<Bytes, AllocError>

@@ -8,8 +8,8 @@ use Rattle.journey_model.specs.Matching.{call_place, first_place, fits_order, is
 use Rattle.journey_model.specs.Runs.{Run}
 use Rattle.journey_model.specs.declared.fault.Fault.{Fault}
 use Rattle.journey_model.specs.declared.fault.Fault.TheVariants.{OutOfOrder}
-use Rattle.stop_schedule.specs.declared.stop_times.StopRow.{StopRow}
-use Rattle.stop_schedule.proofs.IdLemmas.{and-left, and-right}
+use Rattle.timetable.specs.declared.stop_row.StopRow.{StopRow}
+use Rattle.timetable.proofs.IdLemmas.{and-left, and-right}
 use Rattle.siri_calls.specs.Journeys.{Call}
 use Rattle.siri_calls.specs.Judged.{calls_placed, numbered, placed_calls, stops_named}
 use Rattle.siri_calls.specs.MatchedCalls.{rise_from}

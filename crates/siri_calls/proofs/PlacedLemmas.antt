@@ -14,8 +14,8 @@ use Rattle.journey_model.specs.declared.fault.Fault.TheVariants.{OutOfOrder, Unk
 use Rattle.siri_calls.specs.Journeys.{Call}
 use Rattle.siri_calls.specs.Judged.{numbered, placed_calls, stop_named, stop_of_trip, stops_named}
 use Rattle.siri_calls.specs.MatchedCalls.{is_unknown, place_named, unplaced}
-use Rattle.stop_schedule.specs.declared.stop_times.StopRow.{StopRow}
-use Rattle.stop_schedule.proofs.IdLemmas.{and-right}
+use Rattle.timetable.specs.declared.stop_row.StopRow.{StopRow}
+use Rattle.timetable.proofs.IdLemmas.{and-right}
 use Rattle.siri_calls.proofs.PlaceLemmas.{any-split, is_some-position}
 
 -- ---- a stop that has a place is one of the trip

@@ -24,8 +24,8 @@ use Rattle.journey_model.specs.declared.readings.JourneyRecord.{JourneyRecord}
 use Rattle.journey_model.specs.declared.readings.StopReading.{StopReading}
 use Rattle.journey_model.specs.declared.readings.StopReading.TheVariants.{Skipped}
 use Rattle.journey_model.proofs.Delays.{event_near}
-use Rattle.stop_schedule.specs.Planned.{planned}
-use Rattle.stop_schedule.specs.declared.stop_times.StopRow.{StopRow}
+use Rattle.timetable.specs.Planned.{planned}
+use Rattle.timetable.specs.declared.stop_row.StopRow.{StopRow}
 use Rattle.siri_calls.specs.Deliveries.{AreServable, CanServe}
 use Rattle.siri_calls.specs.Journeys.{Call, Header}
 use Rattle.siri_calls.specs.Judged as spec

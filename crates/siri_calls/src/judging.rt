@@ -18,7 +18,7 @@ use journey_model::{Context, Fault, JourneyReading, JourneyRecord};
 use service_day::Day;
 use siri_json::ReadFault;
 use std::alloc::Global;
-use stop_schedule::TripNo;
+use timetable::TripNo;
 
 // The trip that a journey is of, unless it is an extra journey.
 fn trip_named(context: &Context<'_>, head: &Header<'_>) -> Result<TripNo, Fault>

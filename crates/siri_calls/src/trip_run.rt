@@ -1,6 +1,6 @@
 //! What a journey is read over.
 use journey_model::DatedTrip;
-use stop_schedule::Timetable;
+use timetable::Timetable;
 
 /// A trip on a day on which it runs, with the timetable that it is of.
 #[derive(Clone, Copy)]

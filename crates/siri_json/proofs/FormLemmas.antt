@@ -6,7 +6,7 @@ use Rattle.std.specs.Char.{is_ascii_digit}
 use Rattle.std.specs.List.{list_all}
 use Rattle.std.specs.Str.Parse.{ParsesUnsigned}
 use Rattle.std.proofs.lemmas.Str.Parse.{IsNumeralModel, numerals_by_fold, parse_digits}
-use Rattle.stop_schedule.specs.Forms.{digits_value}
+use Rattle.timetable.specs.Digits.{digits_value}
 use Rattle.siri_json.specs.Forms.{whole_named}
 use Rattle.siri_json.specs.declared.forms.Form.{Form}
 use Rattle.siri_json.specs.declared.forms.Form.TheVariants.{Wrong, Found}

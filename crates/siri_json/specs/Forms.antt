@@ -7,7 +7,7 @@ use Rattle.service_day.specs.DayTexts.{day_of}
 use Rattle.service_day.specs.Moments as moments
 use Rattle.service_day.specs.declared.days.DayForm.TheVariants.{Either}
 use Rattle.service_day.specs.declared.zones.Rules.{Rules}
-use Rattle.stop_schedule.specs.Forms.{digits_value}
+use Rattle.timetable.specs.Digits.{digits_value}
 use Rattle.serde_json.specs.Data.{Data, null, boolean, number, string, array, object, Num, unsigned, negative, float, Items, no_items, item}
 use Rattle.serde_json.specs.Find.{get_member}
 use Rattle.siri_json.specs.declared.forms.Form.{Form}

@@ -18,7 +18,7 @@ use Rattle.siri_json.specs.Forms.{day, is_object, text}
 use Rattle.siri_json.specs.Deliveries.{shown, without_count}
 use Rattle.siri_json.specs.declared.delivery.Item.{Item}
 use Rattle.siri_json.specs.declared.delivery.Item.TheVariants.{Taken, Aside}
-use Rattle.stop_schedule.specs.Table.{Table}
+use Rattle.timetable.specs.Table.{Table}
 use Rattle.siri_situations.specs.Affected as spec
 use Rattle.siri_situations.specs.Deliveries.{ReferToKnown, RefersToKnown, same}
 use Rattle.siri_situations.specs.Situations.{content, effect, situation, touched, verdict}

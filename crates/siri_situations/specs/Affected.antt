@@ -11,7 +11,7 @@ use Rattle.journey_model.specs.declared.situation.Ref.{Ref}
 use Rattle.serde_json.specs.Data.{Data}
 use Rattle.siri_json.specs.Fields.{optional_member, required_member}
 use Rattle.siri_json.specs.Forms.{text, day}
-use Rattle.stop_schedule.specs.Table.{Table}
+use Rattle.timetable.specs.Table.{Table}
 use Rattle.siri_situations.specs.Steps.{gather, trees_at, walk}
 use Rattle.siri_situations.specs.declared.affected.AffectedKind.{AffectedKind}
 use Rattle.siri_situations.specs.declared.affected.AffectedKind.TheVariants.{Line, StopPoint, VehicleJourney}

@@ -10,7 +10,7 @@ use Rattle.siri_json.specs.declared.delivery.DeliveryFault.{DeliveryFault}
 use Rattle.siri_json.specs.declared.delivery.Item.{Item}
 use Rattle.siri_json.specs.declared.delivery.Item.TheVariants.{Taken, Aside}
 use Rattle.siri_situations.specs.Situations.{verdicts}
-use Rattle.stop_schedule.specs.Table.{Table}
+use Rattle.timetable.specs.Table.{Table}
 
 -- a situation is seen as it is
 abbrev pub same : Situation → Situation

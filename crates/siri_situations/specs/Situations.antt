@@ -12,7 +12,7 @@ use Rattle.serde_json.specs.Data.{Data}
 use Rattle.service_day.specs.declared.zones.Rules.{Rules}
 use Rattle.siri_json.specs.Fields.{optional_member, required_member}
 use Rattle.siri_json.specs.Forms.{is_object, text, whole}
-use Rattle.stop_schedule.specs.Table.{Table}
+use Rattle.timetable.specs.Table.{Table}
 use Rattle.siri_situations.specs.Affected.{affected, references}
 use Rattle.siri_situations.specs.Frame.{items}
 use Rattle.siri_situations.specs.Periods.{periods}

@@ -8,7 +8,7 @@ ghost use Rattle.siri_situations.specs.Affected as spec;
 ghost use Rattle.siri_situations.specs.Shown.{all_seen};
 ghost use Rattle.siri_situations.specs.Steps.{gather};
 ghost use Rattle.siri_situations.specs.declared.affected.AffectedKind.TheVariants as AffectedKind;
-ghost use Rattle.stop_schedule.specs.Seen.{seen};
+ghost use Rattle.timetable.specs.Seen.{seen};
 
 use crate::steps::{Branch, Step, trees_at, walk};
 use gw_base::{List, Member};
@@ -17,7 +17,7 @@ use json::Value;
 use siri_json::ReadFault;
 use siri_json::fields::{optional_text, required_day, required_text};
 use std::alloc::{AllocError, Global};
-use stop_schedule::Timetable;
+use timetable::Timetable;
 
 /// What may be affected (SIRI 2.0, AffectedLine, AffectedStopPoint, AffectedVehicleJourney).
 #[derive(Clone, Copy, Debug, PartialEq, Eq)]

@@ -6,7 +6,7 @@ ghost use Rattle.siri_json.specs.Forms as forms;
 ghost use Rattle.siri_json.specs.Shown.{optional_text as text_told, IsFaultOf};
 ghost use Rattle.siri_situations.specs.Shown.{all_seen};
 ghost use Rattle.siri_situations.specs.Situations as spec;
-ghost use Rattle.stop_schedule.specs.Seen.{seen};
+ghost use Rattle.timetable.specs.Seen.{seen};
 
 use crate::affected::{Reference, affected, read_references};
 use crate::content::{Content, Head, Words};
@@ -22,7 +22,7 @@ use siri_json::fields::{optional_text, optional_whole, required_text};
 use siri_json::forms::is_object;
 use std::alloc::Global;
 use std::slice;
-use stop_schedule::Timetable;
+use timetable::Timetable;
 
 // A copy of a Text that has to be there.
 fn needed_text(alloc: Global, tree: &Value<'_>, member: Member) -> Result<Text, ReadFault>

@@ -5,9 +5,9 @@ use Rattle.std.proofs.lemmas.Bool.{and_parts, not-false, or_cases, or_left, or_p
 use Rattle.std.proofs.lemmas.Bool.Decides.{Decides-int_eq}
 use Rattle.std.proofs.lemmas.Int.{ints}
 use Rattle.gw_base.specs.declared.messages.StopUpdate.{StopUpdate}
-use Rattle.stop_schedule.specs.Planned.{planned}
-use Rattle.stop_schedule.specs.Stops.{are_rising}
-use Rattle.stop_schedule.specs.declared.stop_times.StopRow.{StopRow}
+use Rattle.timetable.specs.Planned.{planned}
+use Rattle.timetable.specs.Stops.{are_rising}
+use Rattle.timetable.specs.declared.stop_row.StopRow.{StopRow}
 use Rattle.journey_model.proofs.Suppliers.{Rise}
 use Rattle.journey_model.specs.Dated.{run_of}
 use Rattle.journey_model.specs.Propagation.{propagated}

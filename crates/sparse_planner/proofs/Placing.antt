@@ -3,9 +3,9 @@ use Rattle.std.proofs.Common.{drop, ◌≡◌, ◌∙◌, ◌+◌, ◌<◌, ◌�
 use Rattle.std.specs.List.{list_all, list_any, prefix_len}
 use Rattle.std.proofs.lemmas.Bool.{and_parts}
 use Rattle.gw_base.specs.declared.messages.StopUpdate.{StopUpdate}
-use Rattle.stop_schedule.specs.Planned.{planned}
-use Rattle.stop_schedule.specs.Stops.{are_rising}
-use Rattle.stop_schedule.specs.declared.stop_times.StopRow.{StopRow}
+use Rattle.timetable.specs.Planned.{planned}
+use Rattle.timetable.specs.Stops.{are_rising}
+use Rattle.timetable.specs.declared.stop_row.StopRow.{StopRow}
 use Rattle.journey_model.proofs.Suppliers.{Rise}
 use Rattle.gw_base.specs.Chains.{unless_fault, ◌>>=◌}
 use Rattle.journey_model.specs.Matching.{agrees, first_place, has_sequence, in_order, is_of_stop, place_after, place_by_sequence, place_by_stop, stands_at, update_place}

@@ -7,8 +7,8 @@ use Rattle.std.proofs.Math.Bool.{or-false}
 use Rattle.std.proofs.lemmas.Option.{IfSome_then}
 use Rattle.gw_base.specs.declared.messages.StopUpdate.{StopUpdate}
 use Rattle.gw_base.proofs.Elements.{or_assoc, or_none}
-use Rattle.stop_schedule.specs.Planned.{planned}
-use Rattle.stop_schedule.specs.declared.stop_times.StopRow.{StopRow}
+use Rattle.timetable.specs.Planned.{planned}
+use Rattle.timetable.specs.declared.stop_row.StopRow.{StopRow}
 use Rattle.journey_model.proofs.Suppliers.{Rise, last_supplier, supplier-last}
 use Rattle.journey_model.specs.Propagation.{carried, prop, skips_at, supplied, supplier, supplies, timed}
 use Rattle.journey_model.specs.Runs.{Run, planned_at}

@@ -2,7 +2,7 @@
 ghost use Rattle.std.specs.Prelude.{◌≡◌, ◌||◌, ◌-ℤ◌, not, ℕ, ℤ, List as Values, [], true, zip, IfSome, IfOk};
 ghost use Rattle.std.specs.Option.{option_map_or};
 ghost use Rattle.gw_base.specs.Moments.{IsMoment};
-ghost use Rattle.stop_schedule.specs.Planned.{planned};
+ghost use Rattle.timetable.specs.Planned.{planned};
 ghost use Rattle.journey_model.specs.Dated.{run_of};
 ghost use Rattle.journey_model.specs.Propagation.{later_by};
 ghost use Rattle.journey_model.specs.Readings.{are_near, fits_trip, is_near, is_skipped};
@@ -15,7 +15,7 @@ use gw_base::stop_relation::{NO_DATA, SCHEDULED, SKIPPED};
 use gw_base::{Event, List, StopUpdate};
 use journey_model::{DatedTrip, JourneyReading, StopReading, planned_times};
 use std::alloc::{AllocError, Global};
-use stop_schedule::StopRow;
+use timetable::StopRow;
 
 // How a stop reads by what the stops before it supply: nothing, or the delay of a departure, in seconds.
 fn supplied(start: i64, row: &StopRow, delay: Option<i64>) -> StopReading

@@ -10,9 +10,9 @@ use Rattle.indexmap.proofs.SetLemmas.{AllZip-push}
 use Rattle.stop_schedule.specs.Carrying.{Candidate, Lists, candidate, carried_to, ids_to, IsOf, Carries, Adds}
 use Rattle.stop_schedule.specs.StopTimes.{filled, least, lesser, untimed_end}
 use Rattle.stop_schedule.specs.declared.assembling.Assembled.{Assembled}
-use Rattle.stop_schedule.specs.declared.carried.CarriedTrip.{CarriedTrip}
+use Rattle.timetable.specs.declared.carried_trip.CarriedTrip.{CarriedTrip}
 use Rattle.stop_schedule.specs.declared.stop_times.LoadedStop.{LoadedStop}
-use Rattle.stop_schedule.specs.declared.stop_times.StopRow.{StopRow}
+use Rattle.timetable.specs.declared.stop_row.StopRow.{StopRow}
 
 min-assoc : (a b c : ℕ) → min (min a b) c ≡ min a (min b c)
 min-assoc a b c = grind arith

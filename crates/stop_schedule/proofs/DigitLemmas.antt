@@ -6,7 +6,7 @@ use Rattle.std.proofs.lemmas.Bool.Decides.{nat_tests}
 use Rattle.std.proofs.lemmas.Str.{IsUtf8-from_ascii, is_utf8-from_IsUtf8}
 use Rattle.std.specs.Char.{is_ascii_digit}
 use Rattle.stop_schedule.specs.Forms.{are_digits, clock, is_clock, is_sixty, seconds, sequence}
-use Rattle.stop_schedule.proofs.IdLemmas.{and-left, and-right}
+use Rattle.timetable.proofs.IdLemmas.{and-left, and-right}
 
 ascii-text : (text : List ℕ) → IsAscii text → is_utf8 text ≡ true
 ascii-text text ascii = is_utf8-from_IsUtf8 text (IsUtf8-from_ascii text ascii)

@@ -3,7 +3,7 @@ use Rattle.std.proofs.Common.{◌≡◌, ◌∙◌, ◌<◌, ◌+◌, ℕ, List,
 use Rattle.std.proofs.lemmas.Option.{slice_get-get_or}
 use Rattle.stop_schedule.specs.StopTimes.{filled_from, times_at}
 use Rattle.stop_schedule.specs.declared.stop_times.LoadedStop.{LoadedStop}
-use Rattle.stop_schedule.specs.declared.stop_times.StopRow.{StopRow}
+use Rattle.timetable.specs.declared.stop_row.StopRow.{StopRow}
 
 -- one stop more stands after those so far
 pub filled-next : (stops : List LoadedStop) (place : ℕ) (d : LoadedStop) (into all : List StopRow) (times : ℕ × ℕ)

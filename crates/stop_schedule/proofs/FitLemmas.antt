@@ -12,19 +12,19 @@ use Rattle.std.proofs.lemmas.List.{length-map}
 use Rattle.std.proofs.lemmas.List.Folds.{list_all-append, list_any-append}
 use Rattle.std.proofs.lemmas.Option.{slice_get-get_or}
 use Rattle.stop_schedule.specs.Carrying.{Candidate, Carries, IsOf, Lists, candidate, carried_to, ids_to}
-use Rattle.stop_schedule.specs.Held.{are_in_range, is_in_range}
-use Rattle.stop_schedule.specs.Ids.{are_ids, has_id}
+use Rattle.timetable.specs.Held.{are_in_range, is_in_range}
+use Rattle.timetable.specs.Ids.{are_ids, has_id}
 use Rattle.stop_schedule.specs.Keeping.{HasTrips, all_loaded, are_below, are_loaded, are_times, is_loaded}
-use Rattle.stop_schedule.specs.Limits.{stop_limit, time_limit}
+use Rattle.timetable.specs.Limits.{stop_limit, time_limit}
 use Rattle.stop_schedule.specs.Rising.{all_greater, is_rising}
 use Rattle.stop_schedule.specs.StopTimes.{filled, filled_from, nearest, or_further, stop_row, time_between, times_or}
-use Rattle.stop_schedule.specs.Stops.{are_known, are_rising, are_stops_of, are_timed, is_timed}
+use Rattle.timetable.specs.Stops.{are_known, are_rising, are_stops_of, are_timed, is_timed}
 use Rattle.stop_schedule.specs.declared.assembling.Assembled.{Assembled}
-use Rattle.stop_schedule.specs.declared.carried.CarriedTrip.{CarriedTrip}
+use Rattle.timetable.specs.declared.carried_trip.CarriedTrip.{CarriedTrip}
 use Rattle.stop_schedule.specs.declared.stop_times.LoadedStop.{LoadedStop}
-use Rattle.stop_schedule.specs.declared.stop_times.StopRow.{StopRow}
+use Rattle.timetable.specs.declared.stop_row.StopRow.{StopRow}
 use Rattle.stop_schedule.proofs.CarryingLemmas.{carried-ids}
-use Rattle.stop_schedule.proofs.IdLemmas.{and-left, and-right, place-of-id-at}
+use Rattle.timetable.proofs.IdLemmas.{and-left, and-right, place-of-id-at}
 use Rattle.stop_schedule.proofs.KeepingLemmas.{below-at, loaded-at}
 
 -- ---- parts of a list

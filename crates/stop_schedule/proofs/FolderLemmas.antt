@@ -14,22 +14,23 @@ use Rattle.stop_schedule.proofs.CarryingLemmas.{carried-ids}
 use Rattle.stop_schedule.specs.TripStops.{stops_kept}
 use Rattle.stop_schedule.specs.Carrying.{Candidate, Lists, candidate, carried_to, IsOf, Carries, ids_to}
 use Rattle.stop_schedule.specs.Folder.{HoldsRest}
-use Rattle.stop_schedule.specs.Held.{route_held, runs_held, stops_held}
+use Rattle.timetable.specs.Held.{route_held, runs_held, shown, stops_held}
 use Rattle.stop_schedule.specs.Answers.{is_free}
-use Rattle.stop_schedule.specs.Holding.{AreNumbers, Calendars, Exceptions, HoldsServices}
+use Rattle.stop_schedule.specs.Holding.{AreNumbers, HoldsServices}
+use Rattle.timetable.specs.Services.{Calendars, Exceptions}
 use Rattle.stop_schedule.specs.Reading.{Assembles, Reads}
 use Rattle.stop_schedule.specs.Sheet.{Row, nth, rows_in}
 use Rattle.stop_schedule.specs.StopTimes.{filled, least, stops_in, untimed_end}
 use Rattle.stop_schedule.specs.Timetable.{Sheets, files_fault, folder_fault, ids_in, route_in, runs_in, stop_rows_in, table_of, trips_in, untimed_in}
-use Rattle.stop_schedule.specs.Table.{Table}
+use Rattle.timetable.specs.Table.{Table}
 use Rattle.stop_schedule.specs.Trips.{carried_rows, is_carried}
 use Rattle.stop_schedule.proofs.FaultLemmas.{said-of}
 use Rattle.stop_schedule.specs.declared.assembling.Assembled.{Assembled}
-use Rattle.stop_schedule.specs.declared.carried.CarriedTrip.{CarriedTrip}
+use Rattle.timetable.specs.declared.carried_trip.CarriedTrip.{CarriedTrip}
 use Rattle.stop_schedule.specs.declared.folder_rows.FolderRows.{FolderRows}
 use Rattle.stop_schedule.specs.declared.stop_times.LoadedStop.{LoadedStop}
-use Rattle.stop_schedule.specs.declared.stop_times.StopRow.{StopRow}
-use Rattle.stop_schedule.specs.declared.timetable.Timetable.{Timetable}
+use Rattle.timetable.specs.declared.stop_row.StopRow.{StopRow}
+use Rattle.timetable.specs.declared.timetable.Timetable.{Timetable}
 use Rattle.stop_schedule.specs.declared.table_fault.TableFault.{TableFault}
 use Rattle.stop_schedule.specs.declared.table_fault.TableFault.TheVariants.{UntimedEnd}
 use Rattle.stop_schedule.specs.declared.table_file.TableFile.TheVariants.{Stops, Routes, Trips, Calendar, CalendarDates, Frequencies, StopTimes}
@@ -241,21 +242,14 @@ untimed_of sheets folder all held carries =
     ∙ ap least (untimed_same (ids_in sheets Routes) held.runs.0 (stops_by sheets)
     (carried_to (listed folder) (length folder.trips.ids)) (trips_in sheets) (rows_are sheets folder held))
 
-abbrev shown : FolderRows → List (List ℕ) → Assembled → Table
-shown folder trips all = record {
-  trips = trips;
-  stops = folder.stops;
-  routes = folder.routes;
-  route_of = λ trip. route_held folder.routes (slice_get all.carried.items trip);
-  stops_of = λ trip. stops_held all.stop_rows.items (slice_get all.carried.items trip);
-  runs = λ trip day. runs_held folder.services.calendars folder.services.exceptions (slice_get all.carried.items trip)
-      day;
-}
+abbrev shown_of_rows : FolderRows → List (List ℕ) → Assembled → Table
+shown_of_rows folder trips all =
+    shown trips folder.stops folder.routes all.carried.items all.stop_rows.items folder.services
 
 pub shown_of : (sheets : Sheets) (folder : FolderRows) (trips : List (List ℕ)) (all : Assembled) → Held folder sheets
     → trips ≡ ids_to folder.trips.ids folder.carried.items (length folder.trips.ids)
     → Carries all (carried_to (listed folder) (length folder.trips.ids))
-    → shown folder trips all ≡ table_of sheets
+    → shown_of_rows folder trips all ≡ table_of sheets
 shown_of sheets folder trips all held trips_are carries = λ i. record {
   trips = (trips_are ∙ sym (carried-ids (listed folder) (length folder.trips.ids))
       ∙ ids_same routes services (stops_by sheets) ones (trips_in sheets) zip) i;

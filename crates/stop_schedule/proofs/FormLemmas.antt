@@ -1,8 +1,9 @@
 -- Numbers that digits name.
 use Rattle.std.proofs.Common.{◌≡◌, ◌≤◌, ◌<◌, ◌+◌, ◌-◌, ◌*◌, ℕ, false, List, [], ◌∷◌, nat_le, None, refl, arith}
 use Rattle.std.proofs.lemmas.Bool.Decides.{nat_tests}
-use Rattle.stop_schedule.specs.Forms.{digits_value, small}
-use Rattle.stop_schedule.specs.Limits.{number_limit}
+use Rattle.stop_schedule.specs.Forms.{small}
+use Rattle.timetable.specs.Digits.{digits_value}
+use Rattle.timetable.specs.Limits.{number_limit}
 
 -- further digits make a number no less
 pub digits_value-grows : (value : ℕ) (text : List ℕ) → value ≤ digits_value value text

@@ -3,11 +3,11 @@ use Rattle.std.proofs.Common.{◌≡◌, ◌<◌, ℕ, zero, suc, true, false, n
 use Rattle.std.specs.Cmp.Derive.{both_true}
 use Rattle.std.proofs.lemmas.Bool.{le-leb, ltb-true}
 use Rattle.stop_schedule.specs.Keeping.{all_loaded, are_below, are_loaded, is_loaded}
-use Rattle.stop_schedule.specs.Limits.{stop_limit}
+use Rattle.timetable.specs.Limits.{stop_limit}
 use Rattle.stop_schedule.specs.Rising.{has_sequence, is_rising}
 use Rattle.stop_schedule.specs.StopTimes.{placed}
 use Rattle.stop_schedule.specs.declared.stop_times.LoadedStop.{LoadedStop}
-use Rattle.stop_schedule.proofs.IdLemmas.{and-left, and-right}
+use Rattle.timetable.proofs.IdLemmas.{and-left, and-right}
 use Rattle.stop_schedule.proofs.SequenceLemmas.{all-placed, length-placed, rising-placed}
 
 -- no trip has stops yet

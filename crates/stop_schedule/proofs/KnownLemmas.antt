@@ -6,12 +6,13 @@ use Rattle.std.proofs.Math.Bool.{or-true}
 use Rattle.std.proofs.lemmas.Bool.Decides.{nat_tests}
 use Rattle.stop_schedule.specs.Faults.{Fits}
 use Rattle.stop_schedule.specs.Forms.{seconds, sequence}
-use Rattle.stop_schedule.specs.Ids.{are_ids, has_id_len}
-use Rattle.stop_schedule.specs.Limits.{id_limit, row_limit}
+use Rattle.timetable.specs.Ids.{are_ids, has_id_len}
+use Rattle.stop_schedule.specs.Limits.{row_limit}
+use Rattle.timetable.specs.Limits.{id_limit}
 use Rattle.stop_schedule.specs.Sheet.{Row, nth}
 use Rattle.stop_schedule.specs.declared.table_file.TableFile.TheVariants.{StopTimes}
 use Rattle.stop_schedule.proofs.DigitLemmas.{seconds-is-text, sequence-is-text}
-use Rattle.stop_schedule.proofs.IdLemmas.{and-left, and-right, id-at, id-at-has-bytes, id-at-is-short}
+use Rattle.timetable.proofs.IdLemmas.{and-left, and-right, id-at, id-at-has-bytes, id-at-is-short}
 
 known-text : (ids : List (List ℕ)) (place : ℕ) (id : List ℕ) → are_ids ids ≡ true → slice_get ids place ≡ Some id
     → is_utf8 id ≡ true

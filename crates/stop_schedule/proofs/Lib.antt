@@ -7,7 +7,6 @@ pub mod FillLemmas
 pub mod FitLemmas
 pub mod FolderLemmas
 pub mod FormLemmas
-pub mod IdLemmas
 pub mod JoinLemmas
 pub mod KeepingLemmas
 pub mod KnownLemmas
@@ -18,7 +17,6 @@ pub mod RowLemmas
 pub mod SequenceLemmas
 pub mod ServiceLemmas
 pub mod ServiceStep
-pub mod SoundLemmas
 pub mod StartLemmas
 pub mod StepLemmas
 pub mod StopStep

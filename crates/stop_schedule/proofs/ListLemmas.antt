@@ -4,8 +4,8 @@ use Rattle.std.specs.List.{enumerate_from, list_all}
 use Rattle.std.specs.Cmp.Derive.{both_true}
 use Rattle.std.specs.Str.{bytes_eq}
 use Rattle.std.proofs.lemmas.Bool.{false≢true}
-use Rattle.stop_schedule.specs.Ids.{are_distinct, has_id}
-use Rattle.stop_schedule.proofs.IdLemmas.{and-left, and-right, has-at, lacked}
+use Rattle.timetable.specs.Ids.{are_distinct, has_id}
+use Rattle.timetable.proofs.IdLemmas.{and-left, and-right, has-at, lacked}
 
 module _ {A : Type 0} (f g : List ℕ → A) (id : List ℕ)
     (others : (other : List ℕ) → bytes_eq id other ≡ false → f other ≡ g other) where

@@ -9,7 +9,7 @@ use Rattle.std.proofs.lemmas.List.Folds.{list_any-append}
 use Rattle.stop_schedule.specs.Rising.{IsBetween, all_greater, all_less, has_sequence, is_rising}
 use Rattle.stop_schedule.specs.StopTimes.{in_sequence, placed}
 use Rattle.stop_schedule.specs.declared.stop_times.LoadedStop.{LoadedStop}
-use Rattle.stop_schedule.proofs.IdLemmas.{and-left, and-right}
+use Rattle.timetable.proofs.IdLemmas.{and-left, and-right}
 
 -- stops before one of a less sequence are less
 pub less-front : (rest passed : List LoadedStop) (sequence k : ℕ) (d : LoadedStop) → length rest ≡ suc k

@@ -7,8 +7,8 @@ use Rattle.std.proofs.lemmas.Slice.Eq.{bytes_eq-Decides}
 use Rattle.std.proofs.lemmas.List.Folds.{list_any-append}
 use Rattle.std.proofs.lemmas.Option.{slice_get_within}
 use Rattle.stop_schedule.specs.Holding.{AreNumbers, Extends}
-use Rattle.stop_schedule.specs.Ids.{are_distinct, has_id, with_id}
-use Rattle.stop_schedule.proofs.IdLemmas.{id-after, place-of-id}
+use Rattle.timetable.specs.Ids.{are_distinct, has_id, with_id}
+use Rattle.timetable.proofs.IdLemmas.{id-after, place-of-id}
 
 -- ---- ids with one more
 

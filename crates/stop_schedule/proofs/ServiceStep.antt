@@ -14,14 +14,15 @@ use Rattle.std.proofs.lemmas.Slice.Eq.{bytes_eq-Decides}
 use Rattle.std.proofs.lemmas.List.Folds.{find-append, list_all-append}
 use Rattle.std.proofs.Math.Bool.{and-false}
 use Rattle.stop_schedule.specs.Causes.{calendar_fault, date_fault}
-use Rattle.stop_schedule.specs.Holding.{Calendars, Exceptions, Extends, HoldsCalendars, HoldsDates, calendar_at, exception_at}
-use Rattle.stop_schedule.specs.Ids.{are_distinct, has_id, with_id}
+use Rattle.stop_schedule.specs.Holding.{Extends, HoldsCalendars, HoldsDates}
+use Rattle.timetable.specs.Services.{Calendars, Exceptions, calendar_at, exception_at}
+use Rattle.timetable.specs.Ids.{are_distinct, has_id, with_id}
 use Rattle.stop_schedule.specs.Services.{calendar_in, calendar_of, day_of_row, day_in, exception_in, is_exception, is_of, is_one, weekdays}
 use Rattle.stop_schedule.specs.Sheet.{Row, nth}
-use Rattle.stop_schedule.specs.declared.service_rows.Calendar.{Calendar}
+use Rattle.timetable.specs.declared.calendar.Calendar.{Calendar}
 use Rattle.stop_schedule.specs.declared.table_file.TableFile.TheVariants as File
 use Rattle.stop_schedule.specs.declared.table_fault.TableFault.TheVariants.{Duplicate}
-use Rattle.stop_schedule.proofs.IdLemmas.{and-left, and-right, bytes_eq-refl, has-at}
+use Rattle.timetable.proofs.IdLemmas.{and-left, and-right, bytes_eq-refl, has-at}
 use Rattle.stop_schedule.proofs.ServiceLemmas.{agree, agree-now, extends-with, has-grown, still-outside}
 
 -- the fields of the last columns are texts

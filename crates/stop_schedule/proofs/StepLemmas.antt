@@ -4,10 +4,10 @@ use Rattle.std.specs.Str.{bytes_eq}
 use Rattle.std.proofs.lemmas.List.{map-append}
 use Rattle.std.proofs.lemmas.List.Folds.{list_any-append}
 use Rattle.std.proofs.Math.Bool.{or-true}
-use Rattle.stop_schedule.specs.Ids.{has_id}
+use Rattle.timetable.specs.Ids.{has_id}
 use Rattle.stop_schedule.specs.Sheet.{Row, nth}
 use Rattle.stop_schedule.specs.Trips.{is_carried}
-use Rattle.stop_schedule.proofs.IdLemmas.{bytes_eq-flips, bytes_eq-refl}
+use Rattle.timetable.proofs.IdLemmas.{bytes_eq-flips, bytes_eq-refl}
 
 or-unit : (a : Bool) → (a || false) ≡ a
 or-unit true = refl

@@ -1,5 +1,5 @@
 -- One more row of stop_times.txt.
-use Rattle.std.proofs.Common.{◌≡◌, ◌∙◌, ◌<◌, ◌≤◌, ◌+◌, ◌==◌, ◌||◌, ◌&&◌, Bool, true, false, cond, ℕ, zero, suc, nat_le, List, [], ◌∷◌, ◌++◌, map, set, length, position, slice_get, Option, Some, None, refl, ap, sym, arith, unwrap_or}
+use Rattle.std.proofs.Common.{◌≡◌, ◌∙◌, ◌<◌, ◌≤◌, ◌+◌, ◌==◌, ◌||◌, ◌&&◌, Bool, true, false, cond, ℕ, suc, nat_le, List, [], ◌∷◌, ◌++◌, map, set, length, position, slice_get, Option, Some, None, refl, ap, sym, arith, unwrap_or}
 use Rattle.std.specs.Global.{Vec}
 use Rattle.std.specs.Prelude.{filter}
 use Rattle.std.specs.List.{enumerate_from, list_all, list_any}
@@ -16,8 +16,8 @@ use Rattle.std.proofs.lemmas.Option.{slice_get-map}
 use Rattle.stop_schedule.specs.Causes.{same_trip, stop_time_fault}
 use Rattle.stop_schedule.specs.Forms.{sequence}
 use Rattle.stop_schedule.specs.Holding.{HoldsStops}
-use Rattle.stop_schedule.specs.Ids.{are_distinct, has_id}
-use Rattle.stop_schedule.specs.Limits.{stop_limit}
+use Rattle.timetable.specs.Ids.{are_distinct, has_id}
+use Rattle.timetable.specs.Limits.{stop_limit}
 use Rattle.stop_schedule.specs.Rising.{has_sequence, is_rising}
 use Rattle.stop_schedule.specs.Sheet.{Row, nth}
 use Rattle.stop_schedule.specs.StopTimes.{in_sequence, is_of_trip, loaded, placed, sequence_of, stops_in, times}
@@ -25,7 +25,7 @@ use Rattle.stop_schedule.specs.declared.stop_times.LoadedStop.{LoadedStop}
 use Rattle.stop_schedule.specs.declared.table_file.TableFile.TheVariants.{StopTimes}
 use Rattle.stop_schedule.specs.declared.column.Column.TheVariants.{TripId, StopId}
 use Rattle.stop_schedule.specs.declared.table_fault.TableFault.TheVariants.{Limit, Unknown, Duplicate}
-use Rattle.stop_schedule.proofs.IdLemmas.{and-left, and-right, bytes_eq-flips, bytes_eq-refl}
+use Rattle.timetable.proofs.IdLemmas.{and-left, and-right, bytes_eq-flips, bytes_eq-refl}
 use Rattle.stop_schedule.proofs.ListLemmas.{enumerate-after, list_all-set, set-one}
 use Rattle.stop_schedule.proofs.SequenceLemmas.{any-in_sequence, in_sequence-after, length-in_sequence, rising-placed}
 
@@ -184,12 +184,6 @@ loaded-row stops row number same place stop held_times one two three four =
       stop = record { 0 = unwrap_or (three i) 0 };
       times = four i;
     }
-
-pub all-at : {A : Type 0} (test : A → Bool) (xs : List A) (place : ℕ) (x : A) → list_all test xs ≡ true
-    → slice_get xs place ≡ Some x → test x ≡ true
-all-at test [] place x all at = cc
-all-at test (first ∷ xs) zero x all at = let same : first ≡ x = cc in rw (← same) (and-left (test first) _ all)
-all-at test (first ∷ xs) (suc place) x all at = all-at test xs place x (and-right (test first) _ all) at
 
 module _ (trips stops : List (List ℕ)) (by_trip : List (List LoadedStop)) (before : List Row)
     (holds : HoldsStops trips stops by_trip before) where

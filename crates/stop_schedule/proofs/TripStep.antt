@@ -3,7 +3,7 @@ use Rattle.std.proofs.Common.{◌≡◌, ◌∙◌, true, false, ℕ, List, [], 
 use Rattle.std.proofs.lemmas.List.{map-append}
 use Rattle.stop_schedule.specs.Causes.{trip_fault}
 use Rattle.stop_schedule.specs.Holding.{AreNumbers, HoldsTrips}
-use Rattle.stop_schedule.specs.Ids.{has_id, with_id}
+use Rattle.timetable.specs.Ids.{has_id, with_id}
 use Rattle.stop_schedule.specs.Sheet.{Row, nth}
 use Rattle.stop_schedule.proofs.ServiceLemmas.{extends-with, numbers-grow}
 

@@ -3,9 +3,9 @@ use Rattle.std.specs.Prelude.{◌≡◌, ◌≤◌, ℕ, zero, suc, Bool, false,
 use Rattle.std.specs.List.{AllZip}
 use Rattle.stop_schedule.specs.StopTimes.{filled, least, lesser, untimed_end}
 use Rattle.stop_schedule.specs.declared.assembling.Assembled.{Assembled}
-use Rattle.stop_schedule.specs.declared.carried.CarriedTrip.{CarriedTrip}
+use Rattle.timetable.specs.declared.carried_trip.CarriedTrip.{CarriedTrip}
 use Rattle.stop_schedule.specs.declared.stop_times.LoadedStop.{LoadedStop}
-use Rattle.stop_schedule.specs.declared.stop_times.StopRow.{StopRow}
+use Rattle.timetable.specs.declared.stop_row.StopRow.{StopRow}
 
 -- a trip: its id, the numbers of its route and its service, and its stops
 pub record Candidate : Type 0 where

@@ -4,8 +4,8 @@ use Rattle.std.specs.List.{list_any}
 use Rattle.std.specs.Option.{option_or}
 use Rattle.std.specs.Str.{bytes_eq}
 use Rattle.stop_schedule.specs.Faults.{fault_if}
-use Rattle.stop_schedule.specs.Ids.{has_id}
-use Rattle.stop_schedule.specs.Limits.{stop_limit}
+use Rattle.timetable.specs.Ids.{has_id}
+use Rattle.timetable.specs.Limits.{stop_limit}
 use Rattle.stop_schedule.specs.Places.{own_id, agency_timezone, trips_route_id, dates_service_id, frequencies_trip_id, stop_times_trip_id, stop_times_stop_id}
 use Rattle.stop_schedule.specs.Services.{is_exception, day_of_row}
 use Rattle.stop_schedule.specs.Sheet.{Row, nth}

@@ -4,7 +4,8 @@ use Rattle.std.specs.Option.{option_or}
 use Rattle.std.specs.Str.{is_utf8}
 use Rattle.stop_schedule.specs.Forms.{fits}
 use Rattle.stop_schedule.specs.Layout.{columns}
-use Rattle.stop_schedule.specs.Limits.{id_limit, row_limit}
+use Rattle.stop_schedule.specs.Limits.{row_limit}
+use Rattle.timetable.specs.Limits.{id_limit}
 use Rattle.stop_schedule.specs.Sheet.{Row, nth}
 use Rattle.stop_schedule.specs.declared.column.Column.{Column}
 use Rattle.stop_schedule.specs.declared.forms.Form.{Form}

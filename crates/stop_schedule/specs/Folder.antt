@@ -1,6 +1,7 @@
 -- What is held of the rows of all files.
 use Rattle.std.specs.Prelude.{◌≡◌, ℕ, true, List, map, length}
-use Rattle.stop_schedule.specs.Holding.{Calendars, Exceptions, HoldsServices, HoldsStops, HoldsTrips}
+use Rattle.stop_schedule.specs.Holding.{HoldsServices, HoldsStops, HoldsTrips}
+use Rattle.timetable.specs.Services.{Calendars, Exceptions}
 use Rattle.stop_schedule.specs.Keeping.{HasTrips, all_loaded}
 use Rattle.stop_schedule.specs.Sheet.{rows_in}
 use Rattle.stop_schedule.specs.Timetable.{Sheets}

@@ -1,21 +1,17 @@
 -- The forms of fields (GTFS Schedule reference, field types).
-use Rattle.std.specs.Prelude.{◌==◌, ◌&&◌, ◌||◌, ◌+◌, ◌-◌, ◌*◌, ℕ, ℤ, Bool, true, not, nat_le, nat_lt, List, [], ◌∷◌, length, slice_index, drop, codes, Option, Some, None, is_some, if◌then◌else◌}
+use Rattle.std.specs.Prelude.{◌==◌, ◌&&◌, ◌||◌, ◌+◌, ◌-◌, ◌*◌, ℕ, ℤ, Bool, true, not, nat_le, nat_lt, List, length, slice_index, drop, codes, Option, Some, None, is_some, if◌then◌else◌}
 use Rattle.std.specs.List.{list_all}
 use Rattle.std.specs.Str.{bytes_eq}
 use Rattle.service_day.specs.DayTexts.{day_of}
 use Rattle.service_day.specs.declared.days.DayForm.TheVariants.{Compact}
 use Rattle.std.specs.Char.{is_ascii_digit}
-use Rattle.stop_schedule.specs.Limits.{number_limit}
+use Rattle.timetable.specs.Digits.{digits_value}
+use Rattle.timetable.specs.Limits.{number_limit}
 use Rattle.stop_schedule.specs.declared.forms.Form.{Form}
 use Rattle.stop_schedule.specs.declared.forms.Form.TheVariants.{Any, Id, Flag, Exception, Date, Sequence, Time}
 
 abbrev pub are_digits : List ℕ → Bool
 are_digits text = list_all is_ascii_digit text
-
--- the number that digits name after those that name this value
-abbrev pub digits_value : ℕ → List ℕ → ℕ
-digits_value value [] = value
-digits_value value (digit ∷ digits) = digits_value (value * 10 + (digit - 48)) digits
 
 -- the number, where it has at most 32 bits
 abbrev pub small : ℕ → Option ℕ

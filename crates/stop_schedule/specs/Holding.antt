@@ -1,18 +1,14 @@
 -- What is held of the rows of a file while they are read.
-use Rattle.std.specs.Prelude.{◌≡◌, ◌&&◌, ◌≤◌, ℕ, ℤ, nat_eq, Bool, true, List, map, length, slice_get, Option, Some, None}
+use Rattle.std.specs.Prelude.{◌≡◌, ◌≤◌, ℕ, ℤ, true, List, map, length, slice_get, Some, None}
 use Rattle.std.specs.List.{list_all}
-use Rattle.std.specs.Ordering.{int_eq}
-use Rattle.std.specs.HashMap.{HashMap, get}
-use Rattle.std.specs.declared.hash.FoldHasher.{FoldHasher}
-use Rattle.std.specs.declared.hash.BuildHasherDefault.{BuildHasherDefault}
+use Rattle.timetable.specs.Services.{Calendars, Exceptions, calendar_at, exception_at}
 use Rattle.stop_schedule.specs.Faults.{Fits}
-use Rattle.stop_schedule.specs.Ids.{are_ids, has_id}
+use Rattle.timetable.specs.Ids.{are_ids, has_id}
 use Rattle.stop_schedule.specs.Places.{trips_trip_id, trips_route_id, trips_service_id, calendar_service_id, dates_service_id, stop_times_trip_id, stop_times_stop_id}
 use Rattle.stop_schedule.specs.Rising.{is_rising}
 use Rattle.stop_schedule.specs.Services.{calendar_in, exception_in}
 use Rattle.stop_schedule.specs.Sheet.{Row, nth}
 use Rattle.stop_schedule.specs.StopTimes.{loaded, stops_in}
-use Rattle.stop_schedule.specs.declared.service_rows.Calendar.{Calendar}
 use Rattle.stop_schedule.specs.declared.stop_times.LoadedStop.{LoadedStop}
 use Rattle.stop_schedule.specs.declared.table_file.TableFile.TheVariants.{StopTimes}
 
@@ -26,20 +22,6 @@ pub record HoldsTrips (routes services trips : List (List ℕ)) (trip_routes tri
   pub ids : trips ≡ map (nth trips_trip_id) rows
   pub routes_are : AreNumbers routes trip_routes (map (nth trips_route_id) rows)
   pub services_are : AreNumbers services trip_services (map (nth trips_service_id) rows)
-
-abbrev pub Calendars : Type 0
-Calendars = HashMap ℕ Calendar (BuildHasherDefault FoldHasher)
-
-abbrev pub Exceptions : Type 0
-Exceptions = HashMap (ℕ × ℤ) Bool (BuildHasherDefault FoldHasher)
-
--- the calendar of a service by its number
-abbrev pub calendar_at : Calendars → ℕ → Option Calendar
-calendar_at calendars service = get nat_eq calendars service
-
--- the exception of a service on a day
-abbrev pub exception_at : Exceptions → ℕ → ℤ → Option Bool
-exception_at exceptions service day = get (λ x y. nat_eq x.0 y.0 && int_eq x.1 y.1) exceptions (service, day)
 
 -- each id keeps its number
 abbrev pub Extends : List (List ℕ) → List (List ℕ) → Type 0

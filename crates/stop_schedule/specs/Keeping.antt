@@ -2,7 +2,8 @@
 -- cites it.
 use Rattle.std.specs.Prelude.{◌≡◌, ◌≤◌, ◌<◌, ◌+◌, ◌&&◌, ℕ, Bool, true, nat_le, nat_lt, List, length, Option, Some, None}
 use Rattle.std.specs.List.{list_all}
-use Rattle.stop_schedule.specs.Limits.{row_limit, stop_limit, time_limit}
+use Rattle.stop_schedule.specs.Limits.{row_limit}
+use Rattle.timetable.specs.Limits.{stop_limit, time_limit}
 use Rattle.stop_schedule.specs.Rising.{is_rising}
 use Rattle.stop_schedule.specs.declared.stop_times.LoadedStop.{LoadedStop}
 use Rattle.stop_schedule.specs.declared.table_file.TableFile.TheVariants.{Trips}

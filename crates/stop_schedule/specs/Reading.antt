@@ -5,10 +5,10 @@ use Rattle.gw_base.specs.Chains.{ok_map}
 use Rattle.stop_schedule.specs.Answers.{Finds, is_free}
 use Rattle.stop_schedule.specs.Faults.{optional_fault, needed_fault}
 use Rattle.stop_schedule.specs.Sheet.{Row, rows_in}
-use Rattle.stop_schedule.specs.Seen.{seen}
-use Rattle.stop_schedule.specs.Table.{Table}
+use Rattle.timetable.specs.Seen.{seen}
+use Rattle.timetable.specs.Table.{Table}
 use Rattle.stop_schedule.specs.Timetable.{Sheets, table_of, untimed_in}
-use Rattle.stop_schedule.specs.declared.timetable.Timetable.{Timetable}
+use Rattle.timetable.specs.declared.timetable.Timetable.{Timetable}
 use Rattle.stop_schedule.specs.declared.table_fault.TableFault.TheVariants.{UntimedEnd, Memory}
 use Rattle.stop_schedule.specs.declared.table_file.TableFile.{TableFile}
 use Rattle.stop_schedule.specs.declared.table_fault.TableFault.{TableFault}

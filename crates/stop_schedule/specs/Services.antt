@@ -1,12 +1,11 @@
 -- On which days services run (GTFS Schedule reference, calendar.txt and calendar_dates.txt).
-use Rattle.std.specs.Prelude.{◌&&◌, ℕ, ℤ, pos, int_le, Bool, false, List, [], ◌∷◌, find, slice_get, unwrap_or, codes, Option, Some, None, option_map}
+use Rattle.std.specs.Prelude.{◌&&◌, ℕ, ℤ, pos, Bool, List, [], ◌∷◌, find, unwrap_or, codes, Option, option_map}
 use Rattle.std.specs.Ordering.{int_eq}
 use Rattle.std.specs.Str.{bytes_eq}
-use Rattle.jiff_core.specs.Calendar.{weekday_number}
 use Rattle.stop_schedule.specs.Forms.{date}
 use Rattle.stop_schedule.specs.Places as places
 use Rattle.stop_schedule.specs.Sheet.{Row, nth}
-use Rattle.stop_schedule.specs.declared.service_rows.Calendar.{Calendar}
+use Rattle.timetable.specs.declared.calendar.Calendar.{Calendar}
 
 -- the field of a column is `1`
 abbrev pub is_one : ℕ → Row → Bool
@@ -54,15 +53,3 @@ calendar_in calendars service = option_map calendar_of (find (is_of service) cal
 -- whether the rows of calendar_dates.txt add or remove the day of a service, if they say anything of it
 abbrev pub exception_in : List Row → List ℕ → ℤ → Option Bool
 exception_in dates service day = option_map (is_one places.dates_exception_type) (find (is_exception service day) dates)
-
--- the calendar has the day
-abbrev pub has_day : Calendar → ℤ → Bool
-has_day calendar day =
-    int_le calendar.start day
-    && (int_le day calendar.end && unwrap_or (slice_get calendar.weekdays (weekday_number day)) false)
-
--- an exception decides, then a calendar; a service of which nothing is said never runs
-abbrev pub runs_by : Option Bool → Option Calendar → ℤ → Bool
-runs_by (Some added) calendar day = added
-runs_by None (Some calendar) day = has_day calendar day
-runs_by None None day = false

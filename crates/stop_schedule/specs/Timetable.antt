@@ -6,13 +6,14 @@ use Rattle.gw_base.specs.Chains.{unless_fault}
 use Rattle.stop_schedule.specs.Causes.{zone_fault, duplicate_fault, trip_fault, calendar_fault, date_fault, frequency_fault, stop_time_fault}
 use Rattle.stop_schedule.specs.Faults.{needed_fault, optional_fault}
 use Rattle.stop_schedule.specs.Places.{own_id, trips_trip_id, trips_route_id, trips_service_id}
-use Rattle.stop_schedule.specs.Services.{runs_by, exception_in, calendar_in}
+use Rattle.stop_schedule.specs.Services.{exception_in, calendar_in}
+use Rattle.timetable.specs.Services.{runs_by}
 use Rattle.stop_schedule.specs.Sheet.{Row, nth, sheet_in, rows_in}
 use Rattle.stop_schedule.specs.StopTimes.{stops_in, filled, untimed_end, least}
-use Rattle.stop_schedule.specs.Table.{Table}
+use Rattle.timetable.specs.Table.{Table}
 use Rattle.stop_schedule.specs.Trips.{carried_rows}
 use Rattle.stop_schedule.specs.declared.stop_times.LoadedStop.{LoadedStop}
-use Rattle.stop_schedule.specs.declared.stop_times.StopRow.{StopRow}
+use Rattle.timetable.specs.declared.stop_row.StopRow.{StopRow}
 use Rattle.stop_schedule.specs.declared.table_file.TableFile.{TableFile}
 use Rattle.stop_schedule.specs.declared.table_file.TableFile.TheVariants.{Agency, Stops, Routes, Trips, Calendar, CalendarDates, Frequencies, StopTimes}
 use Rattle.stop_schedule.specs.declared.table_fault.TableFault.{TableFault}

@@ -1,7 +1,7 @@
 -- What is kept of the stops of a trip while rows are read.
 use Rattle.std.specs.Prelude.{◌≡◌, ◌+◌, ◌*◌, ◌++◌, ℕ, Bool, true, false, min, List, [], ◌∷◌, Some, if◌then◌else◌}
 use Rattle.std.specs.Bool.{MatchBool}
-use Rattle.stop_schedule.specs.Limits.{number_limit}
+use Rattle.timetable.specs.Limits.{number_limit}
 use Rattle.stop_schedule.specs.Rising.{all_less, has_sequence, is_rising}
 use Rattle.stop_schedule.specs.StopTimes.{placed}
 use Rattle.stop_schedule.specs.declared.stop_times.LoadedStop.{LoadedStop}

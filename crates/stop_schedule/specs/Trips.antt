@@ -1,6 +1,6 @@
 -- The trips that are carried (GTFS Schedule reference, trips.txt and frequencies.txt).
 use Rattle.std.specs.Prelude.{ℕ, Bool, not, List, map, filter}
-use Rattle.stop_schedule.specs.Ids.{has_id}
+use Rattle.timetable.specs.Ids.{has_id}
 use Rattle.stop_schedule.specs.Places.{frequencies_trip_id, trips_trip_id}
 use Rattle.stop_schedule.specs.Sheet.{Row, nth}
 

@@ -5,22 +5,20 @@ ghost use Rattle.stop_schedule.specs.Failures.{FileFailed, IfFailed};
 ghost use Rattle.stop_schedule.specs.Answers.{HasFailed};
 ghost use Rattle.stop_schedule.specs.Carrying.{Adds, Carries, carried_to, ids_to};
 ghost use Rattle.stop_schedule.specs.Folder.{HoldsRest, IsLoaded};
-ghost use Rattle.stop_schedule.specs.Ids.{has_id};
+ghost use Rattle.timetable.specs.Ids.{has_id};
 ghost use Rattle.stop_schedule.specs.Reading.{Assembles, IsAssembled, Reads};
 ghost use Rattle.stop_schedule.specs.Timetable.{Sheets, ids_in, sheets_in, timetable as timetable_of};
 ghost use Rattle.stop_schedule.specs.TripStops.{stops_kept};
 ghost use Rattle.stop_schedule.specs.declared.table_file.TableFile.TheVariants as File;
 
-use crate::carried::CarriedTrip;
 use crate::folder_rows::{FolderRows, read_folder};
-use crate::ids::Ids;
 use crate::loading::Trips;
-use crate::stop_times::{LoadedStop, StopRow, lesser, push_filled, untimed_end};
+use crate::stop_times::{LoadedStop, lesser, push_filled, untimed_end};
 use crate::table_fault::TableFault;
-use crate::timetable::Timetable;
 use crate::trip_stops::TripStops;
 use gw_base::Files;
 use std::alloc::{AllocError, Global};
+use timetable::{CarriedTrip, Ids, StopRow, Timetable};
 
 // The trips that are carried so far, with their stops one after the other, and the least row of an end without
 // times.
@@ -189,14 +187,7 @@ fn assemble(alloc: Global, folder: FolderRows) -> Result<Timetable, TableFault>
         stop_rows,
         untimed: _,
     } = all;
-    Ok(Timetable {
-        trips,
-        stops,
-        routes,
-        carried,
-        stop_rows,
-        services,
-    })
+    Ok(Timetable::new(trips, stops, routes, carried, stop_rows, services))
 }
 
 /// Reads the timetable of the folder `dir` (GTFS Schedule reference): `agency.txt`, `stops.txt`, `routes.txt`,

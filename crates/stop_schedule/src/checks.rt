@@ -6,10 +6,11 @@ ghost use Rattle.stop_schedule.specs.Faults as spec;
 
 use crate::forms::{Form, fits, seconds, sequence};
 use crate::layout::columns;
-use crate::limits::{MAX_ID_LEN, row_limit};
+use crate::limits::row_limit;
 use crate::sheet::{Sheet, text_of};
 use crate::table_fault::TableFault;
 use crate::table_file::TableFile;
+use timetable::MAX_ID_LEN;
 
 // Whether a field is an id that is too long.
 fn is_long(form: Form, text: &str) -> bool

@@ -12,16 +12,15 @@ ghost use Rattle.stop_schedule.specs.Trips.{is_carried};
 ghost use Rattle.stop_schedule.specs.Timetable.{files_fault, ids_in, rest_fault, runs_fault, stops_fault, names_fault, sheets_in};
 ghost use Rattle.stop_schedule.specs.declared.table_file.TableFile.TheVariants as File;
 
-use crate::ids::Ids;
 use crate::loading::{
-    Services, Trips, read_frequencies, read_ids, read_services, read_stop_times, read_trips,
-    read_zones,
+    Trips, read_frequencies, read_ids, read_services, read_stop_times, read_trips, read_zones,
 };
 use crate::table_fault::TableFault;
 use crate::table_file::TableFile;
 use crate::trip_stops::TripStops;
 use gw_base::{Bytes, Files, List};
 use std::alloc::Global;
+use timetable::{Ids, Services};
 
 /// What is made of the rows of a folder's files.
 #[derive(Drop)]

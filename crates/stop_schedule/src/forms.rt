@@ -1,7 +1,8 @@
 //! The forms of fields (GTFS Schedule reference, field types). The functions meet `specs/Forms.antt`.
 ghost use Rattle.std.specs.Prelude.{◌≡◌, ◌≤◌, length, IfSome};
 ghost use Rattle.stop_schedule.specs.Forms as spec;
-ghost use Rattle.stop_schedule.specs.Limits.{time_limit};
+ghost use Rattle.timetable.specs.Digits.{digits_value};
+ghost use Rattle.timetable.specs.Limits.{time_limit};
 
 use service_day::{Day, DayForm, read_day};
 
@@ -66,7 +67,7 @@ pub(crate) fn sequence(text: &[u8]) -> Option<u32>
 
 // The number that digits name, if it is at most 4,294,967,295.
 fn number(text: &[u8]) -> Option<u32>
-    ensures { result ≡ spec.small (spec.digits_value 0 text.now) }
+    ensures { result ≡ spec.small (digits_value 0 text.now) }
 {
     let mut rest = text;
     let mut value = 0u64;

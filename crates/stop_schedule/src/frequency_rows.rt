@@ -2,12 +2,13 @@
 ghost use Rattle.std.specs.Prelude.{◌≡◌};
 
 use crate::column::Column;
-use crate::ids::{Ids, find_in};
+use crate::id_fields::find_in;
 use crate::sheet::Sheet;
 use crate::table_fault::TableFault;
 use crate::table_file::TableFile;
 use crate::taking::TakesRows;
 use std::alloc::Global;
+use timetable::Ids;
 
 /// Of each trip of `trips.txt`, whether it is carried.
 #[derive(Drop)]

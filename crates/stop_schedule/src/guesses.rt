@@ -1,6 +1,6 @@
 //! Which number is tried first where rows name ids one after the other. Nothing rests on a guess.
-use crate::ids::Ids;
 use std::alloc::{AllocError, Global};
+use timetable::Ids;
 
 /// The number of the id that was named last, and of each id the number of the one that came after it the last time.
 #[derive(Drop)]

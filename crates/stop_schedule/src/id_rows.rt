@@ -2,12 +2,12 @@
 ghost use Rattle.std.specs.Prelude.{◌≡◌, true};
 ghost use Rattle.stop_schedule.specs.Layout.{lists_ids};
 
-use crate::ids::Ids;
 use crate::sheet::Sheet;
 use crate::table_fault::TableFault;
 use crate::table_file::TableFile;
 use crate::taking::TakesRows;
 use std::alloc::Global;
+use timetable::Ids;
 
 /// The ids of a file's rows, in order.
 #[derive(Drop)]

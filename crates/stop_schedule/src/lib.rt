@@ -1,9 +1,8 @@
-//! The timetable of a GTFS Schedule folder: its files are read once, and trips, stops and routes are found by id or
-//! number.
+//! The timetable of a GTFS Schedule folder: `read_timetable` reads its files once, and answers what they mean or their
+//! first fault. The timetable itself, with its calls, is that of the crate `timetable`.
 #![tactic(auto)]
 
 mod assembling;
-mod carried;
 mod checks;
 mod column;
 mod fields;
@@ -12,12 +11,11 @@ mod folder_rows;
 mod forms;
 mod frequency_rows;
 mod guesses;
+mod id_fields;
 mod id_rows;
-mod ids;
 mod layout;
 mod limits;
 mod loading;
-mod numbers;
 mod rows;
 mod service_rows;
 mod sheet;
@@ -26,15 +24,12 @@ mod stop_times;
 mod table_fault;
 mod table_file;
 mod taking;
-mod timetable;
 mod trip_rows;
 mod trip_stops;
 mod zone_rows;
 
 pub use assembling::read_timetable;
 pub use column::Column;
-pub use numbers::{RouteNo, StopNo, TripNo};
-pub use stop_times::StopRow;
 pub use table_fault::TableFault;
 pub use table_file::TableFile;
-pub use timetable::Timetable;
+pub use timetable::{RouteNo, StopNo, StopRow, Timetable, TripNo};

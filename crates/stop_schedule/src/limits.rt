@@ -7,9 +7,6 @@ use crate::table_file::TableFile;
 /// The bytes that a file has at most.
 pub(crate) const MAX_FILE_LEN: u64 = 268_435_456;
 
-/// The bytes that an id has at most.
-pub(crate) const MAX_ID_LEN: usize = 200;
-
 /// The stops that a trip has at most.
 pub(crate) const MAX_STOPS: usize = 250;
 

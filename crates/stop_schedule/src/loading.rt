@@ -9,8 +9,7 @@ ghost use Rattle.stop_schedule.specs.Failures.{DaysFailed, IfFailed, Is};
 ghost use Rattle.stop_schedule.specs.Answers.{Finds, HasFailed};
 ghost use Rattle.stop_schedule.specs.Causes.{zone_fault, duplicate_fault, trip_fault, calendar_fault, date_fault, frequency_fault, stop_time_fault};
 ghost use Rattle.stop_schedule.specs.Faults.{optional_fault};
-ghost use Rattle.stop_schedule.specs.Holding.{HoldsCalendars, HoldsDates, HoldsTrips, HoldsServices, HoldsStops, calendar_at, exception_at};
-ghost use Rattle.stop_schedule.specs.Services.{runs_by};
+ghost use Rattle.stop_schedule.specs.Holding.{HoldsCalendars, HoldsDates, HoldsTrips, HoldsServices, HoldsStops};
 ghost use Rattle.stop_schedule.specs.Reading.{ReadsNeeded, ReadsRows};
 ghost use Rattle.stop_schedule.specs.Timetable.{calendars_fault, sheets_in};
 ghost use Rattle.stop_schedule.specs.Sheet.{nth, rows_in};
@@ -21,8 +20,7 @@ ghost use Rattle.stop_schedule.specs.declared.table_file.TableFile.TheVariants a
 use crate::frequency_rows::FrequencyRows;
 use crate::guesses::Guesses;
 use crate::id_rows::IdRows;
-use crate::ids::Ids;
-use crate::service_rows::{Calendar, CalendarRows, DateRows};
+use crate::service_rows::{CalendarRows, DateRows};
 use crate::stop_time_rows::StopTimeRows;
 use crate::table_fault::TableFault;
 use crate::table_file::TableFile;
@@ -31,9 +29,9 @@ use crate::trip_rows::TripRows;
 use crate::trip_stops::TripStops;
 use crate::zone_rows::ZoneRows;
 use gw_base::{Bytes, Files};
-use service_day::Day;
 use std::alloc::{AllocError, Global};
 use std::collections::HashMap;
+use timetable::{Ids, Services};
 
 /// The trips of `trips.txt` with the numbers of their routes and services.
 #[derive(Drop)]
@@ -41,13 +39,6 @@ pub(crate) struct Trips {
     pub(crate) ids: Ids,
     pub(crate) routes: Vec<u32>,
     pub(crate) services: Vec<u32>,
-}
-
-/// What the calendar files say of services by their numbers.
-#[derive(Drop)]
-pub(crate) struct Services {
-    pub(crate) calendars: HashMap<u32, Calendar>,
-    pub(crate) exceptions: HashMap<(u32, i32), bool>,
 }
 
 // Reads a file that has to be there.
@@ -342,20 +333,4 @@ pub(crate) fn read_stop_times<F: Files>(
         next_stop: _,
     } = rows;
     Ok(by_trip)
-}
-
-impl Services {
-    /// Whether a service runs on a day.
-    pub(crate) fn run(&self, service: u32, day: Day) -> bool
-        ensures { result ≡ runs_by (exception_at self.now.exceptions service day)
-            (calendar_at self.now.calendars service) day }
-    {
-        if let Some(added) = self.exceptions.get(&(service, day.number())) {
-            return *added;
-        }
-        match self.calendars.get(&service) {
-            Some(calendar) => calendar.has_day(day),
-            None => false,
-        }
-    }
 }

@@ -6,7 +6,6 @@ ghost use Rattle.stop_schedule.specs.Sheet.{nth};
 
 use crate::column::Column;
 use crate::forms::date;
-use crate::ids::Ids;
 use crate::sheet::Sheet;
 use crate::table_fault::TableFault;
 use crate::table_file::TableFile;
@@ -14,14 +13,7 @@ use crate::taking::TakesRows;
 use service_day::Day;
 use std::alloc::Global;
 use std::collections::HashMap;
-
-/// On which weekdays a service runs, from Monday on, and from which day to which.
-#[derive(Clone, Copy, Debug)]
-pub struct Calendar {
-    pub(crate) weekdays: [bool; 7],
-    pub(crate) start: Day,
-    pub(crate) end: Day,
-}
+use timetable::{Calendar, Ids};
 
 /// The calendars of the rows, by the number of their service.
 #[derive(Drop)]
@@ -146,20 +138,6 @@ impl TakesRows for DateRows {
             Ok(None) => Ok(()),
             Ok(Some(_)) => Err(TableFault::Duplicate(TableFile::CalendarDates, number)),
             Err(_) => Err(TableFault::Memory),
-        }
-    }
-}
-
-impl Calendar {
-    /// Whether it has the day.
-    pub(crate) fn has_day(&self, day: Day) -> bool
-        ensures { result ≡ spec.has_day self.now day }
-    {
-        match self.weekdays.as_slice().get(day.weekday() as usize) {
-            Some(runs) => self.start.number() <= day.number()
-                && day.number() <= self.end.number()
-                && *runs,
-            None => false,
         }
     }
 }

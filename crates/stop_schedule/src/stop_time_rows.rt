@@ -4,9 +4,10 @@ ghost use Rattle.stop_schedule.specs.Answers.{Finds, HasFailed};
 ghost use Rattle.stop_schedule.specs.Causes.{stop_time_fault};
 ghost use Rattle.stop_schedule.specs.Forms as forms_of;
 ghost use Rattle.stop_schedule.specs.Holding.{HoldsStops, IsKnown};
-ghost use Rattle.stop_schedule.specs.Ids.{are_ids};
+ghost use Rattle.timetable.specs.Ids.{are_ids};
 ghost use Rattle.stop_schedule.specs.Keeping.{all_loaded, are_times, is_loaded};
-ghost use Rattle.stop_schedule.specs.Limits.{row_limit as row_limit_of, stop_limit};
+ghost use Rattle.stop_schedule.specs.Limits.{row_limit as row_limit_of};
+ghost use Rattle.timetable.specs.Limits.{stop_limit};
 ghost use Rattle.stop_schedule.specs.Places.{stop_times_trip_id as trip_id, stop_times_stop_sequence as stop_sequence, stop_times_stop_id as stop_id, stop_times_arrival_time as arrival_time, stop_times_departure_time as departure_time};
 ghost use Rattle.stop_schedule.specs.Sheet.{Row, nth};
 ghost use Rattle.stop_schedule.specs.StopTimes as spec;
@@ -17,9 +18,8 @@ ghost use Rattle.stop_schedule.specs.declared.table_file.TableFile.TheVariants a
 use crate::column::Column;
 use crate::forms::{seconds, sequence};
 use crate::guesses::Guesses;
-use crate::ids::{Ids, find_from, find_in};
+use crate::id_fields::{find_from, find_in};
 use crate::limits::{MAX_STOPS, row_limit};
-use crate::numbers::StopNo;
 use crate::sheet::Sheet;
 use crate::stop_times::LoadedStop;
 use crate::table_fault::TableFault;
@@ -27,6 +27,7 @@ use crate::table_file::TableFile;
 use crate::taking::TakesRows;
 use crate::trip_stops::TripStops;
 use std::alloc::Global;
+use timetable::{Ids, StopNo};
 
 /// The stops of each trip of `trips.txt`, in rising sequence. Besides, where the next row's ids are looked for at
 /// first: at the trip that began last, and at a guess of its stop.

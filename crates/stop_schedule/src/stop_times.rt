@@ -5,22 +5,8 @@ ghost use Rattle.stop_schedule.specs.Rising.{IsBetween, has_sequence, is_rising}
 ghost use Rattle.stop_schedule.specs.declared.stop_times.LoadedStop.{LoadedStop};
 ghost use Rattle.stop_schedule.specs.StopTimes as spec;
 
-use crate::numbers::StopNo;
 use std::alloc::AllocError;
-
-/// A stop of a trip, with its times in seconds from the start of the service day (GTFS Schedule reference,
-/// stop_times.txt).
-#[derive(Clone, Copy, Debug, PartialEq, Eq)]
-pub struct StopRow {
-    /// Its place in the trip.
-    pub sequence: u32,
-    /// The stop.
-    pub stop: StopNo,
-    /// The arrival.
-    pub arrival: u32,
-    /// The departure.
-    pub departure: u32,
-}
+use timetable::{StopNo, StopRow};
 
 /// A stop of a trip as its row has it: the number of the row, and the times where it has any.
 #[derive(Clone, Copy, Debug)]

@@ -3,12 +3,13 @@ ghost use Rattle.std.specs.Prelude.{◌≡◌};
 
 use crate::column::Column;
 use crate::guesses::Guesses;
-use crate::ids::{Ids, find_from};
+use crate::id_fields::find_from;
 use crate::sheet::Sheet;
 use crate::table_fault::TableFault;
 use crate::table_file::TableFile;
 use crate::taking::TakesRows;
 use std::alloc::Global;
+use timetable::Ids;
 
 /// The trips of the rows, each with the number of its route and of its service. Besides, where the next row's ids are
 /// looked for at first: at a guess of its route, and at the last service.

@@ -4,9 +4,9 @@ ghost use Rattle.std.specs.Prelude.{◌≡◌, ◌++◌, ℕ, [], true, length, 
 ghost use Rattle.stop_schedule.specs.Rising.{is_rising};
 ghost use Rattle.stop_schedule.specs.TripStops as spec;
 
-use crate::numbers::StopNo;
 use crate::stop_times::{LoadedStop, place_of};
 use std::alloc::{AllocError, Global};
+use timetable::StopNo;
 
 /// A stop in few bytes: its sequence, its number, the seconds from its trip's first minute to the arrival, and those
 /// from there to the departure.

@@ -6,8 +6,8 @@ ghost use Rattle.alert_map.specs.Alerts.{alert_message};
 ghost use Rattle.journey_model.specs.Situations.{AreKnown};
 ghost use Rattle.journey_model.specs.declared.situation.Situation as of_journeys;
 ghost use Rattle.siri_situations.specs.Deliveries.{RefersToKnown, ReferToKnown};
-ghost use Rattle.stop_schedule.specs.Seen.{seen};
-ghost use Rattle.stop_schedule.specs.Table.{Table};
+ghost use Rattle.timetable.specs.Seen.{seen};
+ghost use Rattle.timetable.specs.Table.{Table};
 ghost use Rattle.gateway_core.specs.JourneySteps.{room_fault};
 ghost use Rattle.gateway_core.specs.SituationSteps as spec;
 ghost use Rattle.gateway_core.specs.Standing.{KeepsSituations};
@@ -20,7 +20,7 @@ use gw_base::{Bytes, List, Text};
 use journey_model::{Fault, Report, Situation};
 use siri_situations::{Item, SituationDelivery};
 use std::alloc::{AllocError, Global};
-use stop_schedule::Timetable;
+use timetable::Timetable;
 
 /// The most bytes of the body of an alert's entity.
 const ALERT_LIMIT: u64 = 65_536;

@@ -1,7 +1,7 @@
 -- A delivery that was written says the same when it is read again.
 use Rattle.std.proofs.Common.{List, All, ℤ, arith}
 use Rattle.gw_base.specs.Moments.{IsMoment}
-use Rattle.stop_schedule.specs.Sound.{IsSound}
+use Rattle.timetable.specs.Sound.{IsSound}
 use Rattle.journey_model.specs.Schedules.{Schedule}
 use Rattle.journey_model.specs.declared.readings.DatedReading.{DatedReading}
 use Rattle.siri_calls.specs.Written.DeliveryTree.{delivery_text, delivery_tree}

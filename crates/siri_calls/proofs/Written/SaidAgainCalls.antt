@@ -8,9 +8,9 @@ use Rattle.gw_base.specs.declared.member.Member.{Member}
 use Rattle.serde_json.specs.Data.{Data}
 use Rattle.service_day.specs.Utc.{moment_text}
 use Rattle.service_day.specs.declared.zones.Rules.{Rules}
-use Rattle.stop_schedule.specs.Planned.{planned}
-use Rattle.stop_schedule.specs.Stops.{is_timed}
-use Rattle.stop_schedule.specs.declared.stop_times.StopRow.{StopRow}
+use Rattle.timetable.specs.Planned.{planned}
+use Rattle.timetable.specs.Stops.{is_timed}
+use Rattle.timetable.specs.declared.stop_row.StopRow.{StopRow}
 use Rattle.journey_model.specs.Ids.{id_of}
 use Rattle.journey_model.specs.Matching.{call_place, fits_order, is_of_stop, place_after, stands_at}
 use Rattle.journey_model.specs.Readings.{are_near, is_near}

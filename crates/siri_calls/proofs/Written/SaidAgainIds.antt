@@ -5,7 +5,7 @@ use Rattle.std.proofs.lemmas.Bool.{and_parts, or_parts, not-true, leb-true, true
 use Rattle.std.proofs.lemmas.List.Sums.{position_or_len_is}
 use Rattle.std.proofs.lemmas.Slice.Eq.{bytes_eq-Decides}
 use Rattle.std.proofs.lemmas.Str.{IsUtf8-from_is_utf8}
-use Rattle.stop_schedule.specs.Ids.{are_distinct, are_ids, has_id, is_id}
+use Rattle.timetable.specs.Ids.{are_distinct, are_ids, has_id, is_id}
 
 -- a test of all passes at each place, and a test of none fails there
 pub all-at : {A : Type 0} (test : A → Bool) (xs : List A) (i : ℕ) (d : A) → list_all test xs ≡ true → i < length xs → test (get_or xs i d) ≡ true

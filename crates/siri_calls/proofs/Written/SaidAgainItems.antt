@@ -9,8 +9,8 @@ use Rattle.service_day.specs.DayTexts.{dashed_text}
 use Rattle.gw_base.specs.Moments.{IsMoment}
 use Rattle.service_day.specs.Utc.{moment_text}
 use Rattle.service_day.specs.declared.zones.Rules.{Rules}
-use Rattle.stop_schedule.specs.Sound.{IsSound}
-use Rattle.stop_schedule.specs.declared.stop_times.StopRow.{StopRow}
+use Rattle.timetable.specs.Sound.{IsSound}
+use Rattle.timetable.specs.declared.stop_row.StopRow.{StopRow}
 use Rattle.gw_base.specs.Chains.{◌>>=◌}
 use Rattle.journey_model.specs.Ids.{id_of}
 use Rattle.journey_model.specs.Readings.{fits_trip}

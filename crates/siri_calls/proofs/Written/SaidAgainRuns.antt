@@ -4,10 +4,10 @@ use Rattle.std.specs.List.{list_all}
 use Rattle.std.proofs.lemmas.Bool.{and_parts, leb-true}
 use Rattle.service_day.specs.Starts.{IsDayStart}
 use Rattle.service_day.specs.Windows.{start_in}
-use Rattle.stop_schedule.specs.Ids.{are_ids}
-use Rattle.stop_schedule.specs.Limits.{stop_limit}
-use Rattle.stop_schedule.specs.Sound.{IsSound}
-use Rattle.stop_schedule.specs.Stops.{is_timed}
+use Rattle.timetable.specs.Ids.{are_ids}
+use Rattle.timetable.specs.Limits.{stop_limit}
+use Rattle.timetable.specs.Sound.{IsSound}
+use Rattle.timetable.specs.Stops.{is_timed}
 use Rattle.journey_model.specs.Runs.{Run}
 use Rattle.journey_model.specs.Schedules.{Schedule, run_from}
 use Rattle.journey_model.specs.declared.readings.DatedReading.{DatedReading}

@@ -1,8 +1,8 @@
 -- The readings of a journey, one near each stop of its trip.
 use Rattle.std.proofs.Common.{◌≡◌, ℕ, ℤ, map, ◌<◌, true, List, [], ◌∷◌, length, slice_get, Some, refl, arith, suc, zero}
 use Rattle.std.proofs.lemmas.Bool.{and_parts}
-use Rattle.stop_schedule.specs.Planned.{planned}
-use Rattle.stop_schedule.specs.declared.stop_times.StopRow.{StopRow}
+use Rattle.timetable.specs.Planned.{planned}
+use Rattle.timetable.specs.declared.stop_row.StopRow.{StopRow}
 use Rattle.journey_model.specs.Readings.{are_near, fits_trip, is_near}
 use Rattle.journey_model.specs.Runs.{Run}
 use Rattle.journey_model.specs.declared.readings.JourneyReading.{JourneyReading}

@@ -5,9 +5,9 @@ use Rattle.json.specs.Print.{quoted}
 use Rattle.serde_json.specs.Written.{comma_if}
 use Rattle.service_day.specs.DayTexts.{dashed_text}
 use Rattle.service_day.specs.Utc.{moment_text}
-use Rattle.stop_schedule.specs.Planned.{planned}
-use Rattle.stop_schedule.specs.Table.{Table}
-use Rattle.stop_schedule.specs.declared.stop_times.StopRow.{StopRow}
+use Rattle.timetable.specs.Planned.{planned}
+use Rattle.timetable.specs.Table.{Table}
+use Rattle.timetable.specs.declared.stop_row.StopRow.{StopRow}
 use Rattle.journey_model.specs.Ids.{id_of}
 use Rattle.journey_model.specs.Runs.{Run}
 use Rattle.journey_model.specs.Schedules.{Schedule, run_on}

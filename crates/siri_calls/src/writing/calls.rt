@@ -2,8 +2,8 @@
 ghost use Rattle.std.specs.Prelude.{◌≡◌, ◌++◌, ◌+◌, ◌<◌, true, false, length, slice_get, Some, OnOk};
 ghost use Rattle.serde_json.specs.Written.{comma_if};
 ghost use Rattle.gw_base.specs.Moments.{IsMoment};
-ghost use Rattle.stop_schedule.specs.Planned.{planned};
-ghost use Rattle.stop_schedule.specs.Stops.{are_known, is_timed};
+ghost use Rattle.timetable.specs.Planned.{planned};
+ghost use Rattle.timetable.specs.Stops.{are_known, is_timed};
 ghost use Rattle.journey_model.specs.Readings.{AreMoments, fits_trip, is_near};
 ghost use Rattle.siri_calls.specs.Written.DeliveryTree.{stop_readings};
 ghost use Rattle.siri_calls.specs.Written.DeliveryTexts.{aimed_text, call_text, calls_text, said_text, stop_text};
@@ -14,7 +14,7 @@ use crate::writing::texts::{put_number, put_text, put_times};
 use gw_base::Bytes;
 use journey_model::{JourneyReading, StopReading};
 use std::alloc::AllocError;
-use stop_schedule::StopRow;
+use timetable::StopRow;
 
 // Adds the planned times of a stop, with which its call begins.
 fn put_aimed(out: &mut Bytes, times: &(i64, i64)) -> Result<(), AllocError>

@@ -1,8 +1,8 @@
 //! Journeys (SIRI 2.0, EstimatedVehicleJourney), written. The functions meet `specs/Written/DeliveryTexts.antt`.
 ghost use Rattle.std.specs.Prelude.{◌≡◌, ◌++◌, ◌<◌, true, false, length, All, OnOk};
 ghost use Rattle.gw_base.specs.Moments.{IsMoment};
-ghost use Rattle.stop_schedule.specs.Seen.{seen};
-ghost use Rattle.stop_schedule.specs.Stops.{are_known};
+ghost use Rattle.timetable.specs.Seen.{seen};
+ghost use Rattle.timetable.specs.Stops.{are_known};
 ghost use Rattle.journey_model.specs.Readings.{fits_trip};
 ghost use Rattle.journey_model.specs.Schedules.{FitsSchedule, run_on};
 ghost use Rattle.siri_calls.specs.Written.DeliveryTree.{is_cancelled_journey};

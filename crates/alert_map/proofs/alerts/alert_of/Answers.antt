@@ -1,5 +1,5 @@
 -- The timetable has each thing that is referred to.
-use Rattle.stop_schedule.specs.Seen.{seen}
+use Rattle.timetable.specs.Seen.{seen}
 use Rattle.alert_map.proofs.AlertLemmas.{each_known}
 use Rattle.alert_map.proofs.alerts.alert_of.Goals as goal
 

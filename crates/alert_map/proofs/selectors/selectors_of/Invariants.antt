@@ -1,6 +1,6 @@
 -- the selectors so far and those of what is left are all
 use Rattle.std.proofs.Common.{◌≡◌, ◌++◌, drop, map}
-use Rattle.stop_schedule.specs.Seen.{seen}
+use Rattle.timetable.specs.Seen.{seen}
 use Rattle.alert_map.specs.Alerts.{selector_of}
 use Rattle.alert_map.proofs.selectors.selectors_of.Given as goal
 

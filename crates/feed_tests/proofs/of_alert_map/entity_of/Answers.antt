@@ -2,9 +2,9 @@
 use Rattle.std.proofs.Common.{◌≡◌, ◌<◌, ◌∷◌, List, [], length, refl}
 use Rattle.std.proofs.lemmas.Bool.{lt-ltb}
 use Rattle.std.proofs.lemmas.Result.{IfOk-weaker}
-use Rattle.stop_schedule.specs.Seen.{seen}
-use Rattle.stop_schedule.specs.Table.{Table}
-use Rattle.stop_schedule.specs.declared.numbers.RouteNo.{RouteNo}
+use Rattle.timetable.specs.Seen.{seen}
+use Rattle.timetable.specs.Table.{Table}
+use Rattle.timetable.specs.declared.numbers.RouteNo.{RouteNo}
 use Rattle.journey_model.specs.Situations.{AreKnown}
 use Rattle.journey_model.specs.declared.situation.Ref.{Ref}
 use Rattle.journey_model.specs.declared.situation.Ref.TheVariants.{Route}

@@ -1,6 +1,6 @@
 -- It is the lemma, over a timetable that is sound.
 use Rattle.std.proofs.Common.{subst}
-use Rattle.stop_schedule.specs.Sound.{IsSound}
+use Rattle.timetable.specs.Sound.{IsSound}
 use Rattle.journey_model.specs.Schedules.{Schedule}
 use Rattle.reverse_alerts.proofs.ComesBack.{comes_back}
 use Rattle.reverse_alerts.proofs.coming_back.what_was_read_comes_back_law.Goals as goal

@@ -1,7 +1,7 @@
 -- What one selector more names stands after what those before it name.
 use Rattle.std.proofs.Common.{◌≡◌, ◌∙◌, ◌+◌, ◌∷◌, ap, sym, drop}
 use Rattle.std.proofs.lemmas.List.{at_drop_all, drop_more}
-use Rattle.stop_schedule.specs.Seen.{seen}
+use Rattle.timetable.specs.Seen.{seen}
 use Rattle.reverse_alerts.specs.Kept.{all_named, named}
 use Rattle.reverse_alerts.proofs.NamingLemmas.{joined, joined_none, one_joined}
 use Rattle.reverse_alerts.proofs.selectors.find_named.Goals as goal

@@ -1,6 +1,6 @@
 -- what was found, and after it what the selectors that are left name
 use Rattle.std.proofs.Common.{◌≡◌, drop}
-use Rattle.stop_schedule.specs.Seen.{seen}
+use Rattle.timetable.specs.Seen.{seen}
 use Rattle.reverse_alerts.specs.Kept.{all_named}
 use Rattle.reverse_alerts.specs.Naming.{refs_of}
 use Rattle.reverse_alerts.proofs.NamingLemmas.{joined}

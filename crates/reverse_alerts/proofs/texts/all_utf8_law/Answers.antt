@@ -2,7 +2,7 @@
 use Rattle.std.proofs.Common.{All, subst}
 use Rattle.std.proofs.lemmas.List.{take_all}
 use Rattle.std.proofs.lemmas.List.Elements.{All-more}
-use Rattle.stop_schedule.specs.Seen.{seen}
+use Rattle.timetable.specs.Seen.{seen}
 use Rattle.reverse_alerts.specs.Texts.{HasTexts}
 use Rattle.reverse_alerts.proofs.SxLemmas.{all_utf8}
 use Rattle.reverse_alerts.proofs.texts.all_utf8_law.Goals as goal

@@ -1,6 +1,6 @@
 -- what was written, and after it the text of the others
 use Rattle.std.proofs.Common.{◌≡◌, ◌++◌, false, drop}
-use Rattle.stop_schedule.specs.Seen.{seen}
+use Rattle.timetable.specs.Seen.{seen}
 use Rattle.reverse_alerts.specs.SituationTexts.{refs_text}
 use Rattle.reverse_alerts.proofs.write_affects.put_refs.Given as goal
 

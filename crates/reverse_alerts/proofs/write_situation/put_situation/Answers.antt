@@ -2,7 +2,7 @@
 use Rattle.std.proofs.Common.{◌∙◌, ◌++◌, ap}
 use Rattle.std.proofs.lemmas.Result.{on_ok_weaker}
 use Rattle.siri_calls.proofs.Written.WrittenLemmas.{three_pieces}
-use Rattle.stop_schedule.specs.Seen.{seen}
+use Rattle.timetable.specs.Seen.{seen}
 use Rattle.reverse_alerts.proofs.NamingLemmas.{all_known}
 use Rattle.reverse_alerts.proofs.SituationLemmas.{three_parts}
 use Rattle.reverse_alerts.proofs.write_situation.put_situation.Goals as goal

@@ -1,6 +1,6 @@
 -- One entity more, and the end.
 use Rattle.std.proofs.Common.{◌∙◌}
-use Rattle.stop_schedule.specs.Seen.{seen}
+use Rattle.timetable.specs.Seen.{seen}
 use Rattle.reverse_alerts.proofs.ProgressLemmas.{run_begins, run_ends, run_goes_on}
 use Rattle.reverse_alerts.proofs.writing.write_all.Goals as goal
 

@@ -1,5 +1,5 @@
 -- the entities so far are written and reported
-use Rattle.stop_schedule.specs.Seen.{seen}
+use Rattle.timetable.specs.Seen.{seen}
 use Rattle.reverse_alerts.proofs.ProgressLemmas.{RunTo}
 use Rattle.reverse_alerts.proofs.writing.write_all.Given as goal
 

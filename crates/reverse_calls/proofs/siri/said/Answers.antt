@@ -1,6 +1,6 @@
 use Rattle.std.proofs.Common.{subst}
 use Rattle.gw_base.specs.Moments.{IsMoment}
-use Rattle.stop_schedule.specs.Sound.{IsSound}
+use Rattle.timetable.specs.Sound.{IsSound}
 use Rattle.journey_model.specs.Schedules.{Schedule}
 use Rattle.reverse_calls.proofs.SaidLemmas.{says_all}
 use Rattle.reverse_calls.proofs.siri.said.Goals as goal

@@ -2,7 +2,7 @@
 use Rattle.std.proofs.Common.{◌≡◌, ◌≤◌, ap, arith, length, subst, sym}
 use Rattle.journey_model.specs.Schedules.{Schedule}
 use Rattle.journey_model.specs.declared.readings.JourneyReading.TheVariants.{Stops}
-use Rattle.stop_schedule.specs.Limits.{stop_limit}
+use Rattle.timetable.specs.Limits.{stop_limit}
 use Rattle.sample_run.specs.Steps.{IsWithin}
 use Rattle.sample_run.specs.declared.tally.Tally.{Tally}
 use Rattle.sample_run.proofs.StopLemmas.{stops_read}

@@ -4,7 +4,7 @@ use Rattle.std.specs.List.{AllByRecursion}
 use Rattle.journey_model.specs.declared.readings.JourneyReading.{JourneyReading}
 use Rattle.propagation.specs.Feeds.{IsServable}
 use Rattle.sample_maker.specs.Pieces.{all_below}
-use Rattle.stop_schedule.specs.Limits.{stop_limit}
+use Rattle.timetable.specs.Limits.{stop_limit}
 use Rattle.sample_run.specs.Steps.{AreSaid, IsWithin, stops_said, tally}
 use Rattle.sample_run.proofs.counting.sum_of.Given as goal
 

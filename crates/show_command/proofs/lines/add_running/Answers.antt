@@ -1,6 +1,6 @@
 -- The readings are one for each stop of the trip on its day, and its stops are the timetable's.
 use Rattle.std.proofs.Common.{◌≡◌, length, subst, true}
-use Rattle.stop_schedule.specs.Stops.{are_known}
+use Rattle.timetable.specs.Stops.{are_known}
 use Rattle.journey_model.specs.Readings.{are_near}
 use Rattle.journey_model.specs.Schedules.{Schedule}
 use Rattle.journey_model.proofs.NearLemmas.{as_many}

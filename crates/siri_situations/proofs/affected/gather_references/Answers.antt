@@ -1,6 +1,6 @@
 use Rattle.std.proofs.Common.{◌≡◌, ◌∙◌, ◌+◌, ◌∷◌, sym, ap, drop}
 use Rattle.std.proofs.lemmas.List.{drop_more}
-use Rattle.stop_schedule.specs.Seen as table_seen
+use Rattle.timetable.specs.Seen as table_seen
 use Rattle.siri_situations.specs.Affected.{reference}
 use Rattle.siri_situations.specs.Shown.{all_seen, seen}
 use Rattle.siri_situations.specs.Steps.{gather}

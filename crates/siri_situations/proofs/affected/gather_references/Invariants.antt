@@ -1,6 +1,6 @@
 use Rattle.std.proofs.Common.{◌++◌, drop}
 use Rattle.gw_base.specs.Chains.{ok_map}
-use Rattle.stop_schedule.specs.Seen.{seen}
+use Rattle.timetable.specs.Seen.{seen}
 use Rattle.siri_situations.specs.Affected.{reference}
 use Rattle.siri_situations.specs.Shown.{all_seen}
 use Rattle.siri_situations.specs.Steps.{gather}

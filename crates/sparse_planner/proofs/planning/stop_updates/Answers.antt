@@ -7,8 +7,8 @@ use Rattle.gw_base.specs.declared.messages.StopUpdate.{StopUpdate}
 use Rattle.journey_model.specs.Readings.{are_near, is_near, is_skipped}
 use Rattle.journey_model.specs.Times.{is_delay}
 use Rattle.journey_model.specs.declared.readings.StopReading.{StopReading}
-use Rattle.stop_schedule.specs.Planned.{planned}
-use Rattle.stop_schedule.specs.declared.stop_times.StopRow.{StopRow}
+use Rattle.timetable.specs.Planned.{planned}
+use Rattle.timetable.specs.declared.stop_row.StopRow.{StopRow}
 use Rattle.sparse_planner.specs.Shortest.{same_reading, update}
 use Rattle.sparse_planner.proofs.States.{delay-is, delay-small, needs, plan-more, plan_from, updates-plan, zip-over}
 use Rattle.sparse_planner.proofs.planning.stop_updates.Goals as goal

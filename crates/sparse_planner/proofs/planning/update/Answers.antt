@@ -1,7 +1,7 @@
 use Rattle.std.proofs.Common.{◌≡◌, ◌+ℤ◌, ◌-ℤ◌, ℤ, pos, true, ap, arith, subst, to_z, of_z, w64}
 use Rattle.std.proofs.lemmas.Bool.{and_parts}
 use Rattle.std.proofs.lemmas.Int.{ints}
-use Rattle.stop_schedule.specs.Planned.{planned}
+use Rattle.timetable.specs.Planned.{planned}
 use Rattle.journey_model.specs.Times.{is_delay}
 use Rattle.journey_model.proofs.Delays.{delay-range}
 use Rattle.sparse_planner.proofs.planning.update.Goals as goal

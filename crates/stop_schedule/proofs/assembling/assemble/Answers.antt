@@ -15,15 +15,12 @@ pub returns-clause-exact : goal.returns-clause-exact
 returns-clause-exact c sheets held =
     let carries = rw (c.as_slice.ensures.value, c.as_slice-2.ensures.value) at c.in_ok-all.ensures in (
       ap (option_map UntimedEnd) (sym (untimed_of sheets c.args.folder c.in_ok-all.all held carries) ∙ c.in_default.is),
-      shown_of sheets c.args.folder c.in_ok-trips.trips c.in_ok-all.all held
+      c.new.ensures ∙ shown_of sheets c.args.folder c.in_ok-trips.trips c.in_ok-all.all held
           (rw c.as_slice-3.ensures.value at c.in_ok-trips.ensures) carries,
     )
 
-pub invariant_of-result : goal.invariant_of-result
-invariant_of-result c =
+pub new-requires : goal.new-requires
+new-requires c =
     let carries = rw (c.as_slice.ensures.value, c.as_slice-2.ensures.value) at c.in_ok-all.ensures in
-    record {
-      in_range = in-range (listed c.args.folder) c.args.folder.routes c.args.folder.stops c.in_ok-trips.trips
-          c.in_ok-all.all c.requires.trips c.requires.stops
-          (rw c.as_slice-3.ensures.value at c.in_ok-trips.ensures) carries;
-    }
+    in-range (listed c.args.folder) c.args.folder.routes c.args.folder.stops c.in_ok-trips.trips c.in_ok-all.all
+    c.requires.trips c.requires.stops (rw c.as_slice-3.ensures.value at c.in_ok-trips.ensures) carries

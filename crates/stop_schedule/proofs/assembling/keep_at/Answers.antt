@@ -1,9 +1,9 @@
 -- The id of a trip that is carried is one, and is new.
 use Rattle.std.proofs.Common.{◌≡◌, ◌∙◌, true, false, [], get_or, sym}
 use Rattle.std.proofs.lemmas.Bool.{false≢true}
-use Rattle.stop_schedule.specs.Ids.{has_id, is_id}
+use Rattle.timetable.specs.Ids.{has_id, is_id}
 use Rattle.stop_schedule.proofs.CarryingLemmas.{found_at}
-use Rattle.stop_schedule.proofs.IdLemmas.{and-left, id-at}
+use Rattle.timetable.proofs.IdLemmas.{and-left, id-at}
 use Rattle.stop_schedule.proofs.assembling.keep_at.Goals as goal
 
 pub prove-unreachable-requires : goal.prove-unreachable-requires

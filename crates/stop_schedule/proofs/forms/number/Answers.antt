@@ -1,6 +1,6 @@
 use Rattle.std.proofs.Common.{◌∙◌, ◌<◌, sym, arith, ap}
 use Rattle.stop_schedule.specs.Forms.{small}
-use Rattle.stop_schedule.specs.Limits.{number_limit}
+use Rattle.timetable.specs.Limits.{number_limit}
 use Rattle.stop_schedule.proofs.FormLemmas.{too-great}
 use Rattle.stop_schedule.proofs.forms.number.Goals as goal
 

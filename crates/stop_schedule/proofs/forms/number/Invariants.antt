@@ -1,5 +1,5 @@
 use Rattle.std.proofs.Common.{◌≡◌, length}
-use Rattle.stop_schedule.specs.Forms.{digits_value}
+use Rattle.timetable.specs.Digits.{digits_value}
 use Rattle.stop_schedule.proofs.forms.number.Given as goal
 
 -- what the digits so far and those that are left name together is the number

@@ -1,5 +1,5 @@
 use Rattle.std.proofs.Common.{ap, is_some, sym}
-use Rattle.stop_schedule.proofs.IdLemmas.{has-at, place-of-id-at}
+use Rattle.timetable.proofs.IdLemmas.{has-at, place-of-id-at}
 use Rattle.stop_schedule.specs.Sheet.{nth}
 use Rattle.stop_schedule.proofs.KnownLemmas.{known-fits}
 use Rattle.stop_schedule.proofs.StopStep.{loaded-row}

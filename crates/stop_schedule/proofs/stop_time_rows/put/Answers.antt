@@ -3,17 +3,18 @@ use Rattle.std.proofs.Common.{◌≡◌, ◌∙◌, ◌<◌, ◌≤◌, ◌+◌,
 use Rattle.std.specs.Option.{option_map}
 use Rattle.std.proofs.lemmas.List.{map-set}
 use Rattle.std.proofs.lemmas.Option.{slice_get-get_or, slice_get-map}
-use Rattle.stop_schedule.specs.Limits.{stop_limit}
+use Rattle.timetable.specs.Limits.{stop_limit}
 use Rattle.stop_schedule.specs.TripStops.{stops_kept}
 use Rattle.stop_schedule.specs.Rising.{has_sequence, is_rising}
 use Rattle.stop_schedule.specs.Sheet.{nth}
 use Rattle.stop_schedule.specs.StopTimes.{loaded, placed, sequence_of, stops_in}
 use Rattle.stop_schedule.specs.declared.stop_times.LoadedStop.{LoadedStop}
 use Rattle.stop_schedule.specs.Keeping.{are_loaded}
-use Rattle.stop_schedule.proofs.IdLemmas.{and-left, and-right, has-at}
+use Rattle.timetable.proofs.IdLemmas.{and-left, and-right, has-at}
 use Rattle.stop_schedule.proofs.KeepingLemmas.{loaded-placed}
 use Rattle.stop_schedule.proofs.ListLemmas.{list_all-set}
-use Rattle.stop_schedule.proofs.StopStep.{too-many, twice, no-fault, held-at, stops-step, all-at}
+use Rattle.stop_schedule.proofs.StopStep.{too-many, twice, no-fault, held-at, stops-step}
+use Rattle.timetable.proofs.IdLemmas.{all-at}
 use Rattle.stop_schedule.proofs.stop_time_rows.put.Goals as goal
 
 pub returns-then-len-ge-MAX_STOPS-clause-puts : goal.returns-then-len-ge-MAX_STOPS-clause-puts

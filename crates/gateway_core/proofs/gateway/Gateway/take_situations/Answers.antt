@@ -5,7 +5,7 @@ use Rattle.std.specs.Cmp.Lexicographic.{slice_cmp}
 use Rattle.std.specs.Ordering.{nat_cmp}
 use Rattle.feed_index.specs.Entries.{put_all}
 use Rattle.feed_index.specs.declared.entry.Entry.{Entry}
-use Rattle.stop_schedule.specs.Seen.{seen}
+use Rattle.timetable.specs.Seen.{seen}
 use Rattle.gateway_core.specs.Arrivals.{admitted, admitted_situations, is_within, moments_of, schedule_at, window_at}
 use Rattle.gateway_core.specs.Settings.{IsWindowIn}
 use Rattle.gateway_core.specs.SituationSteps.{IsRefused, TakesBody}

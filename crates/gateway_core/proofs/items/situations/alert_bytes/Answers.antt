@@ -1,6 +1,6 @@
 -- The length of the entity is that of what is written, and the verdict goes by it.
 use Rattle.std.proofs.Common.{◌∙◌}
-use Rattle.stop_schedule.specs.Seen.{seen}
+use Rattle.timetable.specs.Seen.{seen}
 use Rattle.alert_map.specs.Alerts.{alert_message}
 use Rattle.gateway_core.proofs.SituationLemmas.{over_limit, served_over, served_within, within_limit}
 use Rattle.gateway_core.proofs.items.situations.alert_bytes.Goals as goal

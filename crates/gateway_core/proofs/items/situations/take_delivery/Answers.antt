@@ -1,6 +1,6 @@
 -- The report has those that are set aside; the others are taken.
 use Rattle.std.proofs.Common.{◌∙◌, ◌-◌, ℕ, ap, length, refl}
-use Rattle.stop_schedule.specs.Seen.{seen}
+use Rattle.timetable.specs.Seen.{seen}
 use Rattle.gateway_core.specs.SituationSteps.{alerts_after}
 use Rattle.gateway_core.proofs.SituationLemmas.{report_of}
 use Rattle.gateway_core.proofs.items.situations.take_delivery.Goals as goal

@@ -1,7 +1,7 @@
 -- What is gathered of one item more.
 use Rattle.std.proofs.Common.{◌∙◌, ◌+◌, [], ℕ, List, arith, ap, length, map, take, refl, subst, sym}
 use Rattle.journey_model.specs.declared.fault.Fault.{Fault}
-use Rattle.stop_schedule.specs.Seen.{seen}
+use Rattle.timetable.specs.Seen.{seen}
 use Rattle.gateway_core.specs.SituationSteps.{GathersVerdicts, alerts_after, item_verdict}
 use Rattle.gateway_core.proofs.SituationLemmas.{gathers_aside, gathers_none, gathers_taken, one_longer}
 use Rattle.gateway_core.proofs.items.situations.take_items.Goals as goal

@@ -1,7 +1,7 @@
 -- what was gathered of the items so far
 use Rattle.std.proofs.Common.{◌≡◌, ◌≤◌, List, length, map, take}
 use Rattle.journey_model.specs.declared.situation.Situation.{Situation}
-use Rattle.stop_schedule.specs.Seen.{seen}
+use Rattle.timetable.specs.Seen.{seen}
 use Rattle.gateway_core.specs.SituationSteps.{GathersVerdicts, alerts_after, item_verdict}
 use Rattle.gateway_core.specs.Standing.{KeepsSituations}
 use Rattle.gateway_core.proofs.items.situations.take_items.Given as goal

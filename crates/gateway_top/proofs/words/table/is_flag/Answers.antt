@@ -2,7 +2,7 @@ use Rattle.std.proofs.Common.{rules, tests, sym, ◌∙◌, nat_eq}
 use Rattle.std.specs.Cmp.Lexicographic.{pointwise}
 use Rattle.std.proofs.lemmas.Iterator.{YieldsList-from_slice}
 use Rattle.std.proofs.lemmas.Iterator.Search.{any_from_yields_List}
-use Rattle.stop_schedule.proofs.IdLemmas.{list_any-map}
+use Rattle.timetable.proofs.IdLemmas.{list_any-map}
 use Rattle.gateway_top.proofs.words.table.is_flag.Goals as goal
 
 pub returns : goal.returns

@@ -1,6 +1,6 @@
 -- How many are named, and how many are passed over.
 use Rattle.std.proofs.Common.{◌∙◌, ◌-◌, length, ap, arith}
-use Rattle.stop_schedule.specs.Seen.{seen}
+use Rattle.timetable.specs.Seen.{seen}
 use Rattle.reverse_alerts.specs.Kept.{all_named}
 use Rattle.reverse_alerts.specs.Progress.{with_passed}
 use Rattle.reverse_alerts.proofs.NamingLemmas.{count_is, few_named}

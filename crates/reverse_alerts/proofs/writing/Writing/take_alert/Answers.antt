@@ -1,7 +1,7 @@
 -- An alert with a fault is set aside, and one without is taken.
 use Rattle.std.proofs.Common.{◌≡◌, Some, Err}
 use Rattle.std.proofs.lemmas.Result.{on_ok_weaker}
-use Rattle.stop_schedule.specs.Seen.{seen}
+use Rattle.timetable.specs.Seen.{seen}
 use Rattle.reverse_alerts.specs.Taken.{verdict}
 use Rattle.reverse_alerts.proofs.ProgressLemmas.{told, verdict_by}
 use Rattle.reverse_alerts.proofs.SituationLemmas.{aside_report, aside_text}

@@ -2,7 +2,7 @@
 use Rattle.std.proofs.Common.{◌≡◌, ◌∙◌, ◌+◌, ◌<◌, ◌++◌, true, nat_lt, length, get_or, ap, arith}
 use Rattle.std.proofs.lemmas.Bool.Decides.{nat_tests}
 use Rattle.std.proofs.lemmas.Option.{slice_get-get_or}
-use Rattle.stop_schedule.specs.declared.stop_times.StopRow.{StopRow}
+use Rattle.timetable.specs.declared.stop_row.StopRow.{StopRow}
 use Rattle.siri_calls.specs.Written.DeliveryTree.{stop_readings}
 use Rattle.siri_calls.specs.Written.DeliveryTexts.{call_text}
 use Rattle.siri_calls.specs.TripRuns.{run_over}

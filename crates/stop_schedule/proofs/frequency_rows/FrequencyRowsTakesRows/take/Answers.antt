@@ -2,7 +2,7 @@ use Rattle.std.proofs.Common.{◌≡◌, ◌∙◌, ◌++◌, ◌∷◌, [], tru
 use Rattle.std.specs.Str.{is_utf8}
 use Rattle.stop_schedule.specs.Sheet.{nth}
 use Rattle.stop_schedule.specs.Trips.{is_carried}
-use Rattle.stop_schedule.proofs.IdLemmas.{and-left, and-right, id-of-place}
+use Rattle.timetable.proofs.IdLemmas.{and-left, and-right, id-of-place}
 use Rattle.stop_schedule.proofs.ListLemmas.{set-one}
 use Rattle.stop_schedule.proofs.StepLemmas.{carried-other, carried-not}
 use Rattle.stop_schedule.proofs.frequency_rows.FrequencyRowsTakesRows.take.Goals as goal

@@ -1,9 +1,9 @@
 use Rattle.std.proofs.Common.{◌≡◌, ◌∙◌, true, Some, None, ℕ, cond, nat_eq, slice_get, sym, ap}
-use Rattle.stop_schedule.specs.Holding.{calendar_at}
-use Rattle.stop_schedule.specs.Ids.{are_distinct, with_id}
+use Rattle.timetable.specs.Services.{calendar_at}
+use Rattle.timetable.specs.Ids.{are_distinct, with_id}
 use Rattle.stop_schedule.specs.Services.{calendar_of}
 use Rattle.stop_schedule.specs.Sheet.{nth}
-use Rattle.stop_schedule.proofs.IdLemmas.{and-right}
+use Rattle.timetable.proofs.IdLemmas.{and-right}
 use Rattle.stop_schedule.proofs.ServiceStep.{calendar-is, calendars-step, calendars-twice, text-8, text-9}
 use Rattle.stop_schedule.proofs.service_rows.CalendarRowsTakesRows.take.Goals as goal
 

@@ -3,11 +3,11 @@ use mir.Val.{to_z, of_z}
 use Rattle.std.specs.Int.{w32}
 use Rattle.std.specs.Ordering.{int_eq}
 use Rattle.std.proofs.lemmas.Int.{to_z-of_z}
-use Rattle.stop_schedule.specs.Holding.{exception_at}
-use Rattle.stop_schedule.specs.Ids.{are_distinct, with_id}
+use Rattle.timetable.specs.Services.{exception_at}
+use Rattle.timetable.specs.Ids.{are_distinct, with_id}
 use Rattle.stop_schedule.specs.Services.{day_of_row, is_one}
 use Rattle.stop_schedule.specs.Sheet.{nth}
-use Rattle.stop_schedule.proofs.IdLemmas.{and-right}
+use Rattle.timetable.proofs.IdLemmas.{and-right}
 use Rattle.stop_schedule.proofs.ServiceStep.{dates-step, dates-twice, text-1}
 use Rattle.stop_schedule.proofs.service_rows.DateRowsTakesRows.take.Goals as goal
 

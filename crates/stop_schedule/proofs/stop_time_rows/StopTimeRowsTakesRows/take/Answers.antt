@@ -2,13 +2,13 @@ use Rattle.std.proofs.Common.{◌≡◌, ◌∙◌, ◌<◌, ◌≤◌, true, fa
 use Rattle.std.specs.Str.{is_utf8}
 use Rattle.std.proofs.lemmas.Bool.{leb-true}
 use Rattle.std.proofs.lemmas.Bool.Decides.{nat_tests}
-use Rattle.stop_schedule.specs.Limits.{stop_limit}
+use Rattle.timetable.specs.Limits.{stop_limit}
 use Rattle.stop_schedule.specs.TripStops.{stops_kept}
 use Rattle.stop_schedule.specs.Holding.{HoldsStops}
-use Rattle.stop_schedule.specs.Ids.{has_id}
+use Rattle.timetable.specs.Ids.{has_id}
 use Rattle.stop_schedule.specs.Sheet.{nth}
 use Rattle.stop_schedule.specs.StopTimes.{stops_in}
-use Rattle.stop_schedule.proofs.IdLemmas.{and-left, and-right}
+use Rattle.timetable.proofs.IdLemmas.{and-left, and-right}
 use Rattle.stop_schedule.proofs.StopStep.{unknown-trip, too-many, unknown-stop, stands-in}
 use Rattle.stop_schedule.proofs.stop_time_rows.StopTimeRowsTakesRows.take.Goals as goal
 

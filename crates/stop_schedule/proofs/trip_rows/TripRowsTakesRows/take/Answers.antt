@@ -1,8 +1,8 @@
 use Rattle.std.proofs.Common.{◌≡◌, ◌∙◌, ◌&&◌, true, false, not, sym}
 use Rattle.std.specs.Str.{is_utf8}
-use Rattle.stop_schedule.specs.Ids.{has_id, is_id}
+use Rattle.timetable.specs.Ids.{has_id, is_id}
 use Rattle.stop_schedule.specs.Sheet.{nth}
-use Rattle.stop_schedule.proofs.IdLemmas.{and-left, and-right, id-of-place, not-false}
+use Rattle.timetable.proofs.IdLemmas.{and-left, and-right, id-of-place, not-false}
 use Rattle.stop_schedule.proofs.TripStep.{trip-held, no-trip-fault}
 use Rattle.stop_schedule.proofs.trip_rows.TripRowsTakesRows.take.Goals as goal
 

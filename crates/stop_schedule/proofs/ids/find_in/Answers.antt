@@ -1,6 +1,0 @@
-use Rattle.stop_schedule.proofs.IdLemmas.{at-place}
-use Rattle.stop_schedule.proofs.ids.find_in.Goals as goal
-
-pub returns-in-Some-clause-at : goal.returns-in-Some-clause-at
-returns-in-Some-clause-at c =
-    rw (← c.in-Some.ensures.cases.0) (at-place c.args.ids.now c.find.result c.in-Some.id.now c.find.ensures.place)

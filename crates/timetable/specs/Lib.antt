@@ -1,0 +1,10 @@
+pub mod Digits
+pub mod Held
+pub mod Ids
+pub mod Limits
+pub mod Planned
+pub mod Seen
+pub mod Services
+pub mod Sound
+pub mod Stops
+pub mod Table
