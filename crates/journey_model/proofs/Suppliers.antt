@@ -1,26 +1,26 @@
--- Where the places of updates rise, the update of the greatest place is the last one.
+-- Where the places of updates rise, the update of the greatest position is the last one.
 use Rattle.std.proofs.Common.{◌≡◌, ◌∙◌, ◌+◌, ◌≤◌, ◌∷◌, [], ℕ, Bool, true, false, List, Option, Some, None, IfSome, if◌then◌else◌, le-leb, refl, ap, arith}
 use Rattle.std.specs.Prelude.{⊤}
 use Rattle.std.specs.Option.{option_or}
 use Rattle.gw_base.specs.declared.messages.StopUpdate.{StopUpdate}
 use Rattle.journey_model.specs.Propagation.{greater, supplier, supplies}
 
--- the places rise, from a place on
+-- the places rise, from a position on
 abbrev pub Rise : ℕ → List (ℕ × StopUpdate) → Type 0
 Rise from [] = ⊤
 Rise from (one ∷ others) = (from ≤ one.0) × Rise (one.0 + 1) others
 
 -- the last of the updates that supply a stop
 abbrev pub last_supplier : ℕ → List (ℕ × StopUpdate) → Option (ℕ × StopUpdate)
-last_supplier place [] = None
-last_supplier place (one ∷ others) =
-    option_or (last_supplier place others) (if supplies place one then Some one else None)
+last_supplier position [] = None
+last_supplier position (one ∷ others) =
+    option_or (last_supplier position others) (if supplies position one then Some one else None)
 
-stands_from : (place from : ℕ) (placed : List (ℕ × StopUpdate)) → Rise from placed
-    → IfSome (last_supplier place placed) (λ one. from ≤ one.0)
-stands_from place from [] rise = tt
-stands_from place from (one ∷ others) rise =
-    by (last_supplier place others) (stands_from place (one.0 + 1) others rise.1) (supplies place one)
+stands_from : (position from : ℕ) (placed : List (ℕ × StopUpdate)) → Rise from placed
+    → IfSome (last_supplier position placed) (λ one. from ≤ one.0)
+stands_from position from [] rise = tt
+stands_from position from (one ∷ others) rise =
+    by (last_supplier position others) (stands_from position (one.0 + 1) others rise.1) (supplies position one)
   where
     by : (found : Option (ℕ × StopUpdate)) → IfSome found (λ later. one.0 + 1 ≤ later.0) → (own : Bool)
         → IfSome (option_or found (if own then Some one else None)) (λ later. from ≤ later.0)
@@ -28,12 +28,12 @@ stands_from place from (one ∷ others) rise =
     by None h true = rise.0
     by None h false = tt
 
-pub supplier-last : (place from : ℕ) (placed : List (ℕ × StopUpdate)) → Rise from placed
-    → supplier place placed ≡ last_supplier place placed
-supplier-last place from [] rise = refl
-supplier-last place from (one ∷ others) rise =
-    ap (greater (if supplies place one then Some one else None)) (supplier-last place (one.0 + 1) others rise.1)
-    ∙ by (supplies place one) (last_supplier place others) (stands_from place (one.0 + 1) others rise.1)
+pub supplier-last : (position from : ℕ) (placed : List (ℕ × StopUpdate)) → Rise from placed
+    → supplier position placed ≡ last_supplier position placed
+supplier-last position from [] rise = refl
+supplier-last position from (one ∷ others) rise =
+    ap (greater (if supplies position one then Some one else None)) (supplier-last position (one.0 + 1) others rise.1)
+    ∙ by (supplies position one) (last_supplier position others) (stands_from position (one.0 + 1) others rise.1)
   where
     by : (own : Bool) (found : Option (ℕ × StopUpdate)) → IfSome found (λ later. one.0 + 1 ≤ later.0)
         → greater (if own then Some one else None) found ≡ option_or found (if own then Some one else None)

@@ -13,4 +13,5 @@ pub mod Schedules
 pub mod Situations
 pub mod StoredSchedules
 pub mod Times
+pub mod TripRuns
 pub mod Updates

@@ -10,29 +10,29 @@ use Rattle.journey_model.specs.declared.readings.StopReading.TheVariants.{Absent
 
 -- a SKIPPED update stands at the stop
 abbrev pub skips_at : ℕ → List (ℕ × StopUpdate) → Bool
-skips_at place placed = list_any (λ one. (one.0 == place) && is_skipped one.1) placed
+skips_at position placed = list_any (λ one. (one.0 == position) && is_skipped one.1) placed
 
 -- an update isn't SKIPPED and stands at or before the stop
 abbrev pub supplies : ℕ → ℕ × StopUpdate → Bool
-supplies place one = nat_le one.0 place && not (is_skipped one.1)
+supplies position one = nat_le one.0 position && not (is_skipped one.1)
 
--- of two updates the one of the greater place
+-- of two updates the one of the greater position
 abbrev pub greater : Option (ℕ × StopUpdate) → Option (ℕ × StopUpdate) → Option (ℕ × StopUpdate)
 greater None other = other
 greater (Some one) None = Some one
 greater (Some one) (Some other) = if nat_le one.0 other.0 then Some other else Some one
 
--- of the updates that aren't SKIPPED, the one of the greatest place at or before the stop
+-- of the updates that aren't SKIPPED, the one of the greatest position at or before the stop
 abbrev pub supplier : ℕ → List (ℕ × StopUpdate) → Option (ℕ × StopUpdate)
-supplier place [] = None
-supplier place (one ∷ others) = greater (if supplies place one then Some one else None) (supplier place others)
+supplier position [] = None
+supplier position (one ∷ others) = greater (if supplies position one then Some one else None) (supplier position others)
 
 -- a stop at the times, if there are any
 abbrev pub timed : Option (ℤ × ℤ) → StopReading
 timed None = Absent
 timed (Some both) = Timed both.0 both.1
 
--- both planned times, later by the delay of a departure at another place
+-- both planned times, later by the delay of a departure at another position
 abbrev pub later_by : ℤ × ℤ → ℤ → StopReading
 later_by planned delay = Timed (planned.0 +ℤ delay) (planned.1 +ℤ delay)
 
@@ -40,18 +40,19 @@ abbrev pub carried : ℤ × ℤ → ℤ × ℤ → Option (ℤ × ℤ) → StopR
 carried planned before None = Absent
 carried planned before (Some both) = later_by planned (both.1 -ℤ before.1)
 
--- what the update at a place supplies to a stop at or after it: nothing for NO_DATA; its own times at its place;
+-- what the update at a position supplies to a stop at or after it: nothing for NO_DATA; its own times at its position;
 -- after it the planned times and the delay of its departure
 abbrev pub supplied : Run → ℕ → Option (ℕ × StopUpdate) → StopReading
-supplied run place None = Absent
-supplied run place (Some one) =
+supplied run position None = Absent
+supplied run position (Some one) =
     if is_no_data one.1 then Absent else
-    (if one.0 == place then timed (times (planned_at run place) one.1)
-    else carried (planned_at run place) (planned_at run one.0) (times (planned_at run one.0) one.1))
+    (if one.0 == position then timed (times (planned_at run position) one.1)
+    else carried (planned_at run position) (planned_at run one.0) (times (planned_at run one.0) one.1))
 
--- the propagation: what placed updates say of the stop at a place
+-- the propagation: what placed updates say of the stop at a position
 abbrev pub prop : Run → List (ℕ × StopUpdate) → ℕ → StopReading
-prop run placed place = if skips_at place placed then Skipped else supplied run place (supplier place placed)
+prop run placed position =
+    if skips_at position placed then Skipped else supplied run position (supplier position placed)
 
 -- what updates at these places say of every stop
 abbrev pub propagated : Run → List ℕ → List StopUpdate → List StopReading

@@ -11,6 +11,6 @@ pub record Run : Type 0 where
   pub start : ℤ
   pub stops : List StopRow
 
--- the planned arrival and departure at a place
+-- the planned arrival and departure at a position
 abbrev pub planned_at : Run → ℕ → ℤ × ℤ
-planned_at run place = option_map_or (planned run.start) (slice_get run.stops place) (pos 0, pos 0)
+planned_at run position = option_map_or (planned run.start) (slice_get run.stops position) (pos 0, pos 0)

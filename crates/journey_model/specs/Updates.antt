@@ -7,7 +7,7 @@ use Rattle.gw_base.specs.Enums.{stop_no_data, stop_scheduled, stop_skipped}
 use Rattle.gw_base.specs.declared.messages.Event.{Event}
 use Rattle.gw_base.specs.declared.messages.StopUpdate.{StopUpdate}
 use Rattle.gw_base.specs.Chains.{unless_fault, ◌>>=◌}
-use Rattle.journey_model.specs.Matching.{update_place}
+use Rattle.journey_model.specs.Matching.{update_position}
 use Rattle.journey_model.specs.Names.{filled_text}
 use Rattle.journey_model.specs.Runs.{Run, planned_at}
 use Rattle.journey_model.specs.Times.{both_times, delay_fault}
@@ -31,7 +31,7 @@ is_no_data update = int_eq update.relation stop_no_data
 -- the stop that an id names, among the ids of the timetable's stops
 abbrev pub known_stop : Option ℕ → NamedStop
 known_stop None = Unknown
-known_stop (Some place) = Known (record { 0 = place })
+known_stop (Some position) = Known (record { 0 = position })
 
 abbrev pub named_by : List (List ℕ) → Option (List ℕ) → NamedStop
 named_by ids None = Missing
@@ -45,18 +45,18 @@ abbrev pub event_time : ℤ → Option Event → Option ℤ
 event_time planned None = None
 event_time planned (Some event) = option_or event.time (option_map (λ delay. planned +ℤ delay) event.delay)
 
--- the times of the events of an update, by the planned ones at its place
+-- the times of the events of an update, by the planned ones at its position
 abbrev pub arrival_time : ℤ × ℤ → StopUpdate → Option ℤ
 arrival_time planned update = event_time planned.0 update.arrival
 
 abbrev pub departure_time : ℤ × ℤ → StopUpdate → Option ℤ
 departure_time planned update = event_time planned.1 update.departure
 
--- an update's own times at its place
+-- an update's own times at its position
 abbrev pub times : ℤ × ℤ → StopUpdate → Option (ℤ × ℤ)
 times planned update = both_times planned (arrival_time planned update) (departure_time planned update)
 
--- the fault of the update of that number without a place
+-- the fault of the update of that number without a position
 abbrev pub match_fault : ℕ → MatchFault → Fault
 match_fault number match.UnknownStop = UnknownStop number
 match_fault number match.StopMismatch = StopMismatch number
@@ -80,24 +80,25 @@ times_fault number planned update =
 abbrev pub is_read : StopUpdate → Bool
 is_read update = is_scheduled update || (is_skipped update || is_no_data update)
 
-abbrev pub place_timed : Run → ℕ → StopUpdate → Result ℕ MatchFault → Result ℕ Fault
-place_timed run number update (Err fault) = Err (match_fault number fault)
-place_timed run number update (Ok place) = unless_fault (times_fault number (planned_at run place) update) place
+abbrev pub position_timed : Run → ℕ → StopUpdate → Result ℕ MatchFault → Result ℕ Fault
+position_timed run number update (Err fault) = Err (match_fault number fault)
+position_timed run number update (Ok position) =
+    unless_fault (times_fault number (planned_at run position) update) position
 
--- the place of the update of that number after the one before, or its first fault
-abbrev pub place_of : Run → ℕ → Option ℕ → StopUpdate → Result ℕ Fault
-place_of run number after update =
+-- the position of the update of that number after the one before, or its first fault
+abbrev pub position_of : Run → ℕ → Option ℕ → StopUpdate → Result ℕ Fault
+position_of run number after update =
     if is_read update
-    then place_timed run number update (update_place run.stops after update.sequence (named_stop run.ids update))
+    then position_timed run number update (update_position run.stops after update.sequence (named_stop run.ids update))
     else Err (OtherRelation update.relation)
 
--- the places of updates numbered from that number on, after the place before, or the fault of the first that has one
+-- the places of updates numbered from that number on, after the position before, or the fault of the first that has one
 abbrev pub places_from : Run → ℕ → Option ℕ → List StopUpdate → Result (List ℕ) Fault
 places_from run number after [] = Ok []
 places_from run number after (update ∷ updates) = do
-  place ← place_of run number after update
-  others ← places_from run (number + 1) (Some place) updates
-  Ok (place ∷ others)
+  position ← position_of run number after update
+  others ← places_from run (number + 1) (Some position) updates
+  Ok (position ∷ others)
 
 -- the places of the updates of a trip, or the first fault
 abbrev pub places : Run → List StopUpdate → Result (List ℕ) Fault

@@ -13,6 +13,7 @@ mod readings;
 mod report;
 mod situation;
 mod times;
+mod trip_run;
 
 pub use context::{Context, DatedTrip};
 pub use dates::date_text;
@@ -23,3 +24,4 @@ pub use readings::{DatedReading, JourneyReading, JourneyRecord, StopReading};
 pub use report::{Report, add_report};
 pub use situation::{Ref, Situation, ValidPeriod};
 pub use times::{both_times, delay_fault, planned_times};
+pub use trip_run::TripRun;

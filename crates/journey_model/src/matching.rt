@@ -28,50 +28,50 @@ pub enum MatchFault {
     OutOfOrder,
 }
 
-// The place from which on a stop lies after the one before.
-fn place_after(after: Option<u32>) -> usize
-    ensures { result ≡ spec.place_after after }
+// The position from which on a stop lies after the one before.
+fn position_after(after: Option<u32>) -> usize
+    ensures { result ≡ spec.position_after after }
 {
     match after {
-        Some(place) => place as usize + 1,
+        Some(position) => position as usize + 1,
         None => 0,
     }
 }
 
-// Whether the stop at a place is that one.
-fn is_stop_at(stops: &[StopRow], place: usize, stop: StopNo) -> bool
-    ensures { result ≡ spec.stands_at (spec.is_of_stop stop.0) place stops.now }
+// Whether the stop at a position is that one.
+fn is_stop_at(stops: &[StopRow], position: usize, stop: StopNo) -> bool
+    ensures { result ≡ spec.stands_at (spec.is_of_stop stop.0) position stops.now }
 {
-    match stops.get(place) {
+    match stops.get(position) {
         Some(row) => row.stop.0 == stop.0,
         None => false,
     }
 }
 
-// The first place of that stop among stops.
+// The first position of that stop among stops.
 fn position_of(stops: &[StopRow], stop: StopNo) -> Option<usize>
     ensures value { result ≡ position (spec.is_of_stop stop.0) stops.now }
-    ensures within { IfSome result (λ place. place < length stops.now) }
+    ensures within { IfSome result (λ position. position < length stops.now) }
 {
     stops.iter().position(|row| row.stop.0 == stop.0)
 }
 
-// The first place of that stop from a place on.
-fn first_place(stops: &[StopRow], from: usize, stop: StopNo) -> Option<usize>
-    ensures value { result ≡ spec.first_place stop.0 from stops.now }
-    ensures within { IfSome result (λ place. place < length stops.now) }
+// The first position of that stop from a position on.
+fn first_position(stops: &[StopRow], from: usize, stop: StopNo) -> Option<usize>
+    ensures value { result ≡ spec.first_position stop.0 from stops.now }
+    ensures within { IfSome result (λ position. position < length stops.now) }
 {
     if from > stops.len() {
         return None;
     }
     let (_, rest) = stops.split_at(from);
     match position_of(rest, stop) {
-        Some(place) => Some(place + from),
+        Some(position) => Some(position + from),
         None => None,
     }
 }
 
-// Whether the stop of that order, counted from 1, is that one and lies from a place on.
+// Whether the stop of that order, counted from 1, is that one and lies from a position on.
 fn fits_order(stops: &[StopRow], from: usize, order: u64, stop: StopNo) -> bool
     ensures value { result ≡ spec.fits_order stop.0 from order stops.now }
     ensures within { result ≡ true → order ≤ length stops.now }
@@ -79,44 +79,44 @@ fn fits_order(stops: &[StopRow], from: usize, order: u64, stop: StopNo) -> bool
     1 <= order && from as u64 <= order - 1 && is_stop_at(stops, (order - 1) as usize, stop)
 }
 
-/// The place of the stop that a call is of, after the one of the call before (SIRI 2.0, EstimatedCall with
+/// The position of the stop that a call is of, after the one of the call before (SIRI 2.0, EstimatedCall with
 /// StopPointRef and Order): by its order, counted from 1, where the stop of that order is its stop and lies after;
-/// else the first place of its stop after. Places count from 0. None exactly where there is none.
+/// else the first position of its stop after. Places count from 0. None exactly where there is none.
 pub fn match_call(
     dated: &DatedTrip<'_>,
     after: Option<u32>,
     stop: StopNo,
     order: Option<u64>,
 ) -> Option<u32>
-    ensures value { result ≡ spec.call_place dated.now.stops.now after stop.0 order }
-    ensures within { IfSome result (λ place. place < length dated.now.stops.now) }
+    ensures value { result ≡ spec.call_position dated.now.stops.now after stop.0 order }
+    ensures within { IfSome result (λ position. position < length dated.now.stops.now) }
 {
     let stops = dated.stops;
-    let from = place_after(after);
+    let from = position_after(after);
     if let Some(order) = order {
         if fits_order(stops, from, order, stop) {
             return Some((order - 1) as u32);
         }
     }
-    match first_place(stops, from, stop) {
-        Some(place) => Some(place as u32),
+    match first_position(stops, from, stop) {
+        Some(position) => Some(position as u32),
         None => None,
     }
 }
 
-// The place of the stop of that sequence.
-fn place_of_sequence(stops: &[StopRow], sequence: u32) -> Option<usize>
+// The position of the stop of that sequence.
+fn position_of_sequence(stops: &[StopRow], sequence: u32) -> Option<usize>
     ensures value { result ≡ position (spec.has_sequence sequence) stops.now }
-    ensures within { IfSome result (λ place. place < length stops.now) }
+    ensures within { IfSome result (λ position. position < length stops.now) }
 {
     stops.iter().position(|row| row.sequence == sequence)
 }
 
-// Whether the stop at a place agrees with the one that is named.
-fn agrees_at(stops: &[StopRow], place: usize, named: NamedStop) -> bool
-    ensures { result ≡ spec.stands_at (spec.agrees named) place stops.now }
+// Whether the stop at a position agrees with the one that is named.
+fn agrees_at(stops: &[StopRow], position: usize, named: NamedStop) -> bool
+    ensures { result ≡ spec.stands_at (spec.agrees named) position stops.now }
 {
-    match (stops.get(place), named) {
+    match (stops.get(position), named) {
         (None, _) => false,
         (Some(_), NamedStop::Missing) => true,
         (Some(_), NamedStop::Unknown) => false,
@@ -124,25 +124,25 @@ fn agrees_at(stops: &[StopRow], place: usize, named: NamedStop) -> bool
     }
 }
 
-// The place of an update that has a sequence.
-fn place_by_sequence(
+// The position of an update that has a sequence.
+fn position_by_sequence(
     stops: &[StopRow],
     from: usize,
     sequence: u32,
     named: NamedStop,
 ) -> Result<usize, MatchFault>
     ensures value { result
-        ≡ spec.place_by_sequence stops.now from named (position (spec.has_sequence sequence) stops.now) }
-    ensures within { IfOk result (λ place. place < length stops.now) }
+        ≡ spec.position_by_sequence stops.now from named (position (spec.has_sequence sequence) stops.now) }
+    ensures within { IfOk result (λ position. position < length stops.now) }
 {
-    let Some(place) = place_of_sequence(stops, sequence) else {
+    let Some(position) = position_of_sequence(stops, sequence) else {
         return Err(MatchFault::UnknownStop);
     };
-    if !agrees_at(stops, place, named) {
+    if !agrees_at(stops, position, named) {
         return Err(MatchFault::StopMismatch);
     }
-    if from <= place {
-        Ok(place)
+    if from <= position {
+        Ok(position)
     } else {
         Err(MatchFault::OutOfOrder)
     }
@@ -155,10 +155,10 @@ pub fn has_stop(stops: &[StopRow], stop: StopNo) -> bool
     stops.iter().any(|row| row.stop.0 == stop.0)
 }
 
-// The place of an update that has a stop alone.
-fn place_by_stop(stops: &[StopRow], from: usize, named: NamedStop) -> Result<usize, MatchFault>
-    ensures value { result ≡ spec.place_by_stop stops.now from named }
-    ensures within { IfOk result (λ place. place < length stops.now) }
+// The position of an update that has a stop alone.
+fn position_by_stop(stops: &[StopRow], from: usize, named: NamedStop) -> Result<usize, MatchFault>
+    ensures value { result ≡ spec.position_by_stop stops.now from named }
+    ensures within { IfOk result (λ position. position < length stops.now) }
 {
     let NamedStop::Known(stop) = named else {
         return Err(MatchFault::UnknownStop);
@@ -166,28 +166,28 @@ fn place_by_stop(stops: &[StopRow], from: usize, named: NamedStop) -> Result<usi
     if !has_stop(stops, stop) {
         return Err(MatchFault::UnknownStop);
     }
-    match first_place(stops, from, stop) {
-        Some(place) => Ok(place),
+    match first_position(stops, from, stop) {
+        Some(position) => Ok(position),
         None => Err(MatchFault::OutOfOrder),
     }
 }
 
-/// The place of the stop that an update is of, after the one of the update before (GTFS Realtime reference,
+/// The position of the stop that an update is of, after the one of the update before (GTFS Realtime reference,
 /// StopTimeUpdate with stop_sequence and stop_id): by its sequence, where the stop that it names agrees; without a
-/// sequence the first place of its stop after. Places count from 0.
+/// sequence the first position of its stop after. Places count from 0.
 pub fn match_update(
     dated: &DatedTrip<'_>,
     after: Option<u32>,
     sequence: Option<u32>,
     stop: NamedStop,
 ) -> Result<u32, MatchFault>
-    ensures value { result ≡ spec.update_place dated.now.stops.now after sequence stop }
-    ensures within { IfOk result (λ place. place < length dated.now.stops.now) }
+    ensures value { result ≡ spec.update_position dated.now.stops.now after sequence stop }
+    ensures within { IfOk result (λ position. position < length dated.now.stops.now) }
 {
-    let from = place_after(after);
-    let place = match sequence {
-        Some(sequence) => place_by_sequence(dated.stops, from, sequence, stop)?,
-        None => place_by_stop(dated.stops, from, stop)?,
+    let from = position_after(after);
+    let position = match sequence {
+        Some(sequence) => position_by_sequence(dated.stops, from, sequence, stop)?,
+        None => position_by_stop(dated.stops, from, stop)?,
     };
-    Ok(place as u32)
+    Ok(position as u32)
 }

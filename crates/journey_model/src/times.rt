@@ -40,13 +40,13 @@ impl DatedTrip<'_> {
         planned_times(self.start, row)
     }
 
-    /// The planned arrival and departure at a place of the trip, in seconds since 1970; zeros at no place of it.
-    pub fn planned_at(&self, place: u32) -> (i64, i64)
+    /// The planned arrival and departure at a position of the trip, in seconds since 1970; zeros at no position of it.
+    pub fn planned_at(&self, position: u32) -> (i64, i64)
         ensures value { result
-            ≡ option_map_or (planned self.now.start) (slice_get self.now.stops.now place) (pos 0, pos 0) }
+            ≡ option_map_or (planned self.now.start) (slice_get self.now.stops.now position) (pos 0, pos 0) }
         ensures range { ArePlanned result }
     {
-        match self.stops.get(place as usize) {
+        match self.stops.get(position as usize) {
             Some(row) => self.planned_times(row),
             None => (0, 0),
         }

@@ -27,7 +27,7 @@ use Rattle.journey_model.specs.Runs.{Run, planned_at}
 use Rattle.journey_model.specs.Schedules.{Schedule, run_from}
 use Rattle.journey_model.specs.Times.{is_delay}
 use Rattle.journey_model.specs.Names.{filled_text}
-use Rattle.journey_model.specs.Updates.{is_no_data, is_read, is_scheduled, is_skipped, place_of, places, places_from, times, times_fault}
+use Rattle.journey_model.specs.Updates.{is_no_data, is_read, is_scheduled, is_skipped, position_of, places, places_from, times, times_fault}
 use Rattle.journey_model.specs.declared.fault.Fault.{Fault}
 use Rattle.journey_model.specs.declared.fault.Fault.TheVariants.{NotRunning, OtherRelation}
 use Rattle.journey_model.specs.declared.readings.DatedReading.{DatedReading}
@@ -36,10 +36,10 @@ use Rattle.journey_model.specs.declared.readings.JourneyReading.TheVariants.{Can
 use Rattle.journey_model.specs.declared.readings.StopReading.{StopReading}
 use Rattle.journey_model.specs.declared.readings.StopReading.TheVariants as reading
 use Rattle.propagation.specs.Feeds.{IsServable}
-use Rattle.propagation.proofs.PlaceLemmas.{place-fits}
+use Rattle.propagation.proofs.PlaceLemmas.{position-fits}
 use Rattle.propagation.proofs.TimeLemmas.{AreNear, times_near}
 
--- an update at its place, without a fault
+-- an update at its position, without a fault
 record IsWhole (run : Run) (one : ℕ × StopUpdate) : Type 0 where
   read : is_read one.1 ≡ true
   number : ℕ
@@ -51,28 +51,28 @@ whole-all : (run : Run) (number : ℕ) (after : Option ℕ) (updates : List Stop
     → AllByRecursion (IsWhole run) (zip at updates)
 whole-all run number after [] at e = let none : [] ≡ at = cc in rw (← none) tt
 whole-all run number after (update ∷ updates) at e =
-    first (λ place others is. whole-all run (number + 1) (Some place) updates others is)
-    (place_of run number after update) refl e
+    first (λ position others is. whole-all run (number + 1) (Some position) updates others is)
+    (position_of run number after update) refl e
   where
-    rest : (place : ℕ)
-        → ((others : List ℕ) → places_from run (number + 1) (Some place) updates ≡ Ok others
+    rest : (position : ℕ)
+        → ((others : List ℕ) → places_from run (number + 1) (Some position) updates ≡ Ok others
         → AllByRecursion (IsWhole run) (zip others updates))
-        → IsWhole run (place, update) → (said : Result (List ℕ) Fault)
-        → places_from run (number + 1) (Some place) updates ≡ said
-        → (said >>= λ others. Ok (place ∷ others)) ≡ Ok at → AllByRecursion (IsWhole run) (zip at (update ∷ updates))
-    rest place more here (Ok others) is same = let all : place ∷ others ≡ at = cc in rw (← all) (here, more others is)
-    rest place more here (Err fault) is same = cc
+        → IsWhole run (position, update) → (said : Result (List ℕ) Fault)
+        → places_from run (number + 1) (Some position) updates ≡ said
+        → (said >>= λ others. Ok (position ∷ others)) ≡ Ok at → AllByRecursion (IsWhole run) (zip at (update ∷ updates))
+    rest position more here (Ok others) is same = let all : position ∷ others ≡ at = cc in rw (← all) (here, more others is)
+    rest position more here (Err fault) is same = cc
 
-    first : ((place : ℕ) (others : List ℕ) → places_from run (number + 1) (Some place) updates ≡ Ok others
+    first : ((position : ℕ) (others : List ℕ) → places_from run (number + 1) (Some position) updates ≡ Ok others
         → AllByRecursion (IsWhole run) (zip others updates))
-        → (said : Result ℕ Fault) → place_of run number after update ≡ said
-        → (said >>= λ place. places_from run (number + 1) (Some place) updates >>= λ others. Ok (place ∷ others))
+        → (said : Result ℕ Fault) → position_of run number after update ≡ said
+        → (said >>= λ position. places_from run (number + 1) (Some position) updates >>= λ others. Ok (position ∷ others))
         ≡ Ok at
         → AllByRecursion (IsWhole run) (zip at (update ∷ updates))
-    first more (Ok place) is same =
-        let fits = place-fits run number after update place is in
-        rest place (more place) (record { read = fits.read; number = number; whole = fits.whole })
-        (places_from run (number + 1) (Some place) updates) refl same
+    first more (Ok position) is same =
+        let fits = position-fits run number after update position is in
+        rest position (more position) (record { read = fits.read; number = number; whole = fits.whole })
+        (places_from run (number + 1) (Some position) updates) refl same
     first more (Err fault) is same = cc
 
 -- their own times are near the planned ones
@@ -93,28 +93,28 @@ record Supplies (run : Run) (one : ℕ × StopUpdate) : Type 0 where
   whole : IsWhole run one
   kept : is_skipped one.1 ≡ false
 
-supplier-whole : (run : Run) (place : ℕ) (updates : List (ℕ × StopUpdate)) (one : ℕ × StopUpdate)
-    → AllByRecursion (IsWhole run) updates → supplier place updates ≡ Some one → Supplies run one
-supplier-whole run place [] one h e = absurd (none-some one e)
-supplier-whole run place (first ∷ others) one h e =
-    by (supplies place first) refl (supplier place others) (λ same. supplier-whole run place others one h.1 same) e
+supplier-whole : (run : Run) (position : ℕ) (updates : List (ℕ × StopUpdate)) (one : ℕ × StopUpdate)
+    → AllByRecursion (IsWhole run) updates → supplier position updates ≡ Some one → Supplies run one
+supplier-whole run position [] one h e = absurd (none-some one e)
+supplier-whole run position (first ∷ others) one h e =
+    by (supplies position first) refl (supplier position others) (λ same. supplier-whole run position others one h.1 same) e
   where
     kept-first : (a b : Bool) → (a && not b) ≡ true → b ≡ false
     kept-first true true e = absurd (false≢true e)
     kept-first true false e = refl
     kept-first false b e = absurd (false≢true e)
 
-    here : supplies place first ≡ true → ◌≡◌ {A = Option (ℕ × StopUpdate)} (Some first) (Some one) → Supplies run one
+    here : supplies position first ≡ true → ◌≡◌ {A = Option (ℕ × StopUpdate)} (Some first) (Some one) → Supplies run one
     here taken same = let is : first ≡ one =
         cc in rw (← is) (record { whole = h.0; kept = kept-first _ (is_skipped first.1) taken })
 
-    greater-one : (b : Bool) (later : ℕ × StopUpdate) → supplies place first ≡ true
+    greater-one : (b : Bool) (later : ℕ × StopUpdate) → supplies position first ≡ true
         → (Some later ≡ Some one → Supplies run one)
         → ◌≡◌ {A = Option (ℕ × StopUpdate)} (if b then Some later else Some first) (Some one) → Supplies run one
     greater-one true later taken rest same = rest same
     greater-one false later taken rest same = here taken same
 
-    by : (own : Bool) → supplies place first ≡ own → (found : Option (ℕ × StopUpdate))
+    by : (own : Bool) → supplies position first ≡ own → (found : Option (ℕ × StopUpdate))
         → (found ≡ Some one → Supplies run one)
         → greater (if own then Some first else None) found ≡ Some one → Supplies run one
     by true taken (Some later) rest same = greater-one (nat_le first.0 later.0) later taken rest same
@@ -142,47 +142,47 @@ carried-near : (plan before : ℤ × ℤ) (both : Option (ℤ × ℤ))
 carried-near plan before None h = refl
 carried-near plan before (Some both) h = later-near plan (both.1 -ℤ before.1) (h both refl).departure
 
-supplied-near : (run : Run) (place : ℕ) (found : Option (ℕ × StopUpdate))
+supplied-near : (run : Run) (position : ℕ) (found : Option (ℕ × StopUpdate))
     → ((one : ℕ × StopUpdate) → found ≡ Some one → Supplies run one)
-    → is_near (planned_at run place) (supplied run place found) ≡ true
-supplied-near run place None h = refl
-supplied-near run place (Some (at, update)) h = no_data (is_no_data update) refl
+    → is_near (planned_at run position) (supplied run position found) ≡ true
+supplied-near run position None h = refl
+supplied-near run position (Some (at, update)) h = no_data (is_no_data update) refl
   where
     near : (both : ℤ × ℤ) → is_no_data update ≡ false → times (planned_at run at) update ≡ Some both
         → AreNear (planned_at run at) both
     near both known is = let own = h (at, update) refl in whole-near run (at, update) both own.whole own.kept known is
 
-    here : (b : Bool) → (at == place) ≡ b → is_no_data update ≡ false
-        → is_near (planned_at run place)
-        (if b then timed (times (planned_at run place) update)
-        else carried (planned_at run place) (planned_at run at) (times (planned_at run at) update)) ≡ true
+    here : (b : Bool) → (at == position) ≡ b → is_no_data update ≡ false
+        → is_near (planned_at run position)
+        (if b then timed (times (planned_at run position) update)
+        else carried (planned_at run position) (planned_at run at) (times (planned_at run at) update)) ≡ true
     here true e known =
-        let same : at ≡ place = eqb-true at place e in
-        let own : (both : ℤ × ℤ) → times (planned_at run place) update ≡ Some both
-        → AreNear (planned_at run place) both =
+        let same : at ≡ position = eqb-true at position e in
+        let own : (both : ℤ × ℤ) → times (planned_at run position) update ≡ Some both
+        → AreNear (planned_at run position) both =
         subst (λ (p : ℕ). (both : ℤ × ℤ) → times (planned_at run p) update ≡ Some both
         → AreNear (planned_at run p) both) same (λ both is. near both known is) in
-        timed-near (planned_at run place) (times (planned_at run place) update) own
+        timed-near (planned_at run position) (times (planned_at run position) update) own
     here false e known =
-        carried-near (planned_at run place) (planned_at run at) (times (planned_at run at) update)
+        carried-near (planned_at run position) (planned_at run at) (times (planned_at run at) update)
         (λ both is. near both known is)
 
     no_data : (b : Bool) → is_no_data update ≡ b
-        → is_near (planned_at run place) (if b then reading.Absent else
-        (if at == place then timed (times (planned_at run place) update)
-        else carried (planned_at run place) (planned_at run at) (times (planned_at run at) update))) ≡ true
+        → is_near (planned_at run position) (if b then reading.Absent else
+        (if at == position then timed (times (planned_at run position) update)
+        else carried (planned_at run position) (planned_at run at) (times (planned_at run at) update))) ≡ true
     no_data true e = refl
-    no_data false e = here (at == place) refl e
+    no_data false e = here (at == position) refl e
 
-prop-near : (run : Run) (updates : List (ℕ × StopUpdate)) (place : ℕ) → AllByRecursion (IsWhole run) updates
-    → is_near (planned_at run place) (prop run updates place) ≡ true
-prop-near run updates place h = by (skips_at place updates)
+prop-near : (run : Run) (updates : List (ℕ × StopUpdate)) (position : ℕ) → AllByRecursion (IsWhole run) updates
+    → is_near (planned_at run position) (prop run updates position) ≡ true
+prop-near run updates position h = by (skips_at position updates)
   where
     by : (b : Bool)
-        → is_near (planned_at run place) (if b then reading.Skipped else supplied run place (supplier place updates))
+        → is_near (planned_at run position) (if b then reading.Skipped else supplied run position (supplier position updates))
         ≡ true
     by true = refl
-    by false = supplied-near run place (supplier place updates) (λ one is. supplier-whole run place updates one h is)
+    by false = supplied-near run position (supplier position updates) (λ one is. supplier-whole run position updates one h is)
 
 rows-near : (start : ℤ) (rows : List StopRow) (reads : ℕ → StopReading) (low : ℕ)
     → ((i : ℕ) → is_near (option_map_or (planned start) (slice_get rows i) (pos 0, pos 0)) (reads (low + i)) ≡ true)
@@ -205,7 +205,7 @@ reading-fits run update found e = cancelled (feeds.is_cancelled update) e
     stops (Ok at) is same =
         let all : Stops (propagated run at update.updates) ≡ found = cc in
         rw (← all) (rows-near run.start run.stops (prop run (zip at update.updates)) 0
-        (λ i. subst (λ (place : ℕ). is_near (planned_at run i) (prop run (zip at update.updates) place) ≡ true)
+        (λ i. subst (λ (position : ℕ). is_near (planned_at run i) (prop run (zip at update.updates) position) ≡ true)
         (omega arith)
         (prop-near run (zip at update.updates) i (whole-all run 0 None update.updates at is))))
 

@@ -12,11 +12,11 @@ use Rattle.journey_model.specs.declared.readings.JourneyReading.TheVariants.{Sto
 use Rattle.journey_model.specs.declared.readings.StopReading.{StopReading}
 use Rattle.propagation.specs.Saying.{placed_all, placed_at}
 use Rattle.propagation.specs.Spreading.{are_rising_from}
-use Rattle.propagation.specs.declared.placing.Placed.{Placed}
+use Rattle.propagation.specs.declared.placing.MatchedUpdate.{MatchedUpdate}
 use Rattle.propagation.proofs.PlaceLemmas.{places-rise}
 
 -- the readings of placed updates are those of the updates
-pub said_stops : (run : Run) (update : TripUpdate) (placed : List Placed) (all : List StopReading)
+pub said_stops : (run : Run) (update : TripUpdate) (placed : List MatchedUpdate) (all : List StopReading)
     → placed_all run update.updates (places run update.updates) ≡ Ok placed
     → ((updates : List (ℕ × StopUpdate)) → are_rising_from 0 updates ≡ true → placed ≡ map (placed_at run) updates
     → all ≡ map (prop run updates) (range_with_len 0 (length run.stops)))

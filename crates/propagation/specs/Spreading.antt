@@ -4,22 +4,22 @@ use Rattle.gw_base.specs.declared.messages.StopUpdate.{StopUpdate}
 use Rattle.journey_model.specs.Propagation.{later_by}
 use Rattle.journey_model.specs.declared.readings.StopReading.{StopReading}
 use Rattle.journey_model.specs.declared.readings.StopReading.TheVariants as reading
-use Rattle.propagation.specs.declared.placing.Placed.{Placed}
-use Rattle.propagation.specs.declared.placing.Says.{Says}
-use Rattle.propagation.specs.declared.placing.Says.TheVariants.{Skipped, NoData, Timed}
+use Rattle.propagation.specs.declared.placing.MatchedUpdate.{MatchedUpdate}
+use Rattle.propagation.specs.declared.placing.Prediction.{Prediction}
+use Rattle.propagation.specs.declared.placing.Prediction.TheVariants.{Skipped, NoData, Timed}
 
--- places rise, from a place on
+-- places rise, from a position on
 abbrev pub are_rising_from : ℕ → List (ℕ × StopUpdate) → Bool
 are_rising_from from [] = true
 are_rising_from from (one ∷ others) = nat_le from one.0 && are_rising_from (one.0 + 1) others
 
--- what the first update says, if it stands at that place
-abbrev pub first_at : List Placed → ℕ → Option Says
-first_at [] place = None
-first_at (first ∷ others) place = if first.place == place then Some first.says else None
+-- what the first update says, if it stands at that position
+abbrev pub first_at : List MatchedUpdate → ℕ → Option Prediction
+first_at [] position = None
+first_at (first ∷ others) position = if first.position == position then Some first.says else None
 
 -- the delay that is carried on from a stop of which this is said: SKIPPED leaves it, and NO_DATA ends it
-abbrev pub delay_after : Option ℤ → Option Says → Option ℤ
+abbrev pub delay_after : Option ℤ → Option Prediction → Option ℤ
 delay_after delay None = delay
 delay_after delay (Some Skipped) = delay
 delay_after delay (Some NoData) = None
@@ -31,7 +31,7 @@ later planned None = reading.Absent
 later planned (Some delay) = later_by planned delay
 
 -- how a stop with these planned times reads: by what is said of it, else by the delay that is carried on
-abbrev pub reading_at : ℤ × ℤ → Option ℤ → Option Says → StopReading
+abbrev pub reading_at : ℤ × ℤ → Option ℤ → Option Prediction → StopReading
 reading_at planned delay None = later planned delay
 reading_at planned delay (Some Skipped) = reading.Skipped
 reading_at planned delay (Some NoData) = reading.Absent

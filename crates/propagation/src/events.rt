@@ -6,7 +6,7 @@ ghost use Rattle.journey_model.specs.Times.{ArePlanned, IsPlanned, both_times, d
 ghost use Rattle.journey_model.specs.Updates as spec;
 ghost use Rattle.propagation.specs.Saying.{says_times, timed_by};
 
-use crate::placing::Says;
+use crate::placing::Prediction;
 use gw_base::Event;
 use journey_model::{Fault, both_times, delay_fault};
 
@@ -26,12 +26,12 @@ pub(crate) fn event_time(planned: &i64, event: &Option<Event>) -> Option<i64>
 }
 
 // What times that are near the planned ones say.
-fn timed_by(planned: &(i64, i64), both: &(i64, i64)) -> Says
+fn timed_by(planned: &(i64, i64), both: &(i64, i64)) -> Prediction
     requires range { ArePlanned planned.now }
     requires near { is_delay (both.now.1 -ℤ planned.now.1) ≡ true }
     ensures { result ≡ timed_by planned.now both.now }
 {
-    Says::Timed {
+    Prediction::Timed {
         arrival: both.0,
         departure: both.1,
         delay: (both.1 - planned.1) as i32,
@@ -44,7 +44,7 @@ pub(crate) fn says_times(
     planned: (i64, i64),
     arrival: Option<i64>,
     departure: Option<i64>,
-) -> Result<Says, Fault>
+) -> Result<Prediction, Fault>
     requires { ArePlanned planned }
     ensures { let late = delay_fault number planned arrival departure in
         let both = both_times planned arrival departure in

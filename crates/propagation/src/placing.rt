@@ -18,9 +18,9 @@ use journey_model::{DatedTrip, Fault, MatchFault, NamedStop, filled_text, match_
 use std::alloc::Global;
 use timetable::{StopNo, Timetable, TripNo};
 
-/// What an update says at its place.
+/// What an update says at its position.
 #[derive(Clone, Copy, Debug, PartialEq, Eq)]
-pub enum Says {
+pub enum Prediction {
     /// The journey doesn't stop there.
     Skipped,
     /// From there on nothing is known.
@@ -36,16 +36,16 @@ pub enum Says {
     },
 }
 
-/// An update at its place.
+/// An update at its position.
 #[derive(Clone, Copy, Debug)]
-pub struct Placed {
-    /// The place of its stop in the trip, from 0 on.
-    pub place: u32,
+pub struct MatchedUpdate {
+    /// The position of its stop in the trip, from 0 on.
+    pub position: u32,
     /// What it says there.
-    pub says: Says,
+    pub says: Prediction,
 }
 
-// The stop of a trip after the place before, if it has one.
+// The stop of a trip after the position before, if it has one.
 #[tactic(auto, using(crate::proofs::KnownLemmas::known_at))]
 fn stop_after(table: &Timetable, trip: TripNo, after: Option<u32>) -> Option<StopNo>
     ensures { IfSome result (λ stop. stop.0 < length table.now.stops) }
@@ -53,11 +53,11 @@ fn stop_after(table: &Timetable, trip: TripNo, after: Option<u32>) -> Option<Sto
     if trip.0 >= table.trips() {
         return None;
     }
-    let place = match after {
-        Some(place) => place as usize + 1,
+    let position = match after {
+        Some(position) => position as usize + 1,
         None => 0,
     };
-    match table.stops_of(trip).get(place) {
+    match table.stops_of(trip).get(position) {
         Some(row) => Some(row.stop),
         None => None,
     }
@@ -127,8 +127,12 @@ fn is_read(update: &StopUpdate) -> bool
     update.relation == SCHEDULED || is_skipped(update) || is_no_data(update)
 }
 
-// What the update of that number says by its events at its place with these planned times, or its fault there.
-fn says_by_events(number: u64, planned: (i64, i64), update: &StopUpdate) -> Result<Says, Fault>
+// What the update of that number says by its events at its position with these planned times, or its fault there.
+fn says_by_events(
+    number: u64,
+    planned: (i64, i64),
+    update: &StopUpdate,
+) -> Result<Prediction, Fault>
     requires planned { ArePlanned planned }
     requires scheduled { spec.is_scheduled update.now ≡ true }
     ensures { result ≡ unless_fault (spec.times_fault number planned update.now) (says_at planned update.now) }
@@ -138,49 +142,49 @@ fn says_by_events(number: u64, planned: (i64, i64), update: &StopUpdate) -> Resu
     says_times(number, planned, arrival, departure)
 }
 
-// What the update of that number says at its place with these planned times, or its fault there.
-fn says_at(number: u64, planned: (i64, i64), update: &StopUpdate) -> Result<Says, Fault>
+// What the update of that number says at its position with these planned times, or its fault there.
+fn says_at(number: u64, planned: (i64, i64), update: &StopUpdate) -> Result<Prediction, Fault>
     requires planned { ArePlanned planned }
     requires read { spec.is_read update.now ≡ true }
     ensures { result ≡ unless_fault (spec.times_fault number planned update.now) (says_at planned update.now) }
 {
     if is_skipped(update) {
-        return Ok(Says::Skipped);
+        return Ok(Prediction::Skipped);
     }
     if is_no_data(update) {
-        return Ok(Says::NoData);
+        return Ok(Prediction::NoData);
     }
     says_by_events(number, planned, update)
 }
 
-// The update of that number at a place, or its fault there.
+// The update of that number at a position, or its fault there.
 fn placed_at(
     number: u64,
     dated: &DatedTrip<'_>,
-    place: u32,
+    position: u32,
     update: &StopUpdate,
-) -> Result<Placed, Fault>
-    requires within { place < length dated.now.stops.now }
+) -> Result<MatchedUpdate, Fault>
+    requires within { position < length dated.now.stops.now }
     requires read { spec.is_read update.now ≡ true }
     ensures { (ids : Values (Values ℕ)) → let run = run_of ids dated.now in
-        result ≡ placed_by run update.now (spec.place_timed run number update.now (Ok place)) }
+        result ≡ placed_by run update.now (spec.position_timed run number update.now (Ok position)) }
 {
-    match says_at(number, dated.planned_at(place), update) {
-        Ok(says) => Ok(Placed { place, says }),
+    match says_at(number, dated.planned_at(position), update) {
+        Ok(says) => Ok(MatchedUpdate { position, says }),
         Err(fault) => Err(fault),
     }
 }
 
-// The place of the update of that number after the one before, and what it says there; or its fault.
-fn place(
+// The position of the update of that number after the one before, and what it says there; or its fault.
+fn match_to_stop(
     table: &Timetable,
     dated: &DatedTrip<'_>,
     number: u64,
     after: Option<u32>,
     update: &StopUpdate,
-) -> Result<Placed, Fault>
+) -> Result<MatchedUpdate, Fault>
     ensures { let run = run_of table.now.stops dated.now in
-        result ≡ placed_by run update.now (spec.place_of run number after update.now) }
+        result ≡ placed_by run update.now (spec.position_of run number after update.now) }
 {
     if !is_read(update) {
         return Err(Fault::OtherRelation(update.relation));
@@ -198,19 +202,19 @@ pub(crate) fn placed_all(
     table: &Timetable,
     dated: &DatedTrip<'_>,
     updates: &[StopUpdate],
-) -> Result<List<Placed>, UpdateFault>
+) -> Result<List<MatchedUpdate>, UpdateFault>
     ensures { let run = run_of table.now.stops dated.now in
         Propagates (placed_all run updates.now (spec.places run updates.now)) result }
 {
     let mut all = with_room(alloc, updates.len().min(dated.stops.len()))?;
     let mut after = None;
     for (number, update) in updates.iter().enumerate() {
-        let next = match place(table, dated, number as u64, after, update) {
+        let next = match match_to_stop(table, dated, number as u64, after, update) {
             Ok(next) => next,
             Err(fault) => return Err(UpdateFault::Fault(fault)),
         };
         all.push(next)?;
-        after = Some(next.place);
+        after = Some(next.position);
     }
     Ok(all)
 }

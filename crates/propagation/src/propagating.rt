@@ -9,31 +9,31 @@ ghost use Rattle.journey_model.specs.Times.{ArePlanned};
 ghost use Rattle.propagation.specs.Saying.{placed_at};
 ghost use Rattle.propagation.specs.Spreading.{are_rising_from, delay_after, first_at, later, reading_at};
 
-use crate::placing::{Placed, Says};
+use crate::placing::{MatchedUpdate, Prediction};
 use crate::room::with_room;
 use gw_base::List;
 use journey_model::{DatedTrip, StopReading};
 use std::alloc::{AllocError, Global};
 
-// What the first of the updates says, where it stands at that place.
-fn first_at(placed: &[Placed], place: usize) -> Option<Says>
-    ensures { result ≡ first_at placed.now place }
+// What the first of the updates says, where it stands at that position.
+fn first_at(placed: &[MatchedUpdate], position: usize) -> Option<Prediction>
+    ensures { result ≡ first_at placed.now position }
 {
     match placed {
-        [first, ..] if first.place as usize == place => Some(first.says),
+        [first, ..] if first.position as usize == position => Some(first.says),
         _ => None,
     }
 }
 
 // The delay that is carried on from a stop of which this is said; None where nothing is known.
-fn delay_after(delay: Option<i32>, said: Option<Says>) -> Option<i32>
+fn delay_after(delay: Option<i32>, said: Option<Prediction>) -> Option<i32>
     ensures { result ≡ delay_after delay said }
 {
     match said {
         None => delay,
-        Some(Says::Skipped) => delay,
-        Some(Says::NoData) => None,
-        Some(Says::Timed { delay, .. }) => Some(delay),
+        Some(Prediction::Skipped) => delay,
+        Some(Prediction::NoData) => None,
+        Some(Prediction::Timed { delay, .. }) => Some(delay),
     }
 }
 
@@ -52,16 +52,16 @@ fn later(planned: (i64, i64), delay: Option<i32>) -> StopReading
 }
 
 // How a stop with these planned times reads.
-fn reading_at(planned: (i64, i64), delay: Option<i32>, said: Option<Says>) -> StopReading
+fn reading_at(planned: (i64, i64), delay: Option<i32>, said: Option<Prediction>) -> StopReading
     requires { ArePlanned planned }
     ensures { result ≡ reading_at planned delay said }
 {
     match said {
         None => later(planned, delay),
-        Some(Says::Skipped) => StopReading::Skipped,
-        Some(Says::NoData) => StopReading::Absent,
+        Some(Prediction::Skipped) => StopReading::Skipped,
+        Some(Prediction::NoData) => StopReading::Absent,
         Some(
-            Says::Timed {
+            Prediction::Timed {
                 arrival,
                 departure,
                 ..
@@ -74,7 +74,7 @@ fn reading_at(planned: (i64, i64), delay: Option<i32>, said: Option<Says>) -> St
 pub(crate) fn readings(
     alloc: Global,
     dated: &DatedTrip<'_>,
-    placed: &[Placed],
+    placed: &[MatchedUpdate],
 ) -> Result<List<StopReading>, AllocError>
     ensures { (ids : Values (Values ℕ)) (updates : Values (ℕ × StopUpdate)) →
         let run = run_of ids dated.now in
@@ -85,8 +85,8 @@ pub(crate) fn readings(
     let mut all = with_room(alloc, dated.stops.len())?;
     let mut rest = placed;
     let mut delay = None;
-    for (place, row) in dated.stops.iter().enumerate() {
-        let said = first_at(rest, place);
+    for (position, row) in dated.stops.iter().enumerate() {
+        let said = first_at(rest, position);
         all.push(reading_at(dated.planned_times(row), delay, said))?;
         delay = delay_after(delay, said);
         if said.is_some() {
@@ -97,7 +97,7 @@ pub(crate) fn readings(
 }
 
 // The updates after the first.
-fn after_first(placed: &[Placed]) -> &[Placed]
+fn after_first(placed: &[MatchedUpdate]) -> &[MatchedUpdate]
     ensures { result.now ≡ drop 1 placed.now }
 {
     match placed {

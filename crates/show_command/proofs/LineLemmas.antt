@@ -1,5 +1,5 @@
 -- The times of the stops of a journey are moments; and its readings are one for each stop.
-use Rattle.std.proofs.Common.{◌≡◌, ◌&&◌, ◌<◌, ◌∷◌, [], ℕ, ℤ, true, false, List, length, take, drop, get_or, Option, Some, None, option_map, refl, sym, subst, ap}
+use Rattle.std.proofs.Common.{◌≡◌, ◌&&◌, ◌<◌, ◌∷◌, [], ℕ, ℤ, true, List, length, take, drop, get_or, Option, Some, None, option_map, refl, sym, subst, ap}
 use Rattle.std.specs.Prelude.{All, nat_le, slice_get}
 use Rattle.std.proofs.lemmas.Bool.{and_parts, false≢true}
 use Rattle.std.proofs.lemmas.Option.{none-some}
@@ -29,11 +29,11 @@ use Rattle.journey_model.proofs.NearLemmas.{are_moments}
 -- what is read of a feed fits its schedule
 pub servable_fits : (schedule : Schedule) (journeys : List DatedReading) → All (IsServable schedule) journeys
     → All (λ one. FitsSchedule schedule one.trip.0 one.day one.reading) journeys
-servable_fits schedule journeys servable = λ place one within. (servable place one within).fits_schedule
+servable_fits schedule journeys servable = λ position one within. (servable position one within).fits_schedule
 
--- what holds of all holds of the one at a place
-pub at_place : {X : Type 0} (P : X → Type 0) (xs : List X) (place : ℕ) (x : X) → All P xs → place < length xs → x ≡ get_or xs place x → P x
-at_place P xs place x all within is = subst P (sym is) (All-get_or P xs place x within all)
+-- what holds of all holds of the one at a position
+pub at_place : {X : Type 0} (P : X → Type 0) (xs : List X) (position : ℕ) (x : X) → All P xs → position < length xs → x ≡ get_or xs position x → P x
+at_place P xs position x all within is = subst P (sym is) (All-get_or P xs position x within all)
 
 -- a reading that fits a schedule fits the trip on its day
 pub fits_dated : (schedule : Schedule) (trip : ℕ) (day : ℤ) (reading : JourneyReading) (ids : List (List ℕ)) (dated : DatedTrip) → FitsSchedule schedule trip day reading

@@ -93,9 +93,15 @@ pub(crate) fn add_stops(
         (lines.new ≡ lines.old
         ++ spec.stop_lines table.now.stops name.now (zip stops.now readings.now)) }
 {
-    for (place, stop) in stops.iter().enumerate() {
+    for (position, stop) in stops.iter().enumerate() {
         let stop_id = table.stop_id(stop.stop);
-        add_stop(lines, name, place as u64 + 1, stop_id, &readings[place])?;
+        add_stop(
+            lines,
+            name,
+            position as u64 + 1,
+            stop_id,
+            &readings[position],
+        )?;
     }
     Ok(())
 }

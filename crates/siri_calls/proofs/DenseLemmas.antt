@@ -1,4 +1,4 @@
--- The dense reading of calls whose places rise, place by place.
+-- The dense reading of calls whose places rise, position by position.
 use Rattle.std.proofs.Common.{◌≡◌, ◌∙◌, ◌<◌, ◌≤◌, ◌+◌, ◌==◌, ◌-◌, ℕ, zero, suc, Bool, true, false, List, [], ◌∷◌, ◌++◌, map, find, Some, None, nat_le, refl, ap, sym, arith, append_assoc, subst}
 use Rattle.std.specs.List.{range_with_len}
 use Rattle.std.proofs.lemmas.Bool.{leb-true}
@@ -20,13 +20,13 @@ other-above n m less = grind (arith, nat_tests)
 pub elsewhere : (n m : ℕ) → (n ≡ m → ⊥) → (n == m) ≡ false
 elsewhere n m differ = grind (arith, nat_tests)
 
--- calls that rise from a place on have none before it
-pub none-before : (place from : ℕ) (placed : List (ℕ × (ℕ × Call))) → place < from → rise_from from placed ≡ true
-    → find (λ one. one.0 == place) placed ≡ None
-none-before place from [] less rising = refl
-none-before place from (one ∷ others) less rising =
+-- calls that rise from a position on have none before it
+pub none-before : (position from : ℕ) (placed : List (ℕ × (ℕ × Call))) → position < from → rise_from from placed ≡ true
+    → find (λ one. one.0 == position) placed ≡ None
+none-before position from [] less rising = refl
+none-before position from (one ∷ others) less rising =
     let after : from ≤ one.0 = leb-true from one.0 (and-left (nat_le from one.0) _ rising) in
-    rw (other place one.0 (omega arith)) (none-before place (one.0 + 1) others (omega arith) (and-right (nat_le from one.0) _ rising))
+    rw (other position one.0 (omega arith)) (none-before position (one.0 + 1) others (omega arith) (and-right (nat_le from one.0) _ rising))
 
 -- a call says nothing of the places after its own
 passed : (run : Run) (one : ℕ × (ℕ × Call)) (others : List (ℕ × (ℕ × Call))) (from n : ℕ) → one.0 < from
@@ -37,68 +37,68 @@ passed run one others from (suc n) less =
     passed run one others (from + 1) n (omega arith) in
     rw (other-above one.0 from less, rest) refl
 
--- the place of a call
-step-call : (run : Run) (one : ℕ × (ℕ × Call)) (others : List (ℕ × (ℕ × Call))) (place n : ℕ) (front : List StopReading) → one.0 ≡ place
-    → front ++ map (dense run (one ∷ others)) (range_with_len place (suc n))
-    ≡ (front ++ call_reading (planned_at run place) one.1.1 ∷ []) ++ map (dense run others) (range_with_len (place + 1) n)
-step-call run one others place n front here =
-    let eq : (one.0 == place) ≡ true = grind (arith, nat_tests) in
-    let rest = passed run one others (place + 1) n (omega arith) in
-    rw (eq, rest) (sym (append_assoc front (call_reading (planned_at run place) one.1.1 ∷ []) (map (dense run others) (range_with_len (place + 1) n))))
+-- the position of a call
+step-call : (run : Run) (one : ℕ × (ℕ × Call)) (others : List (ℕ × (ℕ × Call))) (position n : ℕ) (front : List StopReading) → one.0 ≡ position
+    → front ++ map (dense run (one ∷ others)) (range_with_len position (suc n))
+    ≡ (front ++ call_reading (planned_at run position) one.1.1 ∷ []) ++ map (dense run others) (range_with_len (position + 1) n)
+step-call run one others position n front here =
+    let eq : (one.0 == position) ≡ true = grind (arith, nat_tests) in
+    let rest = passed run one others (position + 1) n (omega arith) in
+    rw (eq, rest) (sym (append_assoc front (call_reading (planned_at run position) one.1.1 ∷ []) (map (dense run others) (range_with_len (position + 1) n))))
 
--- a place without a call
-step-none : (run : Run) (placed : List (ℕ × (ℕ × Call))) (place n : ℕ) (front : List StopReading) → find (λ one. one.0 == place) placed ≡ None
-    → front ++ map (dense run placed) (range_with_len place (suc n))
-    ≡ (front ++ Absent ∷ []) ++ map (dense run placed) (range_with_len (place + 1) n)
-step-none run placed place n front none =
-    rw none (sym (append_assoc front (Absent ∷ []) (map (dense run placed) (range_with_len (place + 1) n))))
+-- a position without a call
+step-none : (run : Run) (placed : List (ℕ × (ℕ × Call))) (position n : ℕ) (front : List StopReading) → find (λ one. one.0 == position) placed ≡ None
+    → front ++ map (dense run placed) (range_with_len position (suc n))
+    ≡ (front ++ Absent ∷ []) ++ map (dense run placed) (range_with_len (position + 1) n)
+step-none run placed position n front none =
+    rw none (sym (append_assoc front (Absent ∷ []) (map (dense run placed) (range_with_len (position + 1) n))))
 
--- one place more, with its call or without
-pub one-call : (run : Run) (all front pushed : List StopReading) (list others : List (ℕ × (ℕ × Call))) (one : ℕ × (ℕ × Call)) (place stops : ℕ) (reading : StopReading)
-    → list ≡ one ∷ others → one.0 ≡ place → place < stops
+-- one position more, with its call or without
+pub one-call : (run : Run) (all front pushed : List StopReading) (list others : List (ℕ × (ℕ × Call))) (one : ℕ × (ℕ × Call)) (position stops : ℕ) (reading : StopReading)
+    → list ≡ one ∷ others → one.0 ≡ position → position < stops
     → pushed ≡ front ++ reading ∷ [] → reading ≡ call_reading (planned_at run one.0) one.1.1
-    → front ++ map (dense run list) (range_with_len place (stops - place)) ≡ all
-    → pushed ++ map (dense run others) (range_with_len (place + 1) (stops - (place + 1))) ≡ all
-one-call run all front pushed list others one place stops reading is here less push read whole =
-    let more : stops - place ≡ suc (stops - (place + 1)) = omega arith in
-    let before : front ++ map (dense run (one ∷ others)) (range_with_len place (suc (stops - (place + 1)))) ≡ all = rw (is, more) at whole in
-    let said : reading ≡ call_reading (planned_at run place) one.1.1 = read ∙ ap (λ p. call_reading (planned_at run p) one.1.1) here in
-    rw (push, said) (sym (step-call run one others place (stops - (place + 1)) front here) ∙ before)
+    → front ++ map (dense run list) (range_with_len position (stops - position)) ≡ all
+    → pushed ++ map (dense run others) (range_with_len (position + 1) (stops - (position + 1))) ≡ all
+one-call run all front pushed list others one position stops reading is here less push read whole =
+    let more : stops - position ≡ suc (stops - (position + 1)) = omega arith in
+    let before : front ++ map (dense run (one ∷ others)) (range_with_len position (suc (stops - (position + 1)))) ≡ all = rw (is, more) at whole in
+    let said : reading ≡ call_reading (planned_at run position) one.1.1 = read ∙ ap (λ p. call_reading (planned_at run p) one.1.1) here in
+    rw (push, said) (sym (step-call run one others position (stops - (position + 1)) front here) ∙ before)
 
-pub one-none : (run : Run) (all front pushed : List StopReading) (list : List (ℕ × (ℕ × Call))) (place stops : ℕ) (reading : StopReading)
-    → find (λ one. one.0 == place) list ≡ None → place < stops
+pub one-none : (run : Run) (all front pushed : List StopReading) (list : List (ℕ × (ℕ × Call))) (position stops : ℕ) (reading : StopReading)
+    → find (λ one. one.0 == position) list ≡ None → position < stops
     → pushed ≡ front ++ reading ∷ [] → reading ≡ Absent
-    → front ++ map (dense run list) (range_with_len place (stops - place)) ≡ all
-    → pushed ++ map (dense run list) (range_with_len (place + 1) (stops - (place + 1))) ≡ all
-one-none run all front pushed list place stops reading none less push read whole =
-    let more : stops - place ≡ suc (stops - (place + 1)) = omega arith in
-    let before : front ++ map (dense run list) (range_with_len place (suc (stops - (place + 1)))) ≡ all = rw more at whole in
-    rw (push, read) (sym (step-none run list place (stops - (place + 1)) front none) ∙ before)
+    → front ++ map (dense run list) (range_with_len position (stops - position)) ≡ all
+    → pushed ++ map (dense run list) (range_with_len (position + 1) (stops - (position + 1))) ≡ all
+one-none run all front pushed list position stops reading none less push read whole =
+    let more : stops - position ≡ suc (stops - (position + 1)) = omega arith in
+    let before : front ++ map (dense run list) (range_with_len position (suc (stops - (position + 1)))) ≡ all = rw more at whole in
+    rw (push, read) (sym (step-none run list position (stops - (position + 1)) front none) ∙ before)
 
--- the others rise from the next place on
-pub rise-after : (place : ℕ) (list others : List (ℕ × (ℕ × Call))) (one : ℕ × (ℕ × Call)) → list ≡ one ∷ others → one.0 ≡ place → rise_from place list ≡ true
-    → rise_from (place + 1) others ≡ true
-rise-after place list others one is here rising =
-    let all : rise_from place (one ∷ others) ≡ true = rw is at rising in
-    subst (λ p. rise_from (p + 1) others ≡ true) here (and-right (nat_le place one.0) _ all)
+-- the others rise from the next position on
+pub rise-after : (position : ℕ) (list others : List (ℕ × (ℕ × Call))) (one : ℕ × (ℕ × Call)) → list ≡ one ∷ others → one.0 ≡ position → rise_from position list ≡ true
+    → rise_from (position + 1) others ≡ true
+rise-after position list others one is here rising =
+    let all : rise_from position (one ∷ others) ≡ true = rw is at rising in
+    subst (λ p. rise_from (p + 1) others ≡ true) here (and-right (nat_le position one.0) _ all)
 
--- the first of calls that rise from a place on isn't at it
-pub none-here : (place : ℕ) (one : ℕ × (ℕ × Call)) (others : List (ℕ × (ℕ × Call))) → rise_from place (one ∷ others) ≡ true → (one.0 == place) ≡ false
-    → find (λ other. other.0 == place) (one ∷ others) ≡ None
-none-here place one others rising elsewhere =
-    let after : place ≤ one.0 = leb-true place one.0 (and-left (nat_le place one.0) _ rising) in
-    let above : place < one.0 + 1 = omega arith in
-    rw elsewhere (none-before place (one.0 + 1) others above (and-right (nat_le place one.0) _ rising))
+-- the first of calls that rise from a position on isn't at it
+pub none-here : (position : ℕ) (one : ℕ × (ℕ × Call)) (others : List (ℕ × (ℕ × Call))) → rise_from position (one ∷ others) ≡ true → (one.0 == position) ≡ false
+    → find (λ other. other.0 == position) (one ∷ others) ≡ None
+none-here position one others rising elsewhere =
+    let after : position ≤ one.0 = leb-true position one.0 (and-left (nat_le position one.0) _ rising) in
+    let above : position < one.0 + 1 = omega arith in
+    rw elsewhere (none-before position (one.0 + 1) others above (and-right (nat_le position one.0) _ rising))
 
--- calls that rise from a place on at which none stands rise from the next one on
-pub rise-on : (place : ℕ) (placed : List (ℕ × (ℕ × Call))) → rise_from place placed ≡ true → find (λ one. one.0 == place) placed ≡ None
-    → rise_from (place + 1) placed ≡ true
-rise-on place [] rising none = refl
-rise-on place (one ∷ others) rising none = by (one.0 == place) refl
+-- calls that rise from a position on at which none stands rise from the next one on
+pub rise-on : (position : ℕ) (placed : List (ℕ × (ℕ × Call))) → rise_from position placed ≡ true → find (λ one. one.0 == position) placed ≡ None
+    → rise_from (position + 1) placed ≡ true
+rise-on position [] rising none = refl
+rise-on position (one ∷ others) rising none = by (one.0 == position) refl
   where
-    by : (b : Bool) → (one.0 == place) ≡ b → rise_from (place + 1) (one ∷ others) ≡ true
+    by : (b : Bool) → (one.0 == position) ≡ b → rise_from (position + 1) (one ∷ others) ≡ true
     by true e = let absent : Some one ≡ None = rw e at none in absurd (cc)
     by false e =
-        let after : place ≤ one.0 = leb-true place one.0 (and-left (nat_le place one.0) _ rising) in
-        let more : nat_le (place + 1) one.0 ≡ true = grind (arith, nat_tests) in
-        rw more (and-right (nat_le place one.0) _ rising)
+        let after : position ≤ one.0 = leb-true position one.0 (and-left (nat_le position one.0) _ rising) in
+        let more : nat_le (position + 1) one.0 ≡ true = grind (arith, nat_tests) in
+        rw more (and-right (nat_le position one.0) _ rising)

@@ -9,7 +9,7 @@ use Rattle.std.proofs.lemmas.List.Folds.{list_any-append}
 same : (n m : ℕ) → nat_lt (1 + n) (suc m) ≡ nat_lt n m
 same n m = grind (arith, nat_tests)
 
--- a test passes somewhere where it passes at a first place
+-- a test passes somewhere where it passes at a first position
 pub first-any : {A : Type 0} (test : A → Bool) (xs : List A) → nat_lt (position_or_len test xs) (length xs) ≡ list_any test xs
 first-any test [] = refl
 first-any test (x ∷ xs) = by (first-any test xs) (test x) refl
@@ -26,6 +26,6 @@ is_some-position test xs = by (nat_lt (position_or_len test xs) (length xs)) (fi
     by true e = e
     by false e = e
 
--- a test passes somewhere where it passes after a place or before it
+-- a test passes somewhere where it passes after a position or before it
 pub any-split : {A : Type 0} (test : A → Bool) (n : ℕ) (xs : List A) → list_any test xs ≡ (list_any test (take n xs) || list_any test (drop n xs))
 any-split test n xs = ap (list_any test) (sym (take-append-drop n xs)) ∙ list_any-append test (take n xs) (drop n xs)

@@ -7,45 +7,45 @@ use Rattle.std.specs.Option.{ok_or}
 use Rattle.std.specs.Prelude.{is_some, not, option_and_then}
 use Rattle.std.specs.Str.{bytes_eq}
 use Rattle.gw_base.specs.Chains.{ok_map, ◌>>=◌}
-use Rattle.journey_model.specs.Matching.{call_place, first_place, fits_order, is_of_stop, place_after, stands_at}
+use Rattle.journey_model.specs.Matching.{call_position, first_position, fits_order, is_of_stop, position_after, stands_at}
 use Rattle.journey_model.specs.Runs.{Run}
 use Rattle.journey_model.specs.declared.fault.Fault.{Fault}
 use Rattle.journey_model.specs.declared.fault.Fault.TheVariants.{OutOfOrder, UnknownStop}
 use Rattle.siri_calls.specs.Journeys.{Call}
 use Rattle.siri_calls.specs.Judged.{numbered, placed_calls, stop_named, stop_of_trip, stops_named}
-use Rattle.siri_calls.specs.MatchedCalls.{is_unknown, place_named, unplaced}
+use Rattle.siri_calls.specs.MatchedCalls.{is_unknown, position_named, unplaced}
 use Rattle.timetable.specs.declared.stop_row.StopRow.{StopRow}
 use Rattle.timetable.proofs.IdLemmas.{and-right}
 use Rattle.siri_calls.proofs.PlaceLemmas.{any-split, is_some-position}
 
--- ---- a stop that has a place is one of the trip
+-- ---- a stop that has a position is one of the trip
 
-stands-any : (test : StopRow → Bool) (place : ℕ) (stops : List StopRow) → stands_at test place stops ≡ true → list_any test stops ≡ true
-stands-any test place [] h = absurd (cc)
+stands-any : (test : StopRow → Bool) (position : ℕ) (stops : List StopRow) → stands_at test position stops ≡ true → list_any test stops ≡ true
+stands-any test position [] h = absurd (cc)
 stands-any test zero (row ∷ rows) h = rw h refl
-stands-any test (suc place) (row ∷ rows) h = rw (stands-any test place rows h) (or-true (test row))
+stands-any test (suc position) (row ∷ rows) h = rw (stands-any test position rows h) (or-true (test row))
 
-first-any : (stop from : ℕ) (stops : List StopRow) (place : ℕ) → first_place stop from stops ≡ Some place → list_any (is_of_stop stop) stops ≡ true
-first-any stop from stops place at = by (position (is_of_stop stop) (drop from stops)) refl at
+first-any : (stop from : ℕ) (stops : List StopRow) (k : ℕ) → first_position stop from stops ≡ Some k → list_any (is_of_stop stop) stops ≡ true
+first-any stop from stops k at = by (position (is_of_stop stop) (drop from stops)) refl at
   where
-    by : (found : Option ℕ) → position (is_of_stop stop) (drop from stops) ≡ found → option_map (λ p. p + from) found ≡ Some place
+    by : (found : Option ℕ) → position (is_of_stop stop) (drop from stops) ≡ found → option_map (λ p. p + from) found ≡ Some k
         → list_any (is_of_stop stop) stops ≡ true
     by None is e = absurd (cc)
     by (Some p) is e =
         let beyond : list_any (is_of_stop stop) (drop from stops) ≡ true = sym (is_some-position (is_of_stop stop) (drop from stops)) ∙ ap is_some is in
         any-split (is_of_stop stop) from stops ∙ rw beyond (or-true _)
 
-placed-any : (stops : List StopRow) (after : Option ℕ) (stop : ℕ) (order : Option ℕ) (place : ℕ) → call_place stops after stop order ≡ Some place
+placed-any : (stops : List StopRow) (after : Option ℕ) (stop : ℕ) (order : Option ℕ) (position : ℕ) → call_position stops after stop order ≡ Some position
     → list_any (is_of_stop stop) stops ≡ true
-placed-any stops after stop None place at = first-any stop (place_after after) stops place at
-placed-any stops after stop (Some order) place at = by (fits_order stop (place_after after) order stops) refl at
+placed-any stops after stop None position at = first-any stop (position_after after) stops position at
+placed-any stops after stop (Some order) position at = by (fits_order stop (position_after after) order stops) refl at
   where
-    by : (b : Bool) → fits_order stop (place_after after) order stops ≡ b
-        → cond b (Some (order - 1)) (first_place stop (place_after after) stops) ≡ Some place → list_any (is_of_stop stop) stops ≡ true
-    by false e h = first-any stop (place_after after) stops place h
+    by : (b : Bool) → fits_order stop (position_after after) order stops ≡ b
+        → cond b (Some (order - 1)) (first_position stop (position_after after) stops) ≡ Some position → list_any (is_of_stop stop) stops ≡ true
+    by false e h = first-any stop (position_after after) stops position h
     by true e h =
         stands-any (is_of_stop stop) (order - 1) stops
-        (and-right (nat_le (place_after after) (order - 1)) (stands_at (is_of_stop stop) (order - 1) stops) (and-right (nat_le 1 order) _ e))
+        (and-right (nat_le (position_after after) (order - 1)) (stands_at (is_of_stop stop) (order - 1) stops) (and-right (nat_le 1 order) _ e))
 
 -- ---- the calls so far have these stops and these places, and the others follow
 
@@ -61,33 +61,33 @@ one-more front x (Ok others) = ap Ok (sym (append_assoc front (x ∷ []) others)
 one-more front x (Err fault) = refl
 
 module _ (run : Run) (all left : List (ℕ × Call)) (after : Option ℕ) (placed : List (ℕ × (ℕ × Call))) (one : ℕ × Call) (so_far : SoFar run all (one ∷ left) after placed) where
-  -- one call more has a place
-  pub one_more : (place : ℕ) → Some place ≡ place_named run after one.1 → SoFar run all left (Some place) (placed ++ (place, one) ∷ [])
-  one_more place is = by (position (bytes_eq one.1.stop) run.ids) refl (sym is)
+  -- one call more has a position
+  pub one_more : (k : ℕ) → Some k ≡ position_named run after one.1 → SoFar run all left (Some k) (placed ++ (k, one) ∷ [])
+  one_more k is = by (position (bytes_eq one.1.stop) run.ids) refl (sym is)
     where
-      by : (found : Option ℕ) → position (bytes_eq one.1.stop) run.ids ≡ found → option_and_then (λ stop. call_place run.stops after stop one.1.order) found ≡ Some place
-          → SoFar run all left (Some place) (placed ++ (place, one) ∷ [])
+      by : (found : Option ℕ) → position (bytes_eq one.1.stop) run.ids ≡ found → option_and_then (λ stop. call_position run.stops after stop one.1.order) found ≡ Some k
+          → SoFar run all left (Some k) (placed ++ (k, one) ∷ [])
       by None e h = absurd (cc)
       by (Some stop) e h =
-          let has = placed-any run.stops after stop one.1.order place h in
+          let has = placed-any run.stops after stop one.1.order k h in
           record {
             named = so_far.named ++ (stop, one) ∷ [];
             stops = so_far.stops ∙ rw (e, has) (one-more so_far.named (stop, one) (stops_named run left));
             places = λ rest. ap (placed_calls run.stops None) (append_assoc so_far.named ((stop, one) ∷ []) rest) ∙ so_far.places ((stop, one) ∷ rest)
-                ∙ rw h (one-more placed (place, one) (placed_calls run.stops (Some place) rest));
+                ∙ rw h (one-more placed (k, one) (placed_calls run.stops (Some k) rest));
           }
 
   -- a call has none
-  pub refused : (fault : Fault) → None ≡ place_named run after one.1 → fault ≡ unplaced one.0 (stops_named run all)
+  pub refused : (fault : Fault) → None ≡ position_named run after one.1 → fault ≡ unplaced one.0 (stops_named run all)
       → (stops_named run all >>= λ named. placed_calls run.stops None named) ≡ Err fault
   refused fault none told = by (stops_named run all) refl told
     where
-      at : (found : Option ℕ) → position (bytes_eq one.1.stop) run.ids ≡ found → None ≡ option_and_then (λ stop. call_place run.stops after stop one.1.order) found
-          → (stop : ℕ) → option_and_then (stop_of_trip run) found ≡ Some stop → call_place run.stops after stop one.1.order ≡ None
+      at : (found : Option ℕ) → position (bytes_eq one.1.stop) run.ids ≡ found → None ≡ option_and_then (λ stop. call_position run.stops after stop one.1.order) found
+          → (stop : ℕ) → option_and_then (stop_of_trip run) found ≡ Some stop → call_position run.stops after stop one.1.order ≡ None
       at None e h stop is = absurd (cc)
       at (Some k) e h stop is = of (list_any (is_of_stop k) run.stops) is
         where
-          of : (b : Bool) → cond b (Some k) None ≡ Some stop → call_place run.stops after stop one.1.order ≡ None
+          of : (b : Bool) → cond b (Some k) None ≡ Some stop → call_position run.stops after stop one.1.order ≡ None
           of true same = let number : k ≡ stop = cc in rw (← number) (sym h)
           of false same = absurd (cc)
 
@@ -106,7 +106,7 @@ module _ (run : Run) (all left : List (ℕ × Call)) (after : Option ℕ) (place
       by (Err other) e is = ap Err (sym is)
       by (Ok every) e is = step every (stop_named run one.1.stop) refl (stops_named run left) (sym e ∙ so_far.stops) ∙ ap Err (sym is)
 
--- ---- the fault of calls without a place
+-- ---- the fault of calls without a position
 
 -- a call whose stop the trip has doesn't count
 pub passed_over : (run : Run) (late number : ℕ) (one : Option Call) (others : List (Option Call)) → false ≡ is_unknown run one

@@ -59,34 +59,34 @@ call-near : (number : ℕ) (plan : ℤ × ℤ) (skip : Bool) (arrival departure 
 call-near number plan true arrival departure none = refl
 call-near number plan false arrival departure none = times-near number plan arrival departure none
 
--- of calls without such a fault, one that is found at a place has none and is at the place
-found-near : (run : Run) (placed : List (ℕ × (ℕ × Call))) (place : ℕ) (one : ℕ × (ℕ × Call)) → spec.delays_fault run placed ≡ None
-    → find (λ other. other.0 == place) placed ≡ Some one → (spec.fault_of_delay run one ≡ None) × (one.0 ≡ place)
-found-near run [] place one none found = absurd (cc)
-found-near run (first ∷ others) place one none found =
-    by (first.0 == place) refl found (found-near run others place one (or_neither (spec.fault_of_delay run first) _ none).1)
+-- of calls without such a fault, one that is found at a position has none and is at the position
+found-near : (run : Run) (placed : List (ℕ × (ℕ × Call))) (position : ℕ) (one : ℕ × (ℕ × Call)) → spec.delays_fault run placed ≡ None
+    → find (λ other. other.0 == position) placed ≡ Some one → (spec.fault_of_delay run one ≡ None) × (one.0 ≡ position)
+found-near run [] position one none found = absurd (cc)
+found-near run (first ∷ others) position one none found =
+    by (first.0 == position) refl found (found-near run others position one (or_neither (spec.fault_of_delay run first) _ none).1)
   where
-    by : (b : Bool) → (first.0 == place) ≡ b → cond b (Some first) (find (λ other. other.0 == place) others) ≡ Some one
-        → (find (λ other. other.0 == place) others ≡ Some one → (spec.fault_of_delay run one ≡ None) × (one.0 ≡ place))
-        → (spec.fault_of_delay run one ≡ None) × (one.0 ≡ place)
+    by : (b : Bool) → (first.0 == position) ≡ b → cond b (Some first) (find (λ other. other.0 == position) others) ≡ Some one
+        → (find (λ other. other.0 == position) others ≡ Some one → (spec.fault_of_delay run one ≡ None) × (one.0 ≡ position))
+        → (spec.fault_of_delay run one ≡ None) × (one.0 ≡ position)
     by true e h later =
         let same : first ≡ one = cc in
-        let here : first.0 ≡ place = grind (arith, nat_tests) in
-        (subst (λ x. spec.fault_of_delay run x ≡ None) same (or_neither (spec.fault_of_delay run first) (spec.delays_fault run others) none).0, subst (λ x. x.0 ≡ place) same here)
+        let here : first.0 ≡ position = grind (arith, nat_tests) in
+        (subst (λ x. spec.fault_of_delay run x ≡ None) same (or_neither (spec.fault_of_delay run first) (spec.delays_fault run others) none).0, subst (λ x. x.0 ≡ position) same here)
     by false e h later = later h
 
-dense-near : (run : Run) (placed : List (ℕ × (ℕ × Call))) (place : ℕ) → spec.delays_fault run placed ≡ None
-    → is_near (planned_at run place) (spec.dense run placed place) ≡ true
-dense-near run placed place none = by (find (λ one. one.0 == place) placed) refl
+dense-near : (run : Run) (placed : List (ℕ × (ℕ × Call))) (position : ℕ) → spec.delays_fault run placed ≡ None
+    → is_near (planned_at run position) (spec.dense run placed position) ≡ true
+dense-near run placed position none = by (find (λ one. one.0 == position) placed) refl
   where
-    by : (found : Option (ℕ × (ℕ × Call))) → find (λ one. one.0 == place) placed ≡ found → is_near (planned_at run place) (spec.reading_at run place found) ≡ true
+    by : (found : Option (ℕ × (ℕ × Call))) → find (λ one. one.0 == position) placed ≡ found → is_near (planned_at run position) (spec.reading_at run position found) ≡ true
     by None e = refl
     by (Some one) e =
-        let near = found-near run placed place one none e in
+        let near = found-near run placed position one none e in
         let fault = subst (λ p. cond one.1.1.skip None (delay_fault one.1.0 (planned_at run p) one.1.1.arrival one.1.1.departure) ≡ None) near.1 near.0 in
-        call-near one.1.0 (planned_at run place) one.1.1.skip one.1.1.arrival one.1.1.departure fault
+        call-near one.1.0 (planned_at run position) one.1.1.skip one.1.1.arrival one.1.1.departure fault
 
--- readings that are near at each place
+-- readings that are near at each position
 all-near : (start : ℤ) (rows : List StopRow) (f : ℕ → StopReading) (from : ℕ)
     → ((k j : ℕ) (row : StopRow) → from + k ≡ j → slice_get rows k ≡ Some row → is_near (planned start row) (f j) ≡ true)
     → are_near start rows (map f (range_with_len from (length rows))) ≡ true
@@ -136,11 +136,11 @@ journey-fits run false all reading h = stops-fit run all reading h
 known-trip : (schedule : Schedule) (head : Header) (trip : ℕ) → spec.trip_named schedule head ≡ Ok trip → trip < length schedule.table.trips
 known-trip schedule head trip h = by head.extra h
   where
-    found : (place : Option ℕ) → position (bytes_eq head.trip_id) schedule.table.trips ≡ place → ok_or place UnknownJourney ≡ Ok trip → trip < length schedule.table.trips
+    found : (at : Option ℕ) → position (bytes_eq head.trip_id) schedule.table.trips ≡ at → ok_or at UnknownJourney ≡ Ok trip → trip < length schedule.table.trips
     found None e told = absurd (cc)
-    found (Some place) e told =
-        let same : place ≡ trip = cc in
-        subst (λ p. p < length schedule.table.trips) same (position-Some (bytes_eq head.trip_id) schedule.table.trips place [] e).0
+    found (Some at) e told =
+        let same : at ≡ trip = cc in
+        subst (λ p. p < length schedule.table.trips) same (position-Some (bytes_eq head.trip_id) schedule.table.trips at [] e).0
 
     by : (extra : Bool) → (spec.unless_extra extra >>= λ none. ok_or (position (bytes_eq head.trip_id) schedule.table.trips) UnknownJourney) ≡ Ok trip
         → trip < length schedule.table.trips

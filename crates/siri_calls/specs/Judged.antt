@@ -5,7 +5,7 @@ use Rattle.std.specs.List.{list_any, range_with_len}
 use Rattle.std.specs.Option.{ok_or, option_or}
 use Rattle.std.specs.Str.{bytes_eq}
 use Rattle.gw_base.specs.Chains.{unless_fault, ◌>>=◌}
-use Rattle.journey_model.specs.Matching.{call_place, is_of_stop}
+use Rattle.journey_model.specs.Matching.{call_position, is_of_stop}
 use Rattle.journey_model.specs.Propagation.{timed}
 use Rattle.journey_model.specs.Records.{Recorded}
 use Rattle.journey_model.specs.Runs.{Run, planned_at}
@@ -41,13 +41,13 @@ stops_named run (one ∷ others) = do
   rest ← stops_named run others
   Ok ((stop, one) ∷ rest)
 
--- the places of calls with their stops, after the place before, or the fault of the first call of no later stop
+-- the places of calls with their stops, after the position before, or the fault of the first call of no later stop
 abbrev pub placed_calls : List StopRow → Option ℕ → List (ℕ × (ℕ × Call)) → Result (List (ℕ × (ℕ × Call))) Fault
 placed_calls stops after [] = Ok []
 placed_calls stops after (one ∷ others) = do
-  place ← ok_or (call_place stops after one.0 one.1.1.order) (OutOfOrder one.1.0)
-  rest ← placed_calls stops (Some place) others
-  Ok ((place, one.1) ∷ rest)
+  position ← ok_or (call_position stops after one.0 one.1.1.order) (OutOfOrder one.1.0)
+  rest ← placed_calls stops (Some position) others
+  Ok ((position, one.1) ∷ rest)
 
 -- the fault of the first event whose delay is over a week; a call that skips its stop has no event
 abbrev pub fault_of_delay : Run → ℕ × (ℕ × Call) → Option Fault
@@ -64,11 +64,11 @@ call_reading planned one = if one.skip then Skipped else timed (both_times plann
 
 -- the dense reading: at each stop the call that is matched to it; a stop without a call is absent
 abbrev pub reading_at : Run → ℕ → Option (ℕ × (ℕ × Call)) → StopReading
-reading_at run place None = Absent
-reading_at run place (Some one) = call_reading (planned_at run place) one.1.1
+reading_at run position None = Absent
+reading_at run position (Some one) = call_reading (planned_at run position) one.1.1
 
 abbrev pub dense : Run → List (ℕ × (ℕ × Call)) → ℕ → StopReading
-dense run placed place = reading_at run place (find (λ one. one.0 == place) placed)
+dense run placed position = reading_at run position (find (λ one. one.0 == position) placed)
 
 abbrev pub all_dense : Run → List (ℕ × (ℕ × Call)) → List StopReading
 all_dense run placed = map (dense run placed) (range_with_len 0 (length run.stops))

@@ -8,6 +8,5 @@ pub mod ReadMembers
 pub mod Seen
 pub mod Servable
 pub mod Shown
-pub mod TripRuns
 pub mod Verdicts
 pub mod Written

@@ -4,11 +4,10 @@ ghost use Rattle.std.specs.Prelude.{◌≡◌, map};
 ghost use Rattle.journey_model.specs.Runs.{planned_at as planned_of};
 ghost use Rattle.siri_calls.specs.Judged as spec;
 ghost use Rattle.siri_calls.specs.MatchedCalls.{placed_call};
-ghost use Rattle.siri_calls.specs.TripRuns.{run_over};
+ghost use Rattle.journey_model.specs.TripRuns.{run_over};
 
 use crate::matching_calls::PlacedCall;
-use crate::trip_run::TripRun;
-use journey_model::{Fault, StopReading, both_times, delay_fault};
+use journey_model::{Fault, StopReading, TripRun, both_times, delay_fault};
 
 // The fault of the first event of a call whose delay is over a week.
 fn fault_of_delay(run: &TripRun<'_>, one: &PlacedCall<'_>) -> Option<Fault>
@@ -18,7 +17,7 @@ fn fault_of_delay(run: &TripRun<'_>, one: &PlacedCall<'_>) -> Option<Fault>
     if call.skip {
         return None;
     }
-    let planned = run.dated.planned_at(one.place);
+    let planned = run.dated.planned_at(one.position);
     delay_fault(one.number, planned, call.arrival, call.departure)
 }
 
@@ -36,13 +35,13 @@ pub(crate) fn delays_fault(run: &TripRun<'_>, placed: &[PlacedCall<'_>]) -> Opti
 
 /// How a call reads at its stop: one event gives its delay to the other.
 pub(crate) fn call_reading(run: &TripRun<'_>, one: &PlacedCall<'_>) -> StopReading
-    ensures { result ≡ spec.call_reading (planned_of (run_over run.now) one.now.place) (placed_call one.now).1.1 }
+    ensures { result ≡ spec.call_reading (planned_of (run_over run.now) one.now.position) (placed_call one.now).1.1 }
 {
     let call = one.call;
     if call.skip {
         return StopReading::Skipped;
     }
-    let planned = run.dated.planned_at(one.place);
+    let planned = run.dated.planned_at(one.position);
     match both_times(planned, call.arrival, call.departure) {
         Some((arrival, departure)) => StopReading::Timed { arrival, departure },
         None => StopReading::Absent,

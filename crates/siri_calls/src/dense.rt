@@ -3,29 +3,28 @@ ghost use Rattle.std.specs.Prelude.{◌≡◌, ◌==◌, ◌+◌, ◌<◌, ◌�
 ghost use Rattle.std.specs.Option.{IfNone};
 ghost use Rattle.siri_calls.specs.Judged as spec;
 ghost use Rattle.siri_calls.specs.MatchedCalls.{placed_call, rise_from};
-ghost use Rattle.siri_calls.specs.TripRuns.{run_over};
+ghost use Rattle.journey_model.specs.TripRuns.{run_over};
 
 use crate::delays::call_reading;
 use crate::matching_calls::PlacedCall;
-use crate::trip_run::TripRun;
 use gw_base::List;
-use journey_model::StopReading;
+use journey_model::{StopReading, TripRun};
 use std::alloc::{AllocError, Global};
 
-// The call at a place, if there is one: it is the next of calls whose places rise.
+// The call at a position, if there is one: it is the next of calls whose places rise.
 fn call_at<'a, 'b>(
     placed: &'a [PlacedCall<'b>],
     next: usize,
-    place: usize,
+    position: usize,
 ) -> Option<&'a PlacedCall<'b>>
-    requires { rise_from place (map placed_call (drop next placed.now)) ≡ true }
-    ensures none { IfNone result (find (λ one. one.0 == place) (map placed_call (drop next placed.now)) ≡ None) }
+    requires { rise_from position (map placed_call (drop next placed.now)) ≡ true }
+    ensures none { IfNone result (find (λ one. one.0 == position) (map placed_call (drop next placed.now)) ≡ None) }
     ensures first { IfSome result (λ one. drop next placed.now ≡ one.now ∷ drop (next + 1) placed.now) }
-    ensures here { IfSome result (λ one. one.now.place ≡ place) }
+    ensures here { IfSome result (λ one. one.now.position ≡ position) }
     ensures within { IfSome result (λ _. next < length placed.now) }
 {
     let one = placed.get(next)?;
-    if one.place as usize == place {
+    if one.position as usize == position {
         Some(one)
     } else {
         None
@@ -43,8 +42,8 @@ pub(crate) fn dense_readings(
 {
     let mut readings = List::new(alloc);
     let mut next = 0;
-    for place in 0..run.dated.stops.len() {
-        let reading = match call_at(placed, next, place) {
+    for position in 0..run.dated.stops.len() {
+        let reading = match call_at(placed, next, position) {
             Some(one) => {
                 next += 1;
                 call_reading(run, one)

@@ -6,15 +6,14 @@ ghost use Rattle.siri_calls.specs.Judged as spec;
 ghost use Rattle.siri_calls.specs.Seen.{calls_of, header_of};
 ghost use Rattle.siri_json.specs.Shown.{IsFaultOf};
 ghost use Rattle.siri_calls.specs.Servable.{IsServable};
-ghost use Rattle.siri_calls.specs.TripRuns.{run_over};
+ghost use Rattle.journey_model.specs.TripRuns.{run_over};
 
 use crate::calls::Call;
 use crate::delays::delays_fault;
 use crate::dense::dense_readings;
 use crate::header::Header;
 use crate::matching_calls::placed_calls;
-use crate::trip_run::TripRun;
-use journey_model::{Context, Fault, JourneyReading, JourneyRecord};
+use journey_model::{Context, Fault, JourneyReading, JourneyRecord, TripRun};
 use service_day::Day;
 use siri_json::ReadFault;
 use std::alloc::Global;

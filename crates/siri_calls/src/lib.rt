@@ -13,7 +13,6 @@ mod items;
 mod judging;
 mod matching_calls;
 mod read_members;
-mod trip_run;
 mod writing;
 
 pub use delivery::{Delivery, Item, read_delivery};

@@ -1,22 +1,21 @@
 //! The places of a journey's calls in its trip. The functions meet `calls_placed` of `specs/Judged.antt`.
 ghost use Rattle.std.specs.Prelude.{◌≡◌, map, option_map, Ok, IfErr, IfOk};
 ghost use Rattle.siri_calls.specs.Judged as spec;
-ghost use Rattle.siri_calls.specs.MatchedCalls.{is_unknown, place_named, placed_call, unplaced};
+ghost use Rattle.siri_calls.specs.MatchedCalls.{is_unknown, position_named, placed_call, unplaced};
 ghost use Rattle.siri_calls.specs.Seen.{call_of, calls_of};
-ghost use Rattle.siri_calls.specs.TripRuns.{run_over};
+ghost use Rattle.journey_model.specs.TripRuns.{run_over};
 ghost use Rattle.siri_json.specs.Shown.{IsFaultOf};
 
 use crate::calls::Call;
-use crate::trip_run::TripRun;
-use journey_model::{Fault, has_stop, match_call};
+use journey_model::{Fault, TripRun, has_stop, match_call};
 use siri_json::ReadFault;
 use std::alloc::Global;
 
-/// A call with its place in the trip, and its own number among all calls, from 0.
+/// A call with its position in the trip, and its own number among all calls, from 0.
 #[derive(Clone, Copy)]
 pub(crate) struct PlacedCall<'a> {
-    /// The place of its stop.
-    pub place: u32,
+    /// The position of its stop.
+    pub position: u32,
     /// The call's number.
     pub number: u64,
     /// The call.
@@ -36,9 +35,9 @@ fn is_unknown(run: &TripRun<'_>, call: &Option<Call<'_>>) -> bool
     }
 }
 
-// The place of a call after the one before, where its stop has one.
-fn place_of(run: &TripRun<'_>, after: Option<u32>, call: &Call<'_>) -> Option<u32>
-    ensures { result ≡ place_named (run_over run.now) after (call_of call.now) }
+// The position of a call after the one before, where its stop has one.
+fn position_of(run: &TripRun<'_>, after: Option<u32>, call: &Call<'_>) -> Option<u32>
+    ensures { result ≡ position_named (run_over run.now) after (call_of call.now) }
 {
     match run.table.find_stop(call.stop) {
         Some(stop) => match_call(&run.dated, after, stop, call.order),
@@ -46,8 +45,8 @@ fn place_of(run: &TripRun<'_>, after: Option<u32>, call: &Call<'_>) -> Option<u3
     }
 }
 
-// The fault of calls of which the one of that number has no place: that of the first call whose stop the trip doesn't
-// have, and else its own.
+// The fault of calls of which the one of that number has no position: that of the first call whose stop the trip
+// doesn't have, and else its own.
 fn fault_of(run: &TripRun<'_>, calls: &[Option<Call<'_>>], late: u64) -> Fault
     ensures { result ≡ unplaced late (spec.stops_named (run_over run.now) (spec.numbered 0 (calls_of calls.now))) }
 {
@@ -75,15 +74,15 @@ pub(crate) fn placed_calls<'a>(
     for (index, call) in calls.iter().enumerate() {
         if let Some(call) = call {
             let number = index as u64;
-            let Some(place) = place_of(run, after, call) else {
+            let Some(position) = position_of(run, after, call) else {
                 return Err(ReadFault::Aside(fault_of(run, calls, number)));
             };
             placed.push(PlacedCall {
-                place,
+                position,
                 number,
                 call,
             })?;
-            after = Some(place);
+            after = Some(position);
         }
     }
     Ok(placed)

@@ -64,57 +64,57 @@ own-update start row Absent = refl
 own-update start row Skipped = refl
 own-update start row (Timed arrival departure) = refl
 
-plan-rise : (start : ℤ) (place : ℕ) (delay : Option ℤ) (stops : List (StopRow × StopReading)) → Rise place (zip (plan_places start place delay stops) (plan_from start delay stops))
-plan-rise start place delay [] = tt
-plan-rise start place delay (stop ∷ stops) =
+plan-rise : (start : ℤ) (position : ℕ) (delay : Option ℤ) (stops : List (StopRow × StopReading)) → Rise position (zip (plan_places start position delay stops) (plan_from start delay stops))
+plan-rise start position delay [] = tt
+plan-rise start position delay (stop ∷ stops) =
     let next = delay_after start delay stop.0 stop.1 in
-    let rest = plan-rise start (place + 1) next stops in
-    elim (needs start delay stop.0 stop.1) as (λ needed. Rise place (zip ((if needed then place ∷ [] else []) ++ plan_places start (place + 1) next stops)
+    let rest = plan-rise start (position + 1) next stops in
+    elim (needs start delay stop.0 stop.1) as (λ needed. Rise position (zip ((if needed then position ∷ [] else []) ++ plan_places start (position + 1) next stops)
     ((if needed then update start stop.0 stop.1 ∷ [] else []) ++ plan_from start next stops))) [
-      | true ↦ (le_refl place, rest)
-      | false ↦ rise-lower place (place + 1) (zip (plan_places start (place + 1) next stops) (plan_from start next stops)) (omega arith) rest
+      | true ↦ (le_refl position, rest)
+      | false ↦ rise-lower position (position + 1) (zip (plan_places start (position + 1) next stops) (plan_from start next stops)) (omega arith) rest
     ]
 
-walk-past : (start : ℤ) (place : ℕ) (delay : Option ℤ) (row : StopRow) (rows : List StopRow) (placed : List (ℕ × StopUpdate)) → Rise (place + 1) placed
-    → walk start place delay (row ∷ rows) placed ≡ running (planned start row) delay ∷ walk start (place + 1) delay rows placed
-walk-past start place delay row rows [] rise = refl
-walk-past start place delay row rows (one ∷ others) rise =
-    let first : place + 1 ≤ one.0 = rise.0 in
-    rw (ne_eqb one.0 place (λ e. absurd (omega arith))) refl
+walk-past : (start : ℤ) (position : ℕ) (delay : Option ℤ) (row : StopRow) (rows : List StopRow) (placed : List (ℕ × StopUpdate)) → Rise (position + 1) placed
+    → walk start position delay (row ∷ rows) placed ≡ running (planned start row) delay ∷ walk start (position + 1) delay rows placed
+walk-past start position delay row rows [] rise = refl
+walk-past start position delay row rows (one ∷ others) rise =
+    let first : position + 1 ≤ one.0 = rise.0 in
+    rw (ne_eqb one.0 position (λ e. absurd (omega arith))) refl
 
-walk-plan : (start : ℤ) (place : ℕ) (delay : Option ℤ) (rows : List StopRow) (readings : List StopReading) → are_near start rows readings ≡ true
-    → walk start place delay rows (zip (plan_places start place delay (zip rows readings)) (plan_from start delay (zip rows readings))) ≡ readings
-walk-plan start place delay [] [] near = refl
-walk-plan start place delay [] (reading ∷ readings) near = absurd (cc)
-walk-plan start place delay (row ∷ rows) [] near = absurd (cc)
-walk-plan start place delay (row ∷ rows) (reading ∷ readings) near =
+walk-plan : (start : ℤ) (position : ℕ) (delay : Option ℤ) (rows : List StopRow) (readings : List StopReading) → are_near start rows readings ≡ true
+    → walk start position delay rows (zip (plan_places start position delay (zip rows readings)) (plan_from start delay (zip rows readings))) ≡ readings
+walk-plan start position delay [] [] near = refl
+walk-plan start position delay [] (reading ∷ readings) near = absurd (cc)
+walk-plan start position delay (row ∷ rows) [] near = absurd (cc)
+walk-plan start position delay (row ∷ rows) (reading ∷ readings) near =
     let parts = and_parts (is_near (planned start row) reading) (are_near start rows readings) near in
     let next = delay_after start delay row reading in
-    let at = plan_places start (place + 1) next (zip rows readings) in
+    let at = plan_places start (position + 1) next (zip rows readings) in
     let others = plan_from start next (zip rows readings) in
-    let rest = walk-plan start (place + 1) next rows readings parts.1 in
-    let Goal : Bool → Type 0 = λ needed. walk start place delay (row ∷ rows)
-    (zip ((if needed then place ∷ [] else []) ++ at) ((if needed then update start row reading ∷ [] else []) ++ others)) ≡ reading ∷ readings in
+    let rest = walk-plan start (position + 1) next rows readings parts.1 in
+    let Goal : Bool → Type 0 = λ needed. walk start position delay (row ∷ rows)
+    (zip ((if needed then position ∷ [] else []) ++ at) ((if needed then update start row reading ∷ [] else []) ++ others)) ≡ reading ∷ readings in
     (elim (needs start delay row reading) as (λ needed. needs start delay row reading ≡ needed → Goal needed) [
-      | true ↦ λ e. rw (eq-eqb place place refl)
-          (ap₂ ◌∷◌ (own-update start row reading) (ap (λ own. walk start (place + 1) (delay_after start delay row own) rows (zip at others)) (own-update start row reading) ∙ rest))
+      | true ↦ λ e. rw (eq-eqb position position refl)
+          (ap₂ ◌∷◌ (own-update start row reading) (ap (λ own. walk start (position + 1) (delay_after start delay row own) rows (zip at others)) (own-update start row reading) ∙ rest))
       | false ↦ λ e.
           let is = unneeded-is start delay row reading e in
           let same = ap (delay_after start delay row) is ∙ delay-running start delay row in
-          walk-past start place delay row rows (zip at others) (plan-rise start (place + 1) next (zip rows readings))
-          ∙ ap₂ ◌∷◌ (sym is) (ap (λ from. walk start (place + 1) from rows (zip at others)) (sym same) ∙ rest)
+          walk-past start position delay row rows (zip at others) (plan-rise start (position + 1) next (zip rows readings))
+          ∙ ap₂ ◌∷◌ (sym is) (ap (λ from. walk start (position + 1) from rows (zip at others)) (sym same) ∙ rest)
     ]) refl
 
 -- ---- where a walk gives the readings, an update stands wherever the shortest list has one
 
-none-there : (place : ℕ) (P : Type 0) → HasPlace place [] → P
-none-there place P h = absurd (cc)
+none-there : (position : ℕ) (P : Type 0) → HasPlace position [] → P
+none-there position P h = absurd (cc)
 
--- a place that the shortest list has is that of a stop that needs it, or of one after
-first-or-after : (place first : ℕ) (needed : Bool) (others : List ℕ) → HasPlace place ((if needed then first ∷ [] else []) ++ others)
-    → ((needed ≡ true) × (first ≡ place)) ⊎ HasPlace place others
-first-or-after place first true others h = ⊎_elim (λ e. inl (refl, eqb-true first place e)) (λ e. inr e) (or_cases (first == place) (list_any (λ other. other == place) others) h)
-first-or-after place first false others h = inr h
+-- a position that the shortest list has is that of a stop that needs it, or of one after
+first-or-after : (position first : ℕ) (needed : Bool) (others : List ℕ) → HasPlace position ((if needed then first ∷ [] else []) ++ others)
+    → ((needed ≡ true) × (first ≡ position)) ⊎ HasPlace position others
+first-or-after position first true others h = ⊎_elim (λ e. inl (refl, eqb-true first position e)) (λ e. inr e) (or_cases (first == position) (list_any (λ other. other == position) others) h)
+first-or-after position first false others h = inr h
 
 -- the cells of equal lists
 head-same : (one other : StopReading) (ones others : List StopReading) → one ∷ ones ≡ other ∷ others → one ≡ other
@@ -123,46 +123,46 @@ head-same one other ones others h = cc
 tail-same : (one other : StopReading) (ones others : List StopReading) → one ∷ ones ≡ other ∷ others → ones ≡ others
 tail-same one other ones others h = cc
 
--- a stop that reads as is supplied to it has no place
-after-place : (start : ℤ) (place first : ℕ) (delay : Option ℤ) (row : StopRow) (reading : StopReading) (stops : List (StopRow × StopReading))
-    → running (planned start row) delay ≡ reading → HasPlace place (plan_places start first delay ((row, reading) ∷ stops)) → HasPlace place (plan_places start (first + 1) delay stops)
-after-place start place first delay row reading stops is h =
+-- a stop that reads as is supplied to it has no position
+after-position : (start : ℤ) (position first : ℕ) (delay : Option ℤ) (row : StopRow) (reading : StopReading) (stops : List (StopRow × StopReading))
+    → running (planned start row) delay ≡ reading → HasPlace position (plan_places start first delay ((row, reading) ∷ stops)) → HasPlace position (plan_places start (first + 1) delay stops)
+after-position start position first delay row reading stops is h =
     let unneeded = subst (λ (one : StopReading). needs start delay row one ≡ false) is (needs-running start delay row) in
     let same : delay_after start delay row reading ≡ delay = ap (delay_after start delay row) (sym is) ∙ delay-running start delay row in
-    subst₂ (λ (needed : Bool) (next : Option ℤ). HasPlace place ((if needed then first ∷ [] else []) ++ plan_places start (first + 1) next stops)) unneeded same h
+    subst₂ (λ (needed : Bool) (next : Option ℤ). HasPlace position ((if needed then first ∷ [] else []) ++ plan_places start (first + 1) next stops)) unneeded same h
 
 walk-least : (start : ℤ) (first : ℕ) (delay : Option ℤ) (rows : List StopRow) (readings : List StopReading) (placed : List (ℕ × StopUpdate))
-    → walk start first delay rows placed ≡ readings → (place : ℕ) → HasPlace place (plan_places start first delay (zip rows readings))
-    → list_any (λ (one : ℕ × StopUpdate). one.0 == place) placed ≡ true
-walk-least start first delay [] readings placed read place h = none-there place _ h
-walk-least start first delay (row ∷ rows) [] placed read place h = none-there place _ h
-walk-least start first delay (row ∷ rows) (reading ∷ readings) [] read place h =
-    walk-least start (first + 1) delay rows readings [] (tail-same _ _ _ _ read) place
-    (after-place start place first delay row reading (zip rows readings) (head-same _ _ _ _ read) h)
-walk-least start first delay (row ∷ rows) (reading ∷ readings) (one ∷ others) read place h =
+    → walk start first delay rows placed ≡ readings → (position : ℕ) → HasPlace position (plan_places start first delay (zip rows readings))
+    → list_any (λ (one : ℕ × StopUpdate). one.0 == position) placed ≡ true
+walk-least start first delay [] readings placed read position h = none-there position _ h
+walk-least start first delay (row ∷ rows) [] placed read position h = none-there position _ h
+walk-least start first delay (row ∷ rows) (reading ∷ readings) [] read position h =
+    walk-least start (first + 1) delay rows readings [] (tail-same _ _ _ _ read) position
+    (after-position start position first delay row reading (zip rows readings) (head-same _ _ _ _ read) h)
+walk-least start first delay (row ∷ rows) (reading ∷ readings) (one ∷ others) read position h =
     let there = own (planned start row) one.1 in
     let supplied = running (planned start row) delay in
     let Walked : Bool → Type 0 = λ at. (if at then there ∷ walk start (first + 1) (delay_after start delay row there) rows others
     else supplied ∷ walk start (first + 1) delay rows (one ∷ others)) ≡ reading ∷ readings in
-    (elim (one.0 == first) as (λ at. (one.0 == first) ≡ at → Walked at → list_any (λ (other : ℕ × StopUpdate). other.0 == place) (one ∷ others) ≡ true) [
+    (elim (one.0 == first) as (λ at. (one.0 == first) ≡ at → Walked at → list_any (λ (other : ℕ × StopUpdate). other.0 == position) (one ∷ others) ≡ true) [
       | true ↦ λ e walked.
           let is = head-same there reading _ readings walked in
           let rest = ap (λ own. walk start (first + 1) (delay_after start delay row own) rows others) (sym is) ∙ tail-same there reading _ readings walked in
           ⊎_elim
-          (λ here. or_left (one.0 == place) _ (eq-eqb one.0 place (eqb-true one.0 first e ∙ here.1)))
-          (λ after. or_right (one.0 == place) _ (walk-least start (first + 1) (delay_after start delay row reading) rows readings others rest place after))
-          (first-or-after place first (needs start delay row reading) (plan_places start (first + 1) (delay_after start delay row reading) (zip rows readings)) h)
+          (λ here. or_left (one.0 == position) _ (eq-eqb one.0 position (eqb-true one.0 first e ∙ here.1)))
+          (λ after. or_right (one.0 == position) _ (walk-least start (first + 1) (delay_after start delay row reading) rows readings others rest position after))
+          (first-or-after position first (needs start delay row reading) (plan_places start (first + 1) (delay_after start delay row reading) (zip rows readings)) h)
       | false ↦ λ e walked.
-          walk-least start (first + 1) delay rows readings (one ∷ others) (tail-same supplied reading _ readings walked) place
-          (after-place start place first delay row reading (zip rows readings) (head-same supplied reading _ readings walked) h)
+          walk-least start (first + 1) delay rows readings (one ∷ others) (tail-same supplied reading _ readings walked) position
+          (after-position start position first delay row reading (zip rows readings) (head-same supplied reading _ readings walked) h)
     ]) refl read
 
-placed-has : (place : ℕ) (at : List ℕ) (updates : List StopUpdate) → list_any (λ (one : ℕ × StopUpdate). one.0 == place) (zip at updates) ≡ true → HasPlace place at
-placed-has place [] updates h = absurd (cc)
-placed-has place (first ∷ at) [] h = absurd (cc)
-placed-has place (first ∷ at) (one ∷ updates) h =
-    ⊎_elim (λ e. or_left (first == place) _ e) (λ e. or_right (first == place) _ (placed-has place at updates e))
-    (or_cases (first == place) (list_any (λ (other : ℕ × StopUpdate). other.0 == place) (zip at updates)) h)
+placed-has : (position : ℕ) (at : List ℕ) (updates : List StopUpdate) → list_any (λ (one : ℕ × StopUpdate). one.0 == position) (zip at updates) ≡ true → HasPlace position at
+placed-has position [] updates h = absurd (cc)
+placed-has position (first ∷ at) [] h = absurd (cc)
+placed-has position (first ∷ at) (one ∷ updates) h =
+    ⊎_elim (λ e. or_left (first == position) _ e) (λ e. or_right (first == position) _ (placed-has position at updates e))
+    (or_cases (first == position) (list_any (λ (other : ℕ × StopUpdate). other.0 == position) (zip at updates)) h)
 
 -- ---- the laws
 
@@ -193,12 +193,12 @@ shortest-says run (Stops readings) rising fits =
 pub shortest-least : (run : Run) (reading : JourneyReading) → are_rising run.stops ≡ true → fits_trip run.start run.stops reading ≡ true
     → IsLeastOf run (shortest run.start run.stops reading) reading
 shortest-least run Cancelled rising fits = tt
-shortest-least run (Stops readings) rising fits = λ mine others theirs place has.
+shortest-least run (Stops readings) rising fits = λ mine others theirs position has.
     let is : mine.at ≡ plan_places run.start 0 None (zip run.stops readings) = ok-same _ _ (sym mine.placed ∙ shortest-places run readings rising fits) in
     let rise = places-rise run 0 None others theirs.at theirs.placed in
-    placed-has place theirs.at others
-    (walk-least run.start 0 None run.stops readings (zip theirs.at others) (sym (prop-walk run (zip theirs.at others) rise) ∙ theirs.read) place
-    (subst (HasPlace place) is has))
+    placed-has position theirs.at others
+    (walk-least run.start 0 None run.stops readings (zip theirs.at others) (sym (prop-walk run (zip theirs.at others) rise) ∙ theirs.read) position
+    (subst (HasPlace position) is has))
   where
     ok-same : (one other : List ℕ) → ◌≡◌ {A = Result (List ℕ) Fault} (Ok one) (Ok other) → one ≡ other
     ok-same one other h = cc

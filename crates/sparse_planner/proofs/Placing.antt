@@ -8,11 +8,11 @@ use Rattle.timetable.specs.Stops.{are_rising}
 use Rattle.timetable.specs.declared.stop_row.StopRow.{StopRow}
 use Rattle.journey_model.proofs.Suppliers.{Rise}
 use Rattle.gw_base.specs.Chains.{unless_fault, ◌>>=◌}
-use Rattle.journey_model.specs.Matching.{agrees, first_place, has_sequence, in_order, is_of_stop, place_after, place_by_sequence, place_by_stop, stands_at, update_place}
+use Rattle.journey_model.specs.Matching.{agrees, first_position, has_sequence, in_order, is_of_stop, position_after, position_by_sequence, position_by_stop, stands_at, update_position}
 use Rattle.journey_model.specs.Readings.{are_near, is_near}
 use Rattle.journey_model.specs.Runs.{Run, planned_at}
 use Rattle.journey_model.specs.Times.{delay_fault, is_delay}
-use Rattle.journey_model.specs.Updates.{place_of, is_read, named_stop, place_timed, places_from, times_fault}
+use Rattle.journey_model.specs.Updates.{position_of, is_read, named_stop, position_timed, places_from, times_fault}
 use Rattle.journey_model.specs.declared.fault.Fault.{Fault}
 use Rattle.journey_model.specs.declared.fault.Fault.TheVariants.{OtherRelation}
 use Rattle.journey_model.specs.declared.matching.MatchFault.{MatchFault}
@@ -25,13 +25,13 @@ use Rattle.sparse_planner.specs.Shortest.{update}
 use Rattle.sparse_planner.proofs.States.{delay_after, needs, plan_from}
 use Rattle.sparse_planner.proofs.Walks.{planned-here, stop-here, stops-more, length-more}
 
--- the places of the updates of stops from a place on, after others that supply this delay
+-- the places of the updates of stops from a position on, after others that supply this delay
 abbrev pub plan_places : ℤ → ℕ → Option ℤ → List (StopRow × StopReading) → List ℕ
-plan_places start place delay [] = []
-plan_places start place delay (stop ∷ stops) =
-    (if needs start delay stop.0 stop.1 then place ∷ [] else []) ++ plan_places start (place + 1) (delay_after start delay stop.0 stop.1) stops
+plan_places start position delay [] = []
+plan_places start position delay (stop ∷ stops) =
+    (if needs start delay stop.0 stop.1 then position ∷ [] else []) ++ plan_places start (position + 1) (delay_after start delay stop.0 stop.1) stops
 
--- ---- the stop of a sequence is found at its own place
+-- ---- the stop of a sequence is found at its own position
 
 all-at : (test : StopRow → Bool) (front rows : List StopRow) (row : StopRow) → list_all test (front ++ row ∷ rows) ≡ true → test row ≡ true
 all-at test [] rows row h = (and_parts (test row) (list_all test rows) h).0
@@ -56,11 +56,11 @@ position-here front rows row h =
 stands-here : (front rows : List StopRow) (row : StopRow) → stands_at (agrees Missing) (length front) (front ++ row ∷ rows) ≡ true
 stands-here front rows row = rw (stop-here front rows row) refl
 
-found-here : (after : Option ℕ) (front rows : List StopRow) (row : StopRow) → are_rising (front ++ row ∷ rows) ≡ true → place_after after ≤ length front
-    → update_place (front ++ row ∷ rows) after (Some row.sequence) Missing ≡ Ok (length front)
+found-here : (after : Option ℕ) (front rows : List StopRow) (row : StopRow) → are_rising (front ++ row ∷ rows) ≡ true → position_after after ≤ length front
+    → update_position (front ++ row ∷ rows) after (Some row.sequence) Missing ≡ Ok (length front)
 found-here after front rows row rising le =
-    ap (place_by_sequence (front ++ row ∷ rows) (place_after after) Missing) (position-here front rows row rising)
-    ∙ rw (stands-here front rows row, le-leb (place_after after) (length front) le) refl
+    ap (position_by_sequence (front ++ row ∷ rows) (position_after after) Missing) (position-here front rows row rising)
+    ∙ rw (stands-here front rows row, le-leb (position_after after) (length front) le) refl
 
 -- ---- the updates of the shortest list have no fault
 
@@ -70,114 +70,114 @@ no-fault number times arrival departure near =
     let parts = and_parts (is_delay (arrival -ℤ times.0)) (is_delay (departure -ℤ times.1)) near in
     rw (parts.0, parts.1) refl
 
-place-update : (run : Run) (number : ℕ) (after : Option ℕ) (front rows : List StopRow) (row : StopRow) (reading : StopReading)
-    → run.stops ≡ front ++ row ∷ rows → are_rising (front ++ row ∷ rows) ≡ true → place_after after ≤ length front
+position-update : (run : Run) (number : ℕ) (after : Option ℕ) (front rows : List StopRow) (row : StopRow) (reading : StopReading)
+    → run.stops ≡ front ++ row ∷ rows → are_rising (front ++ row ∷ rows) ≡ true → position_after after ≤ length front
     → is_near (planned run.start row) reading ≡ true
-    → place_of run number after (update run.start row reading) ≡ Ok (length front)
-place-update run number after front rows row Absent stops rising le near =
-    ap (place_timed run number (update run.start row Absent)) (ap (λ at. update_place at after (Some row.sequence) Missing) stops ∙ found-here after front rows row rising le)
-place-update run number after front rows row Skipped stops rising le near =
-    ap (place_timed run number (update run.start row Skipped)) (ap (λ at. update_place at after (Some row.sequence) Missing) stops ∙ found-here after front rows row rising le)
-place-update run number after front rows row (Timed arrival departure) stops rising le near =
+    → position_of run number after (update run.start row reading) ≡ Ok (length front)
+position-update run number after front rows row Absent stops rising le near =
+    ap (position_timed run number (update run.start row Absent)) (ap (λ at. update_position at after (Some row.sequence) Missing) stops ∙ found-here after front rows row rising le)
+position-update run number after front rows row Skipped stops rising le near =
+    ap (position_timed run number (update run.start row Skipped)) (ap (λ at. update_position at after (Some row.sequence) Missing) stops ∙ found-here after front rows row rising le)
+position-update run number after front rows row (Timed arrival departure) stops rising le near =
     let near_there = subst (λ (times : ℤ × ℤ). is_near times (Timed arrival departure) ≡ true) (sym (planned-here run front rows row stops)) near in
-    ap (place_timed run number (update run.start row (Timed arrival departure)))
-    (ap (λ at. update_place at after (Some row.sequence) Missing) stops ∙ found-here after front rows row rising le)
+    ap (position_timed run number (update run.start row (Timed arrival departure)))
+    (ap (λ at. update_position at after (Some row.sequence) Missing) stops ∙ found-here after front rows row rising le)
     ∙ ap (λ fault. unless_fault fault (length front)) (no-fault number (planned_at run (length front)) arrival departure near_there)
 
-places-cons : (run : Run) (number : ℕ) (after : Option ℕ) (one : StopUpdate) (others : List StopUpdate) (place : ℕ) (at : List ℕ)
-    → place_of run number after one ≡ Ok place → places_from run (number + 1) (Some place) others ≡ Ok at
-    → places_from run number after (one ∷ others) ≡ Ok (place ∷ at)
-places-cons run number after one others place at e f = rw (e, f) refl
+places-cons : (run : Run) (number : ℕ) (after : Option ℕ) (one : StopUpdate) (others : List StopUpdate) (position : ℕ) (at : List ℕ)
+    → position_of run number after one ≡ Ok position → places_from run (number + 1) (Some position) others ≡ Ok at
+    → places_from run number after (one ∷ others) ≡ Ok (position ∷ at)
+places-cons run number after one others position at e f = rw (e, f) refl
 
-pub places-plan : (run : Run) (front rows : List StopRow) (readings : List StopReading) (place number : ℕ) (after : Option ℕ) (delay : Option ℤ)
-    → run.stops ≡ front ++ rows → are_rising run.stops ≡ true → length front ≡ place → place_after after ≤ place
+pub places-plan : (run : Run) (front rows : List StopRow) (readings : List StopReading) (position number : ℕ) (after : Option ℕ) (delay : Option ℤ)
+    → run.stops ≡ front ++ rows → are_rising run.stops ≡ true → length front ≡ position → position_after after ≤ position
     → are_near run.start rows readings ≡ true
-    → places_from run number after (plan_from run.start delay (zip rows readings)) ≡ Ok (plan_places run.start place delay (zip rows readings))
-places-plan run front [] readings place number after delay stops rising long le near = refl
-places-plan run front (row ∷ rows) [] place number after delay stops rising long le near = refl
-places-plan run front (row ∷ rows) (reading ∷ readings) place number after delay stops rising long le near =
+    → places_from run number after (plan_from run.start delay (zip rows readings)) ≡ Ok (plan_places run.start position delay (zip rows readings))
+places-plan run front [] readings position number after delay stops rising long le near = refl
+places-plan run front (row ∷ rows) [] position number after delay stops rising long le near = refl
+places-plan run front (row ∷ rows) (reading ∷ readings) position number after delay stops rising long le near =
     let parts = and_parts (is_near (planned run.start row) reading) (are_near run.start rows readings) near in
     let rises = subst (λ (at : List StopRow). are_rising at ≡ true) stops rising in
     let more = stops-more run.stops front rows row stops in
-    let longer = length-more front row place long in
+    let longer = length-more front row position long in
     let next = delay_after run.start delay row reading in
     elim (needs run.start delay row reading) as (λ needed. places_from run number after ((if needed then update run.start row reading ∷ [] else []) ++ plan_from run.start next (zip rows readings))
-    ≡ Ok ((if needed then place ∷ [] else []) ++ plan_places run.start (place + 1) next (zip rows readings))) [
-      | true ↦ places-cons run number after (update run.start row reading) (plan_from run.start next (zip rows readings)) place (plan_places run.start (place + 1) next (zip rows readings))
-          (place-update run number after front rows row reading stops rises (omega arith) parts.0 ∙ ap Ok long)
-          (places-plan run (front ++ row ∷ []) rows readings (place + 1) (number + 1) (Some place) next more rising longer (le_refl (place + 1)) parts.1)
-      | false ↦ places-plan run (front ++ row ∷ []) rows readings (place + 1) number after next more rising longer (omega arith) parts.1
+    ≡ Ok ((if needed then position ∷ [] else []) ++ plan_places run.start (position + 1) next (zip rows readings))) [
+      | true ↦ places-cons run number after (update run.start row reading) (plan_from run.start next (zip rows readings)) position (plan_places run.start (position + 1) next (zip rows readings))
+          (position-update run number after front rows row reading stops rises (omega arith) parts.0 ∙ ap Ok long)
+          (places-plan run (front ++ row ∷ []) rows readings (position + 1) (number + 1) (Some position) next more rising longer (le_refl (position + 1)) parts.1)
+      | false ↦ places-plan run (front ++ row ∷ []) rows readings (position + 1) number after next more rising longer (omega arith) parts.1
     ]
 
 -- ---- places rise
 
 -- what a test lets through
-if-ok : (test : Bool) (fault : MatchFault) (answer : Result ℕ MatchFault) (place : ℕ) → (if test then answer else Err fault) ≡ Ok place → (test ≡ true) × (answer ≡ Ok place)
-if-ok true fault answer place h = (refl, h)
-if-ok false fault answer place h = absurd (cc)
+if-ok : (test : Bool) (fault : MatchFault) (answer : Result ℕ MatchFault) (position : ℕ) → (if test then answer else Err fault) ≡ Ok position → (test ≡ true) × (answer ≡ Ok position)
+if-ok true fault answer position h = (refl, h)
+if-ok false fault answer position h = absurd (cc)
 
-in_order-after : (from at place : ℕ) → in_order from at ≡ Ok place → from ≤ place
-in_order-after from at place h =
-    let parts = if-ok (nat_le from at) OutOfOrder (Ok at) place h in
-    let same : at ≡ place = cc (parts.1) in
+in_order-after : (from at position : ℕ) → in_order from at ≡ Ok position → from ≤ position
+in_order-after from at position h =
+    let parts = if-ok (nat_le from at) OutOfOrder (Ok at) position h in
+    let same : at ≡ position = cc (parts.1) in
     let le : from ≤ at = leb-true from at parts.0 in
     omega arith
 
-sequence-after : (stops : List StopRow) (from : ℕ) (named : NamedStop) (found : Option ℕ) (place : ℕ) → place_by_sequence stops from named found ≡ Ok place → from ≤ place
-sequence-after stops from named None place h = absurd (cc)
-sequence-after stops from named (Some at) place h = in_order-after from at place (if-ok (stands_at (agrees named) at stops) StopMismatch (in_order from at) place h).1
+sequence-after : (stops : List StopRow) (from : ℕ) (named : NamedStop) (found : Option ℕ) (position : ℕ) → position_by_sequence stops from named found ≡ Ok position → from ≤ position
+sequence-after stops from named None position h = absurd (cc)
+sequence-after stops from named (Some at) position h = in_order-after from at position (if-ok (stands_at (agrees named) at stops) StopMismatch (in_order from at) position h).1
 
-first-after : (from : ℕ) (found : Option ℕ) (place : ℕ) → ok_or (option_map (λ at. at + from) found) OutOfOrder ≡ Ok place → from ≤ place
-first-after from None place h = absurd (cc)
-first-after from (Some at) place h = let same : at + from ≡ place = cc in omega arith
+first-after : (from : ℕ) (found : Option ℕ) (position : ℕ) → ok_or (option_map (λ at. at + from) found) OutOfOrder ≡ Ok position → from ≤ position
+first-after from None position h = absurd (cc)
+first-after from (Some at) position h = let same : at + from ≡ position = cc in omega arith
 
-stop-after : (stops : List StopRow) (from : ℕ) (named : NamedStop) (place : ℕ) → place_by_stop stops from named ≡ Ok place → from ≤ place
-stop-after stops from Missing place h = absurd (cc)
-stop-after stops from Unknown place h = absurd (cc)
-stop-after stops from (Known stop) place h =
-    first-after from (position (is_of_stop stop.0) (drop from stops)) place
-    (if-ok (list_any (is_of_stop stop.0) stops) UnknownStop (ok_or (first_place stop.0 from stops) OutOfOrder) place h).1
+stop-after : (stops : List StopRow) (from : ℕ) (named : NamedStop) (position : ℕ) → position_by_stop stops from named ≡ Ok position → from ≤ position
+stop-after stops from Missing position h = absurd (cc)
+stop-after stops from Unknown position h = absurd (cc)
+stop-after stops from (Known stop) at h =
+    first-after from (position (is_of_stop stop.0) (drop from stops)) at
+    (if-ok (list_any (is_of_stop stop.0) stops) UnknownStop (ok_or (first_position stop.0 from stops) OutOfOrder) at h).1
 
-update-after : (stops : List StopRow) (after sequence : Option ℕ) (named : NamedStop) (place : ℕ) → update_place stops after sequence named ≡ Ok place → place_after after ≤ place
-update-after stops after None named place h = stop-after stops (place_after after) named place h
-update-after stops after (Some sequence) named place h = sequence-after stops (place_after after) named (position (has_sequence sequence) stops) place h
+update-after : (stops : List StopRow) (after sequence : Option ℕ) (named : NamedStop) (position : ℕ) → update_position stops after sequence named ≡ Ok position → position_after after ≤ position
+update-after stops after None named position h = stop-after stops (position_after after) named position h
+update-after stops after (Some sequence) named at h = sequence-after stops (position_after after) named (position (has_sequence sequence) stops) at h
 
--- an update without a fault has the place that was found
-unless-ok : (fault : Option Fault) (at place : ℕ) → unless_fault fault at ≡ Ok place → at ≡ place
-unless-ok None at place h = cc
-unless-ok (Some fault) at place h = absurd (cc)
+-- an update without a fault has the position that was found
+unless-ok : (fault : Option Fault) (at position : ℕ) → unless_fault fault at ≡ Ok position → at ≡ position
+unless-ok None at position h = cc
+unless-ok (Some fault) at position h = absurd (cc)
 
-timed-ok : (run : Run) (number : ℕ) (one : StopUpdate) (found : Result ℕ MatchFault) (place : ℕ) → place_timed run number one found ≡ Ok place → found ≡ Ok place
-timed-ok run number one (Err fault) place h = absurd (cc)
-timed-ok run number one (Ok at) place h = ap Ok (unless-ok (times_fault number (planned_at run at) one) at place h)
+timed-ok : (run : Run) (number : ℕ) (one : StopUpdate) (found : Result ℕ MatchFault) (position : ℕ) → position_timed run number one found ≡ Ok position → found ≡ Ok position
+timed-ok run number one (Err fault) position h = absurd (cc)
+timed-ok run number one (Ok at) position h = ap Ok (unless-ok (times_fault number (planned_at run at) one) at position h)
 
-related-ok : (known : Bool) (fault : Fault) (answer : Result ℕ Fault) (place : ℕ) → (if known then answer else Err fault) ≡ Ok place → answer ≡ Ok place
-related-ok true fault answer place h = h
-related-ok false fault answer place h = absurd (cc)
+related-ok : (known : Bool) (fault : Fault) (answer : Result ℕ Fault) (position : ℕ) → (if known then answer else Err fault) ≡ Ok position → answer ≡ Ok position
+related-ok true fault answer position h = h
+related-ok false fault answer position h = absurd (cc)
 
-place-after : (run : Run) (number : ℕ) (after : Option ℕ) (one : StopUpdate) (place : ℕ) → place_of run number after one ≡ Ok place → place_after after ≤ place
-place-after run number after one place h =
-    let found = update_place run.stops after one.sequence (named_stop run.ids one) in
-    update-after run.stops after one.sequence (named_stop run.ids one) place
-    (timed-ok run number one found place (related-ok (is_read one) (OtherRelation one.relation) (place_timed run number one found) place h))
+position-after : (run : Run) (number : ℕ) (after : Option ℕ) (one : StopUpdate) (position : ℕ) → position_of run number after one ≡ Ok position → position_after after ≤ position
+position-after run number after one position h =
+    let found = update_position run.stops after one.sequence (named_stop run.ids one) in
+    update-after run.stops after one.sequence (named_stop run.ids one) position
+    (timed-ok run number one found position (related-ok (is_read one) (OtherRelation one.relation) (position_timed run number one found) position h))
 
--- the first place and the others
-others-ok : (first : ℕ) (answer : Result (List ℕ) Fault) (place : ℕ) (at : List ℕ)
-    → (answer >>= (λ others. Ok (first ∷ others))) ≡ Ok (place ∷ at) → (first ≡ place) × (answer ≡ Ok at)
-others-ok first (Ok others) place at h = (cc, cc)
-others-ok first (Err fault) place at h = absurd (cc)
+-- the first position and the others
+others-ok : (first : ℕ) (answer : Result (List ℕ) Fault) (position : ℕ) (at : List ℕ)
+    → (answer >>= (λ others. Ok (first ∷ others))) ≡ Ok (position ∷ at) → (first ≡ position) × (answer ≡ Ok at)
+others-ok first (Ok others) position at h = (cc, cc)
+others-ok first (Err fault) position at h = absurd (cc)
 
-cons-ok : (answer : Result ℕ Fault) (rest : ℕ → Result (List ℕ) Fault) (place : ℕ) (at : List ℕ)
-    → (answer >>= (λ first. rest first >>= (λ others. Ok (first ∷ others)))) ≡ Ok (place ∷ at) → (answer ≡ Ok place) × (rest place ≡ Ok at)
-cons-ok (Ok first) rest place at h =
-    let parts = others-ok first (rest first) place at h in
+cons-ok : (answer : Result ℕ Fault) (rest : ℕ → Result (List ℕ) Fault) (position : ℕ) (at : List ℕ)
+    → (answer >>= (λ first. rest first >>= (λ others. Ok (first ∷ others)))) ≡ Ok (position ∷ at) → (answer ≡ Ok position) × (rest position ≡ Ok at)
+cons-ok (Ok first) rest position at h =
+    let parts = others-ok first (rest first) position at h in
     (ap Ok parts.0, ap rest (sym parts.0) ∙ parts.1)
-cons-ok (Err fault) rest place at h = absurd (cc)
+cons-ok (Err fault) rest position at h = absurd (cc)
 
 -- the places of updates without a fault rise
-pub places-rise : (run : Run) (number : ℕ) (after : Option ℕ) (updates : List StopUpdate) (at : List ℕ) → places_from run number after updates ≡ Ok at → Rise (place_after after) (zip at updates)
+pub places-rise : (run : Run) (number : ℕ) (after : Option ℕ) (updates : List StopUpdate) (at : List ℕ) → places_from run number after updates ≡ Ok at → Rise (position_after after) (zip at updates)
 places-rise run number after updates [] h = tt
-places-rise run number after [] (place ∷ at) h = tt
-places-rise run number after (one ∷ others) (place ∷ at) h =
-    let parts = cons-ok (place_of run number after one) (λ first. places_from run (number + 1) (Some first) others) place at h in
-    (place-after run number after one place parts.0, places-rise run (number + 1) (Some place) others at parts.1)
+places-rise run number after [] (position ∷ at) h = tt
+places-rise run number after (one ∷ others) (position ∷ at) h =
+    let parts = cons-ok (position_of run number after one) (λ first. places_from run (number + 1) (Some first) others) position at h in
+    (position-after run number after one position parts.0, places-rise run (number + 1) (Some position) others at parts.1)

@@ -23,75 +23,75 @@ own planned update = if is_skipped update then Skipped else (if is_no_data updat
 
 -- how stops read by the updates at and after them, where the stops before supply this delay
 abbrev pub walk : ℤ → ℕ → Option ℤ → List StopRow → List (ℕ × StopUpdate) → List StopReading
-walk start place delay [] placed = []
-walk start place delay (row ∷ rows) [] = running (planned start row) delay ∷ walk start (place + 1) delay rows []
-walk start place delay (row ∷ rows) (one ∷ others) =
-    if one.0 == place
-    then own (planned start row) one.1 ∷ walk start (place + 1) (delay_after start delay row (own (planned start row) one.1)) rows others
-    else running (planned start row) delay ∷ walk start (place + 1) delay rows (one ∷ others)
+walk start position delay [] placed = []
+walk start position delay (row ∷ rows) [] = running (planned start row) delay ∷ walk start (position + 1) delay rows []
+walk start position delay (row ∷ rows) (one ∷ others) =
+    if one.0 == position
+    then own (planned start row) one.1 ∷ walk start (position + 1) (delay_after start delay row (own (planned start row) one.1)) rows others
+    else running (planned start row) delay ∷ walk start (position + 1) delay rows (one ∷ others)
 
 pub rise-lower : (low high : ℕ) (placed : List (ℕ × StopUpdate)) → low ≤ high → Rise high placed → Rise low placed
 rise-lower low high [] le h = tt
 rise-lower low high (one ∷ others) le h = let first : high ≤ one.0 = h.0 in (omega arith, h.1)
 
--- ---- no update stands before the first place
+-- ---- no update stands before the first position
 
-skips-none : (place from : ℕ) (placed : List (ℕ × StopUpdate)) → place < from → Rise from placed → skips_at place placed ≡ false
-skips-none place from [] lt h = refl
-skips-none place from (one ∷ others) lt h =
+skips-none : (position from : ℕ) (placed : List (ℕ × StopUpdate)) → position < from → Rise from placed → skips_at position placed ≡ false
+skips-none position from [] lt h = refl
+skips-none position from (one ∷ others) lt h =
     let first : from ≤ one.0 = h.0 in
-    rw (ne_eqb one.0 place (λ e. absurd (omega arith))) (skips-none place (one.0 + 1) others (omega arith) h.1)
+    rw (ne_eqb one.0 position (λ e. absurd (omega arith))) (skips-none position (one.0 + 1) others (omega arith) h.1)
 
-supplier-none : (place from : ℕ) (placed : List (ℕ × StopUpdate)) → place < from → Rise from placed → last_supplier place placed ≡ None
-supplier-none place from [] lt h = refl
-supplier-none place from (one ∷ others) lt h =
+supplier-none : (position from : ℕ) (placed : List (ℕ × StopUpdate)) → position < from → Rise from placed → last_supplier position placed ≡ None
+supplier-none position from [] lt h = refl
+supplier-none position from (one ∷ others) lt h =
     let first : from ≤ one.0 = h.0 in
-    rw (supplier-none place (one.0 + 1) others (omega arith) h.1, lt-leb one.0 place (omega arith)) refl
+    rw (supplier-none position (one.0 + 1) others (omega arith) h.1, lt-leb one.0 position (omega arith)) refl
 
 -- ---- the walk is the propagation
 
--- the delay that an update supplies after its place
+-- the delay that an update supplies after its position
 abbrev pub delay_of : Run → Option (ℕ × StopUpdate) → Option ℤ
 delay_of run None = None
 delay_of run (Some one) =
     if is_no_data one.1 then None else option_map (λ (both : ℤ × ℤ). both.1 -ℤ (planned_at run one.0).1) (times (planned_at run one.0) one.1)
 
--- after the place of an update stands what its delay supplies
-supplied-after : (run : Run) (place : ℕ) (found : Option (ℕ × StopUpdate)) → IfSome found (λ one. one.0 < place)
-    → supplied run place found ≡ running (planned_at run place) (delay_of run found)
-supplied-after run place None h = refl
-supplied-after run place (Some one) h =
-    rw (ne_eqb one.0 place (λ e. absurd (omega arith))) (by (is_no_data one.1) (times (planned_at run one.0) one.1))
+-- after the position of an update stands what its delay supplies
+supplied-after : (run : Run) (position : ℕ) (found : Option (ℕ × StopUpdate)) → IfSome found (λ one. one.0 < position)
+    → supplied run position found ≡ running (planned_at run position) (delay_of run found)
+supplied-after run position None h = refl
+supplied-after run position (Some one) h =
+    rw (ne_eqb one.0 position (λ e. absurd (omega arith))) (by (is_no_data one.1) (times (planned_at run one.0) one.1))
   where
     by : (no_data : Bool) (both : Option (ℤ × ℤ))
-        → ◌≡◌ {A = StopReading} (if no_data then Absent else carried (planned_at run place) (planned_at run one.0) both)
-        (running (planned_at run place) (if no_data then None else option_map (λ (both : ℤ × ℤ). both.1 -ℤ (planned_at run one.0).1) both))
+        → ◌≡◌ {A = StopReading} (if no_data then Absent else carried (planned_at run position) (planned_at run one.0) both)
+        (running (planned_at run position) (if no_data then None else option_map (λ (both : ℤ × ℤ). both.1 -ℤ (planned_at run one.0).1) both))
     by true both = refl
     by false None = refl
     by false (Some both) = refl
 
--- what is left of placed updates at a place: what stands there and after is in the rest, and what stands before it supplies
+-- what is left of placed updates at a position: what stands there and after is in the rest, and what stands before it supplies
 -- by the last that isn't SKIPPED
-pub record Left (placed : List (ℕ × StopUpdate)) (place : ℕ) (found : Option (ℕ × StopUpdate)) (rest : List (ℕ × StopUpdate)) : Type 0 where
-  pub skips : (later : ℕ) → place ≤ later → skips_at later placed ≡ skips_at later rest
-  pub supplier_is : (later : ℕ) → place ≤ later → supplier later placed ≡ option_or (last_supplier later rest) found
-  pub before : IfSome found (λ one. one.0 < place)
-  pub rise : Rise place rest
+pub record Left (placed : List (ℕ × StopUpdate)) (position : ℕ) (found : Option (ℕ × StopUpdate)) (rest : List (ℕ × StopUpdate)) : Type 0 where
+  pub skips : (later : ℕ) → position ≤ later → skips_at later placed ≡ skips_at later rest
+  pub supplier_is : (later : ℕ) → position ≤ later → supplier later placed ≡ option_or (last_supplier later rest) found
+  pub before : IfSome found (λ one. one.0 < position)
+  pub rise : Rise position rest
 
 at-first : (placed : List (ℕ × StopUpdate)) → Rise 0 placed → Left placed 0 None placed
 at-first placed h = record { skips = λ later le. refl; supplier_is = λ later le. supplier-last later 0 placed h ∙ sym (or_none (last_supplier later placed)); before = tt; rise = h }
 
--- no update stands at the place
-past : (placed : List (ℕ × StopUpdate)) (place : ℕ) (found : Option (ℕ × StopUpdate)) (rest : List (ℕ × StopUpdate))
-    → Left placed place found rest → Rise (place + 1) rest → Left placed (place + 1) found rest
-past placed place found rest left rise = record {
+-- no update stands at the position
+past : (placed : List (ℕ × StopUpdate)) (position : ℕ) (found : Option (ℕ × StopUpdate)) (rest : List (ℕ × StopUpdate))
+    → Left placed position found rest → Rise (position + 1) rest → Left placed (position + 1) found rest
+past placed position found rest left rise = record {
   skips = λ later le. left.skips later (omega arith);
   supplier_is = λ later le. left.supplier_is later (omega arith);
   before = IfSome_then found left.before (λ one lt. omega arith);
   rise = rise;
 }
 
--- the first of the rest stands at the place
+-- the first of the rest stands at the position
 passed : Option (ℕ × StopUpdate) → ℕ × StopUpdate → Option (ℕ × StopUpdate)
 passed found one = if is_skipped one.1 then found else Some one
 
@@ -109,65 +109,65 @@ supplier-passed later one others found le =
     by true = refl
     by false = refl
 
-passed-before : (place : ℕ) (found : Option (ℕ × StopUpdate)) (one : ℕ × StopUpdate) → one.0 ≡ place → IfSome found (λ earlier. earlier.0 < place)
-    → IfSome (passed found one) (λ earlier. earlier.0 < place + 1)
+passed-before : (position : ℕ) (found : Option (ℕ × StopUpdate)) (one : ℕ × StopUpdate) → one.0 ≡ position → IfSome found (λ earlier. earlier.0 < position)
+    → IfSome (passed found one) (λ earlier. earlier.0 < position + 1)
 unfolding passed
-passed-before place found one e h = by (is_skipped one.1)
+passed-before position found one e h = by (is_skipped one.1)
   where
-    by : (skipped : Bool) → IfSome (if skipped then found else Some one) (λ earlier. earlier.0 < place + 1)
+    by : (skipped : Bool) → IfSome (if skipped then found else Some one) (λ earlier. earlier.0 < position + 1)
     by true = IfSome_then found h (λ earlier lt. omega arith)
     by false = omega arith
 
-at-place : (placed : List (ℕ × StopUpdate)) (place : ℕ) (found : Option (ℕ × StopUpdate)) (one : ℕ × StopUpdate) (others : List (ℕ × StopUpdate))
-    → Left placed place found (one ∷ others) → one.0 ≡ place → Left placed (place + 1) (passed found one) others
-at-place placed place found one others left e = record {
+at-position : (placed : List (ℕ × StopUpdate)) (position : ℕ) (found : Option (ℕ × StopUpdate)) (one : ℕ × StopUpdate) (others : List (ℕ × StopUpdate))
+    → Left placed position found (one ∷ others) → one.0 ≡ position → Left placed (position + 1) (passed found one) others
+at-position placed position found one others left e = record {
   skips = λ later le. left.skips later (omega arith) ∙ skips-passed later one others (omega arith);
   supplier_is = λ later le. left.supplier_is later (omega arith) ∙ supplier-passed later one others found (omega arith);
-  before = passed-before place found one e left.before;
+  before = passed-before position found one e left.before;
   rise = subst (λ (n : ℕ). Rise (n + 1) others) e left.rise.1;
 }
 
-prop-is : (run : Run) (placed : List (ℕ × StopUpdate)) (place : ℕ) (skips : Bool) (found : Option (ℕ × StopUpdate))
-    → skips_at place placed ≡ skips → supplier place placed ≡ found → prop run placed place ≡ (if skips then Skipped else supplied run place found)
-prop-is run placed place skips found e f = ap₂ (λ (s : Bool) (g : Option (ℕ × StopUpdate)). if s then Skipped else supplied run place g) e f
+prop-is : (run : Run) (placed : List (ℕ × StopUpdate)) (position : ℕ) (skips : Bool) (found : Option (ℕ × StopUpdate))
+    → skips_at position placed ≡ skips → supplier position placed ≡ found → prop run placed position ≡ (if skips then Skipped else supplied run position found)
+prop-is run placed position skips found e f = ap₂ (λ (s : Bool) (g : Option (ℕ × StopUpdate)). if s then Skipped else supplied run position g) e f
 
-prop-past : (run : Run) (placed : List (ℕ × StopUpdate)) (place : ℕ) (found : Option (ℕ × StopUpdate)) (rest : List (ℕ × StopUpdate))
-    → Left placed place found rest → Rise (place + 1) rest → prop run placed place ≡ running (planned_at run place) (delay_of run found)
-prop-past run placed place found rest left rise =
-    prop-is run placed place false found
-    (left.skips place (omega arith) ∙ skips-none place (place + 1) rest (omega arith) rise)
-    (left.supplier_is place (omega arith) ∙ ap (λ one. option_or one found) (supplier-none place (place + 1) rest (omega arith) rise))
-    ∙ supplied-after run place found left.before
+prop-past : (run : Run) (placed : List (ℕ × StopUpdate)) (position : ℕ) (found : Option (ℕ × StopUpdate)) (rest : List (ℕ × StopUpdate))
+    → Left placed position found rest → Rise (position + 1) rest → prop run placed position ≡ running (planned_at run position) (delay_of run found)
+prop-past run placed position found rest left rise =
+    prop-is run placed position false found
+    (left.skips position (omega arith) ∙ skips-none position (position + 1) rest (omega arith) rise)
+    (left.supplier_is position (omega arith) ∙ ap (λ one. option_or one found) (supplier-none position (position + 1) rest (omega arith) rise))
+    ∙ supplied-after run position found left.before
 
--- an update that stands at the place
-skips-at : (place : ℕ) (one : ℕ × StopUpdate) (others : List (ℕ × StopUpdate)) → one.0 ≡ place → Rise (place + 1) others → skips_at place (one ∷ others) ≡ is_skipped one.1
-skips-at place one others e rise = rw (eq-eqb one.0 place e, skips-none place (place + 1) others (omega arith) rise) (or-false (is_skipped one.1))
+-- an update that stands at the position
+skips-at : (position : ℕ) (one : ℕ × StopUpdate) (others : List (ℕ × StopUpdate)) → one.0 ≡ position → Rise (position + 1) others → skips_at position (one ∷ others) ≡ is_skipped one.1
+skips-at position one others e rise = rw (eq-eqb one.0 position e, skips-none position (position + 1) others (omega arith) rise) (or-false (is_skipped one.1))
 
-supplier-at : (place : ℕ) (found : Option (ℕ × StopUpdate)) (one : ℕ × StopUpdate) (others : List (ℕ × StopUpdate)) → one.0 ≡ place → Rise (place + 1) others
-    → option_or (last_supplier place (one ∷ others)) found ≡ passed found one
-supplier-at place found one others e rise =
-    supplier-passed place one others found (omega arith)
-    ∙ ap (λ after. option_or after (passed found one)) (supplier-none place (place + 1) others (omega arith) rise)
+supplier-at : (position : ℕ) (found : Option (ℕ × StopUpdate)) (one : ℕ × StopUpdate) (others : List (ℕ × StopUpdate)) → one.0 ≡ position → Rise (position + 1) others
+    → option_or (last_supplier position (one ∷ others)) found ≡ passed found one
+supplier-at position found one others e rise =
+    supplier-passed position one others found (omega arith)
+    ∙ ap (λ after. option_or after (passed found one)) (supplier-none position (position + 1) others (omega arith) rise)
 
 -- what it supplies there is its own reading
-own-at : (run : Run) (place : ℕ) (found : Option (ℕ × StopUpdate)) (one : ℕ × StopUpdate) → one.0 ≡ place
-    → (if is_skipped one.1 then Skipped else supplied run place (passed found one)) ≡ own (planned_at run place) one.1
+own-at : (run : Run) (position : ℕ) (found : Option (ℕ × StopUpdate)) (one : ℕ × StopUpdate) → one.0 ≡ position
+    → (if is_skipped one.1 then Skipped else supplied run position (passed found one)) ≡ own (planned_at run position) one.1
 unfolding passed
-own-at run place found one e = by (is_skipped one.1)
+own-at run position found one e = by (is_skipped one.1)
   where
-    by : (skipped : Bool) → (if skipped then Skipped else supplied run place (if skipped then found else Some one))
-        ≡ (if skipped then Skipped else (if is_no_data one.1 then Absent else timed (times (planned_at run place) one.1)))
+    by : (skipped : Bool) → (if skipped then Skipped else supplied run position (if skipped then found else Some one))
+        ≡ (if skipped then Skipped else (if is_no_data one.1 then Absent else timed (times (planned_at run position) one.1)))
     by true = refl
-    by false = rw (eq-eqb one.0 place e) refl
+    by false = rw (eq-eqb one.0 position e) refl
 
-prop-at : (run : Run) (placed : List (ℕ × StopUpdate)) (place : ℕ) (found : Option (ℕ × StopUpdate)) (one : ℕ × StopUpdate) (others : List (ℕ × StopUpdate))
-    → Left placed place found (one ∷ others) → one.0 ≡ place → prop run placed place ≡ own (planned_at run place) one.1
-prop-at run placed place found one others left e =
+prop-at : (run : Run) (placed : List (ℕ × StopUpdate)) (position : ℕ) (found : Option (ℕ × StopUpdate)) (one : ℕ × StopUpdate) (others : List (ℕ × StopUpdate))
+    → Left placed position found (one ∷ others) → one.0 ≡ position → prop run placed position ≡ own (planned_at run position) one.1
+prop-at run placed position found one others left e =
     let rise = subst (λ (n : ℕ). Rise (n + 1) others) e left.rise.1 in
-    prop-is run placed place (is_skipped one.1) (passed found one)
-    (left.skips place (omega arith) ∙ skips-at place one others e rise)
-    (left.supplier_is place (omega arith) ∙ supplier-at place found one others e rise)
-    ∙ own-at run place found one e
+    prop-is run placed position (is_skipped one.1) (passed found one)
+    (left.skips position (omega arith) ∙ skips-at position one others e rise)
+    (left.supplier_is position (omega arith) ∙ supplier-at position found one others e rise)
+    ∙ own-at run position found one e
 
 -- the delay that an update supplies is that of its stop's reading
 delay-own : (run : Run) (row : StopRow) (found : Option (ℕ × StopUpdate)) (one : ℕ × StopUpdate) → planned_at run one.0 ≡ planned run.start row
@@ -199,42 +199,42 @@ planned-here run front rows row e =
 pub stops-more : (stops front rows : List StopRow) (row : StopRow) → stops ≡ front ++ row ∷ rows → stops ≡ (front ++ row ∷ []) ++ rows
 stops-more stops front rows row e = e ∙ sym (append_assoc front (row ∷ []) rows)
 
-pub length-more : (front : List StopRow) (row : StopRow) (place : ℕ) → length front ≡ place → length (front ++ row ∷ []) ≡ place + 1
-length-more front row place e = omega (arith, length-append front (row ∷ []))
+pub length-more : (front : List StopRow) (row : StopRow) (position : ℕ) → length front ≡ position → length (front ++ row ∷ []) ≡ position + 1
+length-more front row position e = omega (arith, length-append front (row ∷ []))
 
-walk-is : (run : Run) (placed : List (ℕ × StopUpdate)) (front rows : List StopRow) (place : ℕ) (found : Option (ℕ × StopUpdate)) (rest : List (ℕ × StopUpdate))
-    → run.stops ≡ front ++ rows → length front ≡ place → Left placed place found rest
-    → map (prop run placed) (range_with_len place (length rows)) ≡ walk run.start place (delay_of run found) rows rest
-walk-is run placed front [] place found rest stops long left = refl
-walk-is run placed front (row ∷ rows) place found [] stops long left =
+walk-is : (run : Run) (placed : List (ℕ × StopUpdate)) (front rows : List StopRow) (position : ℕ) (found : Option (ℕ × StopUpdate)) (rest : List (ℕ × StopUpdate))
+    → run.stops ≡ front ++ rows → length front ≡ position → Left placed position found rest
+    → map (prop run placed) (range_with_len position (length rows)) ≡ walk run.start position (delay_of run found) rows rest
+walk-is run placed front [] position found rest stops long left = refl
+walk-is run placed front (row ∷ rows) position found [] stops long left =
     let here = subst (λ (n : ℕ). planned_at run n ≡ planned run.start row) long (planned-here run front rows row stops) in
     ap₂ ◌∷◌
-    (prop-past run placed place found [] left tt ∙ ap (λ both. running both (delay_of run found)) here)
-    (walk-is run placed (front ++ row ∷ []) rows (place + 1) found [] (stops-more run.stops front rows row stops) (length-more front row place long) (past placed place found [] left tt))
-walk-is run placed front (row ∷ rows) place found (one ∷ others) stops long left =
+    (prop-past run placed position found [] left tt ∙ ap (λ both. running both (delay_of run found)) here)
+    (walk-is run placed (front ++ row ∷ []) rows (position + 1) found [] (stops-more run.stops front rows row stops) (length-more front row position long) (past placed position found [] left tt))
+walk-is run placed front (row ∷ rows) position found (one ∷ others) stops long left =
     let here = subst (λ (n : ℕ). planned_at run n ≡ planned run.start row) long (planned-here run front rows row stops) in
     let more = stops-more run.stops front rows row stops in
-    let longer = length-more front row place long in
-    let Goal : Bool → Type 0 = λ at. map (prop run placed) (range_with_len place (length (row ∷ rows)))
+    let longer = length-more front row position long in
+    let Goal : Bool → Type 0 = λ at. map (prop run placed) (range_with_len position (length (row ∷ rows)))
     ≡ (if at
-    then own (planned run.start row) one.1 ∷ walk run.start (place + 1) (delay_after run.start (delay_of run found) row (own (planned run.start row) one.1)) rows others
-    else running (planned run.start row) (delay_of run found) ∷ walk run.start (place + 1) (delay_of run found) rows (one ∷ others)) in
-    (elim (one.0 == place) as (λ at. (one.0 == place) ≡ at → Goal at) [
+    then own (planned run.start row) one.1 ∷ walk run.start (position + 1) (delay_after run.start (delay_of run found) row (own (planned run.start row) one.1)) rows others
+    else running (planned run.start row) (delay_of run found) ∷ walk run.start (position + 1) (delay_of run found) rows (one ∷ others)) in
+    (elim (one.0 == position) as (λ at. (one.0 == position) ≡ at → Goal at) [
       | true ↦ λ e.
-          let is = eqb-true one.0 place e in
+          let is = eqb-true one.0 position e in
           let planned_one = subst (λ (n : ℕ). planned_at run n ≡ planned run.start row) (sym is) here in
           ap₂ ◌∷◌
-          (prop-at run placed place found one others left is ∙ ap (λ both. own both one.1) here)
-          (walk-is run placed (front ++ row ∷ []) rows (place + 1) (passed found one) others more longer (at-place placed place found one others left is)
-          ∙ ap (λ delay. walk run.start (place + 1) delay rows others) (delay-own run row found one planned_one))
+          (prop-at run placed position found one others left is ∙ ap (λ both. own both one.1) here)
+          (walk-is run placed (front ++ row ∷ []) rows (position + 1) (passed found one) others more longer (at-position placed position found one others left is)
+          ∙ ap (λ delay. walk run.start (position + 1) delay rows others) (delay-own run row found one planned_one))
       | false ↦ λ e.
-          let first : place ≤ one.0 = left.rise.0 in
-          let other = eqb-false one.0 place e in
-          let after : place + 1 ≤ one.0 = omega arith in
-          let rise : Rise (place + 1) (one ∷ others) = (after, left.rise.1) in
+          let first : position ≤ one.0 = left.rise.0 in
+          let other = eqb-false one.0 position e in
+          let after : position + 1 ≤ one.0 = omega arith in
+          let rise : Rise (position + 1) (one ∷ others) = (after, left.rise.1) in
           ap₂ ◌∷◌
-          (prop-past run placed place found (one ∷ others) left rise ∙ ap (λ both. running both (delay_of run found)) here)
-          (walk-is run placed (front ++ row ∷ []) rows (place + 1) found (one ∷ others) more longer (past placed place found (one ∷ others) left rise))
+          (prop-past run placed position found (one ∷ others) left rise ∙ ap (λ both. running both (delay_of run found)) here)
+          (walk-is run placed (front ++ row ∷ []) rows (position + 1) found (one ∷ others) more longer (past placed position found (one ∷ others) left rise))
     ]) refl
 
 -- what placed updates say of all stops of a trip

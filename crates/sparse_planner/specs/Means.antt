@@ -20,16 +20,16 @@ abbrev pub Says : Run → List StopUpdate → JourneyReading → Type 0
 Says run updates Cancelled = ⊤
 Says run updates (Stops readings) = SaysStops run updates readings
 
--- there is a place among places
+-- there is a position among places
 abbrev pub HasPlace : ℕ → List ℕ → Type 0
-HasPlace place places = IsTrue (list_any (λ other. other == place) places)
+HasPlace position places = IsTrue (list_any (λ other. other == position) places)
 
--- every list of updates that says the same has an update at each place of these
+-- every list of updates that says the same has an update at each position of these
 abbrev pub IsLeast : Run → List StopUpdate → List StopReading → Type 0
 IsLeast run updates readings =
     (mine : SaysStops run updates readings) (others : List StopUpdate) (theirs : SaysStops run others readings)
-    (place : ℕ)
-    → HasPlace place mine.at → HasPlace place theirs.at
+    (position : ℕ)
+    → HasPlace position mine.at → HasPlace position theirs.at
 
 abbrev pub IsLeastOf : Run → List StopUpdate → JourneyReading → Type 0
 IsLeastOf run updates Cancelled = ⊤

@@ -12,7 +12,7 @@ use Rattle.timetable.specs.Planned.{planned}
 use Rattle.timetable.specs.Stops.{is_timed}
 use Rattle.timetable.specs.declared.stop_row.StopRow.{StopRow}
 use Rattle.journey_model.specs.Ids.{id_of}
-use Rattle.journey_model.specs.Matching.{call_place, fits_order, is_of_stop, place_after, stands_at}
+use Rattle.journey_model.specs.Matching.{call_position, fits_order, is_of_stop, position_after, stands_at}
 use Rattle.journey_model.specs.Readings.{are_near, is_near}
 use Rattle.journey_model.specs.Runs.{Run, planned_at}
 use Rattle.journey_model.specs.Times.{delay_fault, is_delay}
@@ -93,48 +93,48 @@ call-read zone run order row (Timed arrival departure) sound id timed near =
     = rw (filled-some (moment_text departure) (some-moment_text departure), moment_of-moment_text zone departure said.1) refl in
     call-by zone tree (id_of run.ids row.stop.0) order false (Some arrival) (Some departure) refl ref refl refl first last
 
--- the calls at the stops from a place on
+-- the calls at the stops from a position on
 abbrev pub read_from : Run → ℕ → List StopRow → List StopReading → List (Option Call)
-read_from run place [] readings = []
-read_from run place (row ∷ rows) [] = []
-read_from run place (row ∷ rows) (reading ∷ readings) = Some (said_call run (place + 1) row reading) ∷ read_from run (place + 1) rows readings
+read_from run position [] readings = []
+read_from run position (row ∷ rows) [] = []
+read_from run position (row ∷ rows) (reading ∷ readings) = Some (said_call run (position + 1) row reading) ∷ read_from run (position + 1) rows readings
 
 -- one call, and then others
 calls-cons : (zone : Rules) (tree : Data) (trees : List Data) (one : Option Call) (others : List (Option Call)) → call zone tree ≡ Ok one → calls zone trees ≡ Ok others
     → calls zone (tree ∷ trees) ≡ Ok (one ∷ others)
 calls-cons zone tree trees one others first rest = rw (first, rest) refl
 
-pub calls-read : (zone : Rules) (run : Run) (place : ℕ) (rows : List StopRow) (readings : List StopReading) → IsSoundRun run
+pub calls-read : (zone : Rules) (run : Run) (position : ℕ) (rows : List StopRow) (readings : List StopReading) → IsSoundRun run
     → list_all (λ row. nat_lt row.stop.0 (length run.ids)) rows ≡ true → list_all is_timed rows ≡ true → are_near run.start rows readings ≡ true
-    → calls zone (call_trees_from run (place + 1) rows readings) ≡ Ok (read_from run place rows readings)
-calls-read zone run place [] readings sound known timed near = refl
-calls-read zone run place (row ∷ rows) [] sound known timed near = refl
-calls-read zone run place (row ∷ rows) (reading ∷ readings) sound known timed near =
+    → calls zone (call_trees_from run (position + 1) rows readings) ≡ Ok (read_from run position rows readings)
+calls-read zone run position [] readings sound known timed near = refl
+calls-read zone run position (row ∷ rows) [] sound known timed near = refl
+calls-read zone run position (row ∷ rows) (reading ∷ readings) sound known timed near =
     let knowns = and_parts (nat_lt row.stop.0 (length run.ids)) _ known in
     let times = and_parts (is_timed row) (list_all is_timed rows) timed in
     let nears = and_parts (is_near (planned run.start row) reading) (are_near run.start rows readings) near in
     let id = some-id (id_of run.ids row.stop.0) (id-at run.ids row.stop.0 sound.ids (ltb-true _ _ knowns.0)) in
-    calls-cons zone (call_tree run (place + 1) row reading) (call_trees_from run (place + 1 + 1) rows readings) (Some (said_call run (place + 1) row reading)) (read_from run (place + 1) rows readings)
-    (call-read zone run (place + 1) row reading sound id times.0 nears.0)
-    (calls-read zone run (place + 1) rows readings sound knowns.1 times.1 nears.1)
+    calls-cons zone (call_tree run (position + 1) row reading) (call_trees_from run (position + 1 + 1) rows readings) (Some (said_call run (position + 1) row reading)) (read_from run (position + 1) rows readings)
+    (call-read zone run (position + 1) row reading sound id times.0 nears.0)
+    (calls-read zone run (position + 1) rows readings sound knowns.1 times.1 nears.1)
 
 -- no call is an extra one
-pub no-extras : (run : Run) (place : ℕ) (rows : List StopRow) (readings : List StopReading) → extras (read_from run place rows readings) ≡ 0
-no-extras run place [] readings = refl
-no-extras run place (row ∷ rows) [] = refl
-no-extras run place (row ∷ rows) (reading ∷ readings) = no-extras run (place + 1) rows readings
+pub no-extras : (run : Run) (position : ℕ) (rows : List StopRow) (readings : List StopReading) → extras (read_from run position rows readings) ≡ 0
+no-extras run position [] readings = refl
+no-extras run position (row ∷ rows) [] = refl
+no-extras run position (row ∷ rows) (reading ∷ readings) = no-extras run (position + 1) rows readings
 
 -- ---- their stops and their places
 
 abbrev named_from : Run → ℕ → List StopRow → List StopReading → List (ℕ × (ℕ × Call))
-named_from run place [] readings = []
-named_from run place (row ∷ rows) [] = []
-named_from run place (row ∷ rows) (reading ∷ readings) = (row.stop.0, (place, said_call run (place + 1) row reading)) ∷ named_from run (place + 1) rows readings
+named_from run position [] readings = []
+named_from run position (row ∷ rows) [] = []
+named_from run position (row ∷ rows) (reading ∷ readings) = (row.stop.0, (position, said_call run (position + 1) row reading)) ∷ named_from run (position + 1) rows readings
 
 abbrev placed_from : Run → ℕ → List StopRow → List StopReading → List (ℕ × (ℕ × Call))
-placed_from run place [] readings = []
-placed_from run place (row ∷ rows) [] = []
-placed_from run place (row ∷ rows) (reading ∷ readings) = (place, (place, said_call run (place + 1) row reading)) ∷ placed_from run (place + 1) rows readings
+placed_from run position [] readings = []
+placed_from run position (row ∷ rows) [] = []
+placed_from run position (row ∷ rows) (reading ∷ readings) = (position, (position, said_call run (position + 1) row reading)) ∷ placed_from run (position + 1) rows readings
 
 -- the first of what is left of a list, and what is left after it
 slice_get-drop : {A : Type 0} (xs : List A) (i : ℕ) (x : A) (rest : List A) → drop i xs ≡ x ∷ rest → slice_get xs i ≡ Some x
@@ -166,54 +166,54 @@ among (first ∷ rows) (suc i) row rest e = rw (among rows i row rest e) (by (is
     by true = refl
     by false = refl
 
-stop-named : (run : Run) (place : ℕ) (row : StopRow) (rest : List StopRow) → IsSoundRun run → row.stop.0 < length run.ids → drop place run.stops ≡ row ∷ rest
+stop-named : (run : Run) (position : ℕ) (row : StopRow) (rest : List StopRow) → IsSoundRun run → row.stop.0 < length run.ids → drop position run.stops ≡ row ∷ rest
     → stop_named run (id_of run.ids row.stop.0) ≡ Some row.stop.0
-stop-named run place row rest sound known at = rw (position-id run.ids row.stop.0 sound.ids known, among run.stops place row rest at) refl
+stop-named run position row rest sound known at = rw (position-id run.ids row.stop.0 sound.ids known, among run.stops position row rest at) refl
 
 named-cons : (run : Run) (one : ℕ × Call) (others : List (ℕ × Call)) (stop : ℕ) (rest : List (ℕ × (ℕ × Call))) → stop_named run one.1.stop ≡ Some stop → stops_named run others ≡ Ok rest
     → stops_named run (one ∷ others) ≡ Ok ((stop, one) ∷ rest)
 named-cons run one others stop rest first later = rw (first, later) refl
 
-stops-named : (run : Run) (place : ℕ) (rows : List StopRow) (readings : List StopReading) → IsSoundRun run
-    → list_all (λ row. nat_lt row.stop.0 (length run.ids)) rows ≡ true → drop place run.stops ≡ rows
-    → stops_named run (numbered place (read_from run place rows readings)) ≡ Ok (named_from run place rows readings)
-stops-named run place [] readings sound known at = refl
-stops-named run place (row ∷ rows) [] sound known at = refl
-stops-named run place (row ∷ rows) (reading ∷ readings) sound known at =
+stops-named : (run : Run) (position : ℕ) (rows : List StopRow) (readings : List StopReading) → IsSoundRun run
+    → list_all (λ row. nat_lt row.stop.0 (length run.ids)) rows ≡ true → drop position run.stops ≡ rows
+    → stops_named run (numbered position (read_from run position rows readings)) ≡ Ok (named_from run position rows readings)
+stops-named run position [] readings sound known at = refl
+stops-named run position (row ∷ rows) [] sound known at = refl
+stops-named run position (row ∷ rows) (reading ∷ readings) sound known at =
     let knowns = and_parts (nat_lt row.stop.0 (length run.ids)) _ known in
-    named-cons run (place, said_call run (place + 1) row reading) (numbered (place + 1) (read_from run (place + 1) rows readings)) row.stop.0 (named_from run (place + 1) rows readings)
-    (stop-named run place row rows sound (ltb-true _ _ knowns.0) at)
-    (stops-named run (place + 1) rows readings sound knowns.1 (drop-after run.stops place row rows at))
+    named-cons run (position, said_call run (position + 1) row reading) (numbered (position + 1) (read_from run (position + 1) rows readings)) row.stop.0 (named_from run (position + 1) rows readings)
+    (stop-named run position row rows sound (ltb-true _ _ knowns.0) at)
+    (stops-named run (position + 1) rows readings sound knowns.1 (drop-after run.stops position row rows at))
 
 -- the stop of a call is that of its order
-placed-here : (stops : List StopRow) (after : Option ℕ) (place : ℕ) (row : StopRow) (rest : List StopRow) → place_after after ≡ place → drop place stops ≡ row ∷ rest
-    → call_place stops after row.stop.0 (Some (place + 1)) ≡ Some place
-placed-here stops after place row rest left at =
-    let back : place + 1 - 1 ≡ place = omega arith in
-    let low : nat_le 1 (place + 1) ≡ true = le-leb 1 (place + 1) (omega arith) in
-    let from : nat_le place place ≡ true = le-leb place place (omega arith) in
-    let stands : stands_at (is_of_stop row.stop.0) place stops ≡ true = rw (slice_get-drop stops place row rest at, same-number row.stop.0) refl in
-    let fits : fits_order row.stop.0 (place_after after) (place + 1) stops ≡ true = rw (left, back, low, from, stands) refl in
+placed-here : (stops : List StopRow) (after : Option ℕ) (position : ℕ) (row : StopRow) (rest : List StopRow) → position_after after ≡ position → drop position stops ≡ row ∷ rest
+    → call_position stops after row.stop.0 (Some (position + 1)) ≡ Some position
+placed-here stops after position row rest left at =
+    let back : position + 1 - 1 ≡ position = omega arith in
+    let low : nat_le 1 (position + 1) ≡ true = le-leb 1 (position + 1) (omega arith) in
+    let from : nat_le position position ≡ true = le-leb position position (omega arith) in
+    let stands : stands_at (is_of_stop row.stop.0) position stops ≡ true = rw (slice_get-drop stops position row rest at, same-number row.stop.0) refl in
+    let fits : fits_order row.stop.0 (position_after after) (position + 1) stops ≡ true = rw (left, back, low, from, stands) refl in
     rw (fits, back) refl
 
-placed-cons : (stops : List StopRow) (after : Option ℕ) (one : ℕ × (ℕ × Call)) (others : List (ℕ × (ℕ × Call))) (place : ℕ) (rest : List (ℕ × (ℕ × Call)))
-    → call_place stops after one.0 one.1.1.order ≡ Some place → placed_calls stops (Some place) others ≡ Ok rest
-    → placed_calls stops after (one ∷ others) ≡ Ok ((place, one.1) ∷ rest)
-placed-cons stops after one others place rest first later = rw (first, later) refl
+placed-cons : (stops : List StopRow) (after : Option ℕ) (one : ℕ × (ℕ × Call)) (others : List (ℕ × (ℕ × Call))) (position : ℕ) (rest : List (ℕ × (ℕ × Call)))
+    → call_position stops after one.0 one.1.1.order ≡ Some position → placed_calls stops (Some position) others ≡ Ok rest
+    → placed_calls stops after (one ∷ others) ≡ Ok ((position, one.1) ∷ rest)
+placed-cons stops after one others position rest first later = rw (first, later) refl
 
-calls-placed : (run : Run) (after : Option ℕ) (place : ℕ) (rows : List StopRow) (readings : List StopReading) → place_after after ≡ place → drop place run.stops ≡ rows
-    → placed_calls run.stops after (named_from run place rows readings) ≡ Ok (placed_from run place rows readings)
-calls-placed run after place [] readings left at = refl
-calls-placed run after place (row ∷ rows) [] left at = refl
-calls-placed run after place (row ∷ rows) (reading ∷ readings) left at =
-    placed-cons run.stops after (row.stop.0, (place, said_call run (place + 1) row reading)) (named_from run (place + 1) rows readings) place (placed_from run (place + 1) rows readings)
-    (placed-here run.stops after place row rows left at)
-    (calls-placed run (Some place) (place + 1) rows readings refl (drop-after run.stops place row rows at))
+calls-placed : (run : Run) (after : Option ℕ) (position : ℕ) (rows : List StopRow) (readings : List StopReading) → position_after after ≡ position → drop position run.stops ≡ rows
+    → placed_calls run.stops after (named_from run position rows readings) ≡ Ok (placed_from run position rows readings)
+calls-placed run after position [] readings left at = refl
+calls-placed run after position (row ∷ rows) [] left at = refl
+calls-placed run after position (row ∷ rows) (reading ∷ readings) left at =
+    placed-cons run.stops after (row.stop.0, (position, said_call run (position + 1) row reading)) (named_from run (position + 1) rows readings) position (placed_from run (position + 1) rows readings)
+    (placed-here run.stops after position row rows left at)
+    (calls-placed run (Some position) (position + 1) rows readings refl (drop-after run.stops position row rows at))
 
 -- ---- no delay is over a week
 
-planned-here : (run : Run) (place : ℕ) (row : StopRow) (rest : List StopRow) → drop place run.stops ≡ row ∷ rest → planned_at run place ≡ planned run.start row
-planned-here run place row rest at = rw (slice_get-drop run.stops place row rest at) refl
+planned-here : (run : Run) (position : ℕ) (row : StopRow) (rest : List StopRow) → drop position run.stops ≡ row ∷ rest → planned_at run position ≡ planned run.start row
+planned-here run position row rest at = rw (slice_get-drop run.stops position row rest at) refl
 
 no-fault : (number : ℕ) (plan : ℤ × ℤ) (reading : StopReading) → is_near plan reading ≡ true
     → cond (skips reading) None (delay_fault number plan (arrival_said reading) (departure_said reading)) ≡ None
@@ -223,41 +223,41 @@ no-fault number plan (Timed arrival departure) near =
     let nears = and_parts (is_delay (arrival -ℤ plan.0)) (is_delay (departure -ℤ plan.1)) near in
     rw (nears.0, nears.1) refl
 
-no-faults : (run : Run) (place : ℕ) (rows : List StopRow) (readings : List StopReading) → drop place run.stops ≡ rows → are_near run.start rows readings ≡ true
-    → delays_fault run (placed_from run place rows readings) ≡ None
-no-faults run place [] readings at near = refl
-no-faults run place (row ∷ rows) [] at near = refl
-no-faults run place (row ∷ rows) (reading ∷ readings) at near =
+no-faults : (run : Run) (position : ℕ) (rows : List StopRow) (readings : List StopReading) → drop position run.stops ≡ rows → are_near run.start rows readings ≡ true
+    → delays_fault run (placed_from run position rows readings) ≡ None
+no-faults run position [] readings at near = refl
+no-faults run position (row ∷ rows) [] at near = refl
+no-faults run position (row ∷ rows) (reading ∷ readings) at near =
     let nears = and_parts (is_near (planned run.start row) reading) (are_near run.start rows readings) near in
-    let first : fault_of_delay run (place, (place, said_call run (place + 1) row reading)) ≡ None
-    = subst (λ plan. cond (skips reading) None (delay_fault place plan (arrival_said reading) (departure_said reading)) ≡ None) (sym (planned-here run place row rows at)) (no-fault place (planned run.start row) reading nears.0) in
-    ap (λ found. option_or found (delays_fault run (placed_from run (place + 1) rows readings))) first
-    ∙ no-faults run (place + 1) rows readings (drop-after run.stops place row rows at) nears.1
+    let first : fault_of_delay run (position, (position, said_call run (position + 1) row reading)) ≡ None
+    = subst (λ plan. cond (skips reading) None (delay_fault position plan (arrival_said reading) (departure_said reading)) ≡ None) (sym (planned-here run position row rows at)) (no-fault position (planned run.start row) reading nears.0) in
+    ap (λ found. option_or found (delays_fault run (placed_from run (position + 1) rows readings))) first
+    ∙ no-faults run (position + 1) rows readings (drop-after run.stops position row rows at) nears.1
 
 -- ---- each stop reads as the journey says
 
 abbrev finds : List (ℕ × (ℕ × Call)) → ℕ → Option (ℕ × (ℕ × Call))
-finds placed place = find (λ one. one.0 == place) placed
+finds placed position = find (λ one. one.0 == position) placed
 
 reads-as : (plan : ℤ × ℤ) (run : Run) (order : ℕ) (row : StopRow) (reading : StopReading) → call_reading plan (said_call run order row reading) ≡ reading
 reads-as plan run order row Absent = refl
 reads-as plan run order row Skipped = refl
 reads-as plan run order row (Timed arrival departure) = refl
 
-dense-from : (run : Run) (placed : List (ℕ × (ℕ × Call))) (place : ℕ) (rows : List StopRow) (readings : List StopReading) → are_near run.start rows readings ≡ true
-    → ((j : ℕ) → place ≤ j → finds placed j ≡ finds (placed_from run place rows readings) j)
-    → map (dense run placed) (range_with_len place (length rows)) ≡ readings
-dense-from run placed place [] [] near same = refl
-dense-from run placed place [] (reading ∷ readings) near same = absurd (cc)
-dense-from run placed place (row ∷ rows) [] near same = absurd (cc)
-dense-from run placed place (row ∷ rows) (reading ∷ readings) near same =
+dense-from : (run : Run) (placed : List (ℕ × (ℕ × Call))) (position : ℕ) (rows : List StopRow) (readings : List StopReading) → are_near run.start rows readings ≡ true
+    → ((j : ℕ) → position ≤ j → finds placed j ≡ finds (placed_from run position rows readings) j)
+    → map (dense run placed) (range_with_len position (length rows)) ≡ readings
+dense-from run placed position [] [] near same = refl
+dense-from run placed position [] (reading ∷ readings) near same = absurd (cc)
+dense-from run placed position (row ∷ rows) [] near same = absurd (cc)
+dense-from run placed position (row ∷ rows) (reading ∷ readings) near same =
     let nears = and_parts (is_near (planned run.start row) reading) (are_near run.start rows readings) near in
-    let one : ℕ × (ℕ × Call) = (place, (place, said_call run (place + 1) row reading)) in
-    let later = placed_from run (place + 1) rows readings in
-    let here : finds placed place ≡ Some one = same place (omega arith) ∙ ap (λ b. cond b (Some one) (finds later place)) (same-number place) in
-    let there = λ (j : ℕ) (h : place + 1 ≤ j). same j (omega arith) ∙ ap (λ b. cond b (Some one) (finds later j)) (other-above place j (omega arith)) in
-    let first : dense run placed place ≡ reading = ap (reading_at run place) here ∙ reads-as (planned_at run place) run (place + 1) row reading in
-    let rest = dense-from run placed (place + 1) rows readings nears.1 there in
+    let one : ℕ × (ℕ × Call) = (position, (position, said_call run (position + 1) row reading)) in
+    let later = placed_from run (position + 1) rows readings in
+    let here : finds placed position ≡ Some one = same position (omega arith) ∙ ap (λ b. cond b (Some one) (finds later position)) (same-number position) in
+    let there = λ (j : ℕ) (h : position + 1 ≤ j). same j (omega arith) ∙ ap (λ b. cond b (Some one) (finds later j)) (other-above position j (omega arith)) in
+    let first : dense run placed position ≡ reading = ap (reading_at run position) here ∙ reads-as (planned_at run position) run (position + 1) row reading in
+    let rest = dense-from run placed (position + 1) rows readings nears.1 there in
     ap₂ (λ (a : StopReading) (b : List StopReading). a ∷ b) first rest
 
 -- the calls read as the journey does

@@ -7,7 +7,7 @@ use Rattle.std.proofs.lemmas.Slice.Eq.{bytes_eq-Decides}
 use Rattle.std.proofs.lemmas.Str.{IsUtf8-from_is_utf8}
 use Rattle.timetable.specs.Ids.{are_distinct, are_ids, has_id, is_id}
 
--- a test of all passes at each place, and a test of none fails there
+-- a test of all passes at each position, and a test of none fails there
 pub all-at : {A : Type 0} (test : A → Bool) (xs : List A) (i : ℕ) (d : A) → list_all test xs ≡ true → i < length xs → test (get_or xs i d) ≡ true
 all-at test [] i d h less = absurd (omega arith)
 all-at test (x ∷ xs) zero d h less = (and_parts (test x) (list_all test xs) h).0
@@ -40,12 +40,12 @@ apart (id ∷ ids) zero (suc i) h before less =
 apart (id ∷ ids) (suc k) (suc i) h before less =
     apart ids k i (and_parts (not (has_id id ids)) (are_distinct ids) h).1 (omega arith) (omega arith)
 
--- an id is found at its own place
-pub position-id : (ids : List (List ℕ)) (place : ℕ) → are_ids ids ≡ true → place < length ids → position (bytes_eq (get_or ids place [])) ids ≡ Some place
-position-id ids place h less =
+-- an id is found at its own position
+pub position-id : (ids : List (List ℕ)) (at : ℕ) → are_ids ids ≡ true → at < length ids → position (bytes_eq (get_or ids at [])) ids ≡ Some at
+position-id ids at h less =
     let distinct = (and_parts (list_all is_id ids) (are_distinct ids) h).1 in
-    let here = position_or_len_is (bytes_eq (get_or ids place [])) ids place [] (omega arith) (λ k before. apart ids k place distinct before less) (λ in-list. same-bytes (get_or ids place [])) in
-    rw (here, lt-ltb place (length ids) less) refl
+    let here = position_or_len_is (bytes_eq (get_or ids at [])) ids at [] (omega arith) (λ k before. apart ids k at distinct before less) (λ in-list. same-bytes (get_or ids at [])) in
+    rw (here, lt-ltb at (length ids) less) refl
 
 -- it isn't empty, and UTF-8
 pub some-id : (id : List ℕ) → is_id id ≡ true → 0 < length id
@@ -54,5 +54,5 @@ some-id id h = let lens = and_parts _ _ (and_parts _ _ h).0 in let one = leb-tru
 pub IsUtf8-id : (id : List ℕ) → is_id id ≡ true → IsUtf8 id
 IsUtf8-id id h = IsUtf8-from_is_utf8 id (and_parts _ _ h).1
 
-pub id-at : (ids : List (List ℕ)) (place : ℕ) → are_ids ids ≡ true → place < length ids → is_id (get_or ids place []) ≡ true
-id-at ids place h less = all-at is_id ids place [] (and_parts (list_all is_id ids) (are_distinct ids) h).0 less
+pub id-at : (ids : List (List ℕ)) (position : ℕ) → are_ids ids ≡ true → position < length ids → is_id (get_or ids position []) ≡ true
+id-at ids position h less = all-at is_id ids position [] (and_parts (list_all is_id ids) (are_distinct ids) h).0 less

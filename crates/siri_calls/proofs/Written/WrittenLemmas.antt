@@ -97,10 +97,10 @@ delivery schedule moment all =
     (codes "{\"EstimatedVehicleJourney\":[") (items_text false (items_of (map (journey_tree schedule moment) all)))
     (codes ",\"RecordedAtTime\":") (quoted (moment_text moment)) (codes "}") (codes "]") (codes ",\"ResponseTimestamp\":") (codes ",\"version\":\"2.0\"}")))
 
--- what is left from a place on begins with what stands there
-dropped : {A : Type 0} (xs : List A) (place : ℕ) (x : A) → slice_get xs place ≡ Some x → drop place xs ≡ x ∷ drop (place + 1) xs
-dropped xs place x here =
-    drop_more xs place x (slice_get_within xs place x here) ∙ ap (λ y. y ∷ drop (place + 1) xs) (get_or_from_slice_get xs place x x here)
+-- what is left from a position on begins with what stands there
+dropped : {A : Type 0} (xs : List A) (position : ℕ) (x : A) → slice_get xs position ≡ Some x → drop position xs ≡ x ∷ drop (position + 1) xs
+dropped xs position x here =
+    drop_more xs position x (slice_get_within xs position x here) ∙ ap (λ y. y ∷ drop (position + 1) xs) (get_or_from_slice_get xs position x x here)
 
 -- ---- one more call or journey after those that stand
 
@@ -111,13 +111,13 @@ one_more whole out out' comma one left left' is added h = rw added (sym (regroup
     regrouped : (a b c d : List ℕ) → a ++ (b ++ c ++ d) ≡ (a ++ b ++ c) ++ d
     regrouped a b c d = simp append_assoc
 
--- the call at a place and those after it
-pub calls_on : (run : Run) (place : ℕ) (row : StopRow) (reading : StopReading) (all : List StopReading) (later : Bool) (order : ℕ)
-    → slice_get run.stops place ≡ Some row → slice_get all place ≡ Some reading
-    → calls_text later run order (drop place run.stops) (drop place all)
-    ≡ comma_if later ++ call_text run order row reading ++ calls_text true run (order + 1) (drop (place + 1) run.stops) (drop (place + 1) all)
-calls_on run place row reading all later order row-at reading-at =
-    rw (dropped run.stops place row row-at, dropped all place reading reading-at) refl
+-- the call at a position and those after it
+pub calls_on : (run : Run) (position : ℕ) (row : StopRow) (reading : StopReading) (all : List StopReading) (later : Bool) (order : ℕ)
+    → slice_get run.stops position ≡ Some row → slice_get all position ≡ Some reading
+    → calls_text later run order (drop position run.stops) (drop position all)
+    ≡ comma_if later ++ call_text run order row reading ++ calls_text true run (order + 1) (drop (position + 1) run.stops) (drop (position + 1) all)
+calls_on run position row reading all later order row-at reading-at =
+    rw (dropped run.stops position row row-at, dropped all position reading reading-at) refl
 
 -- ---- pieces written one after the other
 

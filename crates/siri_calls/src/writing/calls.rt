@@ -7,12 +7,11 @@ ghost use Rattle.timetable.specs.Stops.{are_known, is_timed};
 ghost use Rattle.journey_model.specs.Readings.{AreMoments, fits_trip, is_near};
 ghost use Rattle.siri_calls.specs.Written.DeliveryTree.{stop_readings};
 ghost use Rattle.siri_calls.specs.Written.DeliveryTexts.{aimed_text, call_text, calls_text, said_text, stop_text};
-ghost use Rattle.siri_calls.specs.TripRuns.{run_over};
+ghost use Rattle.journey_model.specs.TripRuns.{run_over};
 
-use crate::trip_run::TripRun;
 use crate::writing::texts::{put_number, put_text, put_times};
 use gw_base::Bytes;
-use journey_model::{JourneyReading, StopReading};
+use journey_model::{JourneyReading, StopReading, TripRun};
 use std::alloc::AllocError;
 use timetable::StopRow;
 
@@ -74,15 +73,15 @@ fn put_call(
     put_stop(out, order, run.table.stop_id(row.stop))
 }
 
-// How a stop of a trip reads by its place.
-fn reading_at(run: &TripRun<'_>, reading: &JourneyReading, place: usize) -> StopReading
+// How a stop of a trip reads by its position.
+fn reading_at(run: &TripRun<'_>, reading: &JourneyReading, position: usize) -> StopReading
     requires fits { fits_trip run.now.dated.start run.now.dated.stops.now reading.now ≡ true }
-    requires within { place < length run.now.dated.stops.now }
-    ensures { slice_get (stop_readings (run_over run.now) reading.now) place ≡ Some result }
+    requires within { position < length run.now.dated.stops.now }
+    ensures { slice_get (stop_readings (run_over run.now) reading.now) position ≡ Some result }
 {
     match reading {
         JourneyReading::Cancelled => StopReading::Skipped,
-        JourneyReading::Stops(readings) => readings.as_slice()[place],
+        JourneyReading::Stops(readings) => readings.as_slice()[position],
     }
 }
 
@@ -107,14 +106,14 @@ pub(crate) fn put_calls(
     ensures { OnOk result (out.new ≡ out.old ++ calls_text false (run_over run.now) 1 run.now.dated.stops.now
         (stop_readings (run_over run.now) reading.now)) }
 {
-    for place in 0..run.dated.stops.len() {
-        let reading = reading_at(run, reading, place);
-        put_comma(out, place > 0)?;
+    for position in 0..run.dated.stops.len() {
+        let reading = reading_at(run, reading, position);
+        put_comma(out, position > 0)?;
         put_call(
             out,
             run,
-            place as u64 + 1,
-            &run.dated.stops[place],
+            position as u64 + 1,
+            &run.dated.stops[position],
             &reading,
         )?;
     }

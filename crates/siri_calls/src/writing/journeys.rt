@@ -7,13 +7,12 @@ ghost use Rattle.journey_model.specs.Readings.{fits_trip};
 ghost use Rattle.journey_model.specs.Schedules.{FitsSchedule, run_on};
 ghost use Rattle.siri_calls.specs.Written.DeliveryTree.{is_cancelled_journey};
 ghost use Rattle.siri_calls.specs.Written.DeliveryTexts.{closing_text, frame_ref_text, journey_text, journey_text_on, journeys_text, opening_text};
-ghost use Rattle.siri_calls.specs.TripRuns.{run_over};
+ghost use Rattle.journey_model.specs.TripRuns.{run_over};
 
-use crate::trip_run::TripRun;
 use crate::writing::calls::{put_calls, put_comma};
 use crate::writing::texts::{put_moment, put_text};
 use gw_base::{Bytes, Moment};
-use journey_model::{Context, DatedReading, JourneyReading};
+use journey_model::{Context, DatedReading, JourneyReading, TripRun};
 use service_day::{Day, day_text};
 use std::alloc::AllocError;
 

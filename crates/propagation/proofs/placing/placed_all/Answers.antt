@@ -1,6 +1,6 @@
 use Rattle.std.proofs.Common.{◌∙◌, sym, arith}
 use Rattle.journey_model.specs.Dated.{run_of}
-use Rattle.journey_model.specs.Updates.{place_of}
+use Rattle.journey_model.specs.Updates.{position_of}
 use Rattle.propagation.proofs.PlaceLemmas.{placed_none, placed_more, placed_all-fault, placed_all-done, is_at, is_fault}
 use Rattle.propagation.proofs.placing.placed_all.Goals as goal
 
@@ -12,8 +12,8 @@ pub loop-number-preserved : goal.loop-number-preserved
 loop-number-preserved c =
     let run = run_of c.args.table.now.stops c.args.dated.now in
     let update = c.index-updates-number.result in
-    let at = is_at run update (place_of run c.loop-number.number c.loop-number.after update) c.in-Ok.next
-    (sym c.in-Ok.is ∙ c.place.ensures) in
+    let at = is_at run update (position_of run c.loop-number.number c.loop-number.after update) c.in-Ok.next
+    (sym c.in-Ok.is ∙ c.match_to_stop.ensures) in
     placed_more run c.args.updates.now c.loop-number.number c.loop-number.after c.loop-number.all c.push.new.self
     update c.in-Ok.next
     c.loop-number.invariant c.loop-number-test.true c.index-updates-number.is at c.in_ok-push.ensures.added
@@ -25,8 +25,8 @@ returns-in-Err c =
     placed_all-fault run c.args.updates.now c.loop-number.number c.loop-number.after c.loop-number.all update
     c.in-Err.fault
     c.loop-number.invariant c.loop-number-test.true c.index-updates-number.is
-    (is_fault run update (place_of run c.loop-number.number c.loop-number.after update) c.in-Err.fault
-    (sym c.in-Err.is ∙ c.place.ensures))
+    (is_fault run update (position_of run c.loop-number.number c.loop-number.after update) c.in-Err.fault
+    (sym c.in-Err.is ∙ c.match_to_stop.ensures))
 
 pub returns : goal.returns
 returns c =

@@ -7,7 +7,7 @@ use Rattle.propagation.specs.Spreading.{are_rising_from}
 use Rattle.propagation.proofs.SpreadLemmas.{SpreadTo}
 use Rattle.propagation.proofs.propagating.readings.Given as goal
 
-abbrev pub invariant-loop-place : goal.invariant-loop-place
-invariant-loop-place l = (ids : List (List ℕ)) (updates : List (ℕ × StopUpdate)) → are_rising_from 0 updates ≡ true
+abbrev pub invariant-loop-position : goal.invariant-loop-position
+invariant-loop-position l = (ids : List (List ℕ)) (updates : List (ℕ × StopUpdate)) → are_rising_from 0 updates ≡ true
     → l.fn.placed ≡ map (placed_at (run_of ids l.dated)) updates
-    → SpreadTo (run_of ids l.dated) updates l.place l.delay l.rest l.all
+    → SpreadTo (run_of ids l.dated) updates l.position l.delay l.rest l.all

@@ -5,5 +5,5 @@ use Rattle.show_command.specs.Lines.{stop_lines}
 use Rattle.show_command.proofs.StopLemmas.{lines_from}
 use Rattle.show_command.proofs.stop_lines.add_stops.Given as goal
 
-abbrev pub invariant-loop-place : goal.invariant-loop-place
-invariant-loop-place l = l.lines ++ lines_from l.table.stops l.name l.stops l.readings l.place ≡ l.fn.lines ++ stop_lines l.table.stops l.name (zip l.stops l.readings)
+abbrev pub invariant-loop-position : goal.invariant-loop-position
+invariant-loop-position l = l.lines ++ lines_from l.table.stops l.name l.stops l.readings l.position ≡ l.fn.lines ++ stop_lines l.table.stops l.name (zip l.stops l.readings)

@@ -2,7 +2,7 @@
 use Rattle.std.proofs.Common.{◌≡◌, drop, map}
 use Rattle.siri_calls.specs.Judged as spec
 use Rattle.siri_calls.specs.MatchedCalls.{placed_call}
-use Rattle.siri_calls.specs.TripRuns.{run_over}
+use Rattle.journey_model.specs.TripRuns.{run_over}
 use Rattle.siri_calls.proofs.delays.delays_fault.Given as goal
 
 abbrev pub invariant-loop-one : goal.invariant-loop-one

@@ -2,7 +2,7 @@
 use Rattle.std.proofs.Common.{map}
 use Rattle.siri_calls.specs.MatchedCalls.{placed_call}
 use Rattle.siri_calls.specs.Seen.{calls_of}
-use Rattle.siri_calls.specs.TripRuns.{run_over}
+use Rattle.journey_model.specs.TripRuns.{run_over}
 use Rattle.siri_calls.proofs.OrderLemmas.{calls-rise}
 use Rattle.siri_calls.proofs.judging.stops_read.Goals as goal
 

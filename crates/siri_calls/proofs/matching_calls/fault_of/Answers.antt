@@ -3,7 +3,7 @@ use Rattle.std.proofs.Common.{◌∙◌, ap, drop, option_map, arith, ◌+◌}
 use Rattle.siri_calls.specs.Judged.{numbered, stops_named}
 use Rattle.siri_calls.specs.MatchedCalls.{unplaced}
 use Rattle.siri_calls.specs.Seen.{call_of, calls_of}
-use Rattle.siri_calls.specs.TripRuns.{run_over}
+use Rattle.journey_model.specs.TripRuns.{run_over}
 use Rattle.siri_calls.proofs.PlacedLemmas.{left_at, passed_over}
 use Rattle.siri_calls.proofs.matching_calls.fault_of.Goals as goal
 

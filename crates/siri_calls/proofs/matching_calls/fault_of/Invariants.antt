@@ -3,7 +3,7 @@ use Rattle.std.proofs.Common.{◌≡◌, drop}
 use Rattle.siri_calls.specs.Judged.{numbered, stops_named}
 use Rattle.siri_calls.specs.MatchedCalls.{unplaced}
 use Rattle.siri_calls.specs.Seen.{calls_of}
-use Rattle.siri_calls.specs.TripRuns.{run_over}
+use Rattle.journey_model.specs.TripRuns.{run_over}
 use Rattle.siri_calls.proofs.matching_calls.fault_of.Given as goal
 
 abbrev pub invariant-loop-index : goal.invariant-loop-index

@@ -3,7 +3,7 @@ use Rattle.std.proofs.Common.{drop, map}
 use Rattle.siri_calls.specs.Judged.{numbered}
 use Rattle.siri_calls.specs.MatchedCalls.{placed_call}
 use Rattle.siri_calls.specs.Seen.{calls_of}
-use Rattle.siri_calls.specs.TripRuns.{run_over}
+use Rattle.journey_model.specs.TripRuns.{run_over}
 use Rattle.siri_calls.proofs.PlacedLemmas.{SoFar}
 use Rattle.siri_calls.proofs.matching_calls.placed_calls.Given as goal
 

@@ -5,7 +5,7 @@ use Rattle.std.proofs.lemmas.Option.{slice_get-get_or}
 use Rattle.timetable.specs.declared.stop_row.StopRow.{StopRow}
 use Rattle.siri_calls.specs.Written.DeliveryTree.{stop_readings}
 use Rattle.siri_calls.specs.Written.DeliveryTexts.{call_text}
-use Rattle.siri_calls.specs.TripRuns.{run_over}
+use Rattle.journey_model.specs.TripRuns.{run_over}
 use Rattle.siri_calls.proofs.Written.WrittenLemmas.{calls_on, one_more}
 use Rattle.siri_calls.proofs.Written.WrittenTimes.{fits_near, near_at}
 use Rattle.siri_calls.proofs.writing.calls.put_calls.Goals as goal
@@ -18,21 +18,21 @@ unfolding no_row
 put_call-requires-clause-near c =
     let run = run_over c.args.run.now in
     let stops = c.args.run.now.dated.stops.now in
-    let place = c.loop-place.place in
-    let within : place < length stops = omega arith in
-    near_at run.start stops (stop_readings run c.args.reading.now) place (get_or stops place no_row) c.reading_at-reading.result
-    (fits_near run c.args.reading.now c.requires.fits) (slice_get-get_or stops place no_row within) c.reading_at-reading.ensures
+    let position = c.loop-position.position in
+    let within : position < length stops = omega arith in
+    near_at run.start stops (stop_readings run c.args.reading.now) position (get_or stops position no_row) c.reading_at-reading.result
+    (fits_near run c.args.reading.now c.requires.fits) (slice_get-get_or stops position no_row within) c.reading_at-reading.ensures
 
-pub loop-place-preserved : goal.loop-place-preserved
+pub loop-position-preserved : goal.loop-position-preserved
 unfolding no_row
-loop-place-preserved c =
+loop-position-preserved c =
     let run = run_over c.args.run.now in
     let stops = c.args.run.now.dated.stops.now in
-    let place = c.loop-place.place in
-    let row = get_or stops place no_row in
-    let within : place < length stops = omega arith in
-    let later : nat_lt 0 (place + 1) ≡ true = grind (arith, nat_tests) in
-    let is = calls_on run place row c.reading_at-reading.result (stop_readings run c.args.reading.now) (nat_lt 0 place) (place + 1)
-    (slice_get-get_or stops place no_row within) c.reading_at-reading.ensures in
-    let added = c.in_ok-put_call.ensures ∙ ap (λ l. l ++ call_text run (place + 1) row c.reading_at-reading.result) c.in_ok-put_comma.ensures in
-    rw later (one_more _ c.loop-place.out c.put_call.new.out _ _ _ _ is added c.loop-place.invariant)
+    let position = c.loop-position.position in
+    let row = get_or stops position no_row in
+    let within : position < length stops = omega arith in
+    let later : nat_lt 0 (position + 1) ≡ true = grind (arith, nat_tests) in
+    let is = calls_on run position row c.reading_at-reading.result (stop_readings run c.args.reading.now) (nat_lt 0 position) (position + 1)
+    (slice_get-get_or stops position no_row within) c.reading_at-reading.ensures in
+    let added = c.in_ok-put_call.ensures ∙ ap (λ l. l ++ call_text run (position + 1) row c.reading_at-reading.result) c.in_ok-put_comma.ensures in
+    rw later (one_more _ c.loop-position.out c.put_call.new.out _ _ _ _ is added c.loop-position.invariant)

@@ -1,10 +1,10 @@
 //! What a journey is read over.
-use journey_model::DatedTrip;
+use crate::context::DatedTrip;
 use timetable::Timetable;
 
-/// A trip on a day on which it runs, with the timetable that it is of.
+/// A trip on a service day on which it runs, with the timetable that it is of.
 #[derive(Clone, Copy)]
-pub(crate) struct TripRun<'a> {
+pub struct TripRun<'a> {
     /// The timetable.
     pub table: &'a Timetable,
     /// The trip on the day.
