@@ -1,4 +1,5 @@
 pub mod AsideLemmas
 pub mod Delays
+pub mod IdLemmas
 pub mod NearLemmas
 pub mod Suppliers

@@ -10,8 +10,8 @@ use Rattle.std.specs.declared.cmp.Ordering.TheVariants.{Less, Equal, Greater}
 use Rattle.std.proofs.lemmas.Bool.{and_from, and_parts}
 use Rattle.serde_json.specs.Data.{Data, Members, no_members, member}
 use Rattle.serde_json.specs.Find.{get, get_member}
-use Rattle.siri_calls.specs.Written.DeliveryTree.{members, object_of}
-use Rattle.siri_calls.proofs.Written.SaidAgainTrees.{HasPlain, IsPlain, is_after, joined}
+use Rattle.siri_json.specs.Trees.{members, object_of}
+use Rattle.siri_json.proofs.TreesReadAgain.{HasPlain, IsPlain, is_after, joined}
 
 -- a member that may be missing, and members of which each may be
 abbrev pub block : List ℕ → Option Data → List (List ℕ × Data)

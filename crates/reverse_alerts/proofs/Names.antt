@@ -15,7 +15,7 @@ use Rattle.journey_model.specs.Names.{filled_text, journey_named, route_named, s
 use Rattle.journey_model.specs.declared.situation.Ref.{Ref}
 use Rattle.journey_model.specs.declared.situation.Ref.TheVariants.{Route, Stop, Journey}
 use Rattle.alert_map.specs.Alerts.{selector_of}
-use Rattle.siri_calls.proofs.Written.SaidAgainIds.{id-at, position-id, some-id}
+use Rattle.journey_model.proofs.IdLemmas.{id-at, position-id, some-id}
 use Rattle.reverse_alerts.specs.Kept.{all_named, journey_dated, described_journey, named, one_named}
 use Rattle.reverse_alerts.proofs.DayRange.{IsDay-day_of}
 use Rattle.reverse_alerts.proofs.Sayable.{CanSay}

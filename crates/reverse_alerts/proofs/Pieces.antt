@@ -1,6 +1,6 @@
 -- Pieces that are written one after the other.
 use Rattle.std.proofs.Common.{◌≡◌, ◌==◌, ◌++◌, ◌∷◌, ℕ, Bool, false, List, [], length, map, codes}
-use Rattle.siri_calls.proofs.Written.WrittenLemmas.{two_pieces}
+use Rattle.siri_json.proofs.Pieces.{two_pieces}
 use Rattle.gw_base.specs.declared.messages.Period.{Period}
 use Rattle.reverse_alerts.specs.Senses.{valid_period}
 use Rattle.reverse_alerts.specs.SituationTexts.{periods_text, valid_text}

@@ -16,9 +16,9 @@ use Rattle.journey_model.specs.declared.situation.Ref.TheVariants.{Route, Stop, 
 use Rattle.journey_model.specs.declared.situation.Situation.{Situation}
 use Rattle.journey_model.specs.declared.situation.ValidPeriod.{ValidPeriod}
 use Rattle.serde_json.specs.Data.{Data, string}
-use Rattle.siri_calls.specs.Written.DeliveryTree.{items_of, object_of}
-use Rattle.siri_calls.proofs.Written.SaidAgainIds.{IsUtf8-id, id-at}
-use Rattle.siri_calls.proofs.Written.SaidAgainTrees.{ArePlain, IsPlain}
+use Rattle.siri_json.specs.Trees.{items_of, object_of}
+use Rattle.journey_model.proofs.IdLemmas.{IsUtf8-id, id-at}
+use Rattle.siri_json.proofs.TreesReadAgain.{ArePlain, IsPlain}
 use Rattle.reverse_alerts.specs.Kept.{is_journey, is_route, is_stop}
 use Rattle.reverse_alerts.specs.Sayable.{HasUtf8}
 use Rattle.reverse_alerts.specs.SituationTree.{affects_tree, bound_member, condition_of, delivery_tree, exchange_tree, period_tree, ref_tree, ref_trees, service_tree, situation_tree}

@@ -14,7 +14,7 @@ use Rattle.journey_model.specs.declared.situation.Ref.TheVariants.{Route, Stop, 
 use Rattle.journey_model.specs.declared.situation.Situation.{Situation}
 use Rattle.serde_json.specs.Data.{Data}
 use Rattle.serde_json.specs.Find.{get}
-use Rattle.siri_calls.specs.Written.DeliveryTree.{array_of, members, object_of}
+use Rattle.siri_json.specs.Trees.{array_of, members, object_of}
 use Rattle.siri_json.specs.Forms.{is_object}
 use Rattle.siri_situations.specs.Affected.{affected, day_in_form, journey_reference, known, line_reference, references, stop_reference, unless_none}
 use Rattle.siri_situations.specs.Steps.{gather}

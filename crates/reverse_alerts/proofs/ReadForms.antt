@@ -12,10 +12,10 @@ use Rattle.gw_base.specs.Chains.{◌>>=◌}
 use Rattle.journey_model.specs.declared.fault.Fault.{Fault}
 use Rattle.serde_json.specs.Data.{Data, Members, object, string}
 use Rattle.serde_json.specs.Find.{get}
-use Rattle.siri_calls.specs.Written.DeliveryTree.{array_of, items_of, moment_tree}
+use Rattle.siri_json.specs.Trees.{array_of, items_of, moment_tree}
 use Rattle.siri_json.specs.Fields.{form_at, optional, optional_member, required, required_member}
 use Rattle.siri_json.specs.Forms.{is_object, listed, moment, object_form, objects, text}
-use Rattle.siri_calls.proofs.Written.SaidAgainCalls.{filled-some}
+use Rattle.siri_json.proofs.FormLemmas.{filled-some}
 use Rattle.siri_situations.specs.Steps.{gather}
 use Rattle.reverse_alerts.proofs.Sayable.{is_bound, is_filled}
 

@@ -7,7 +7,7 @@ use Rattle.service_day.specs.declared.zones.Rules.{Rules}
 use Rattle.journey_model.specs.declared.situation.ValidPeriod.{ValidPeriod}
 use Rattle.serde_json.specs.Data.{Data}
 use Rattle.serde_json.specs.Find.{get}
-use Rattle.siri_calls.specs.Written.DeliveryTree.{object_of}
+use Rattle.siri_json.specs.Trees.{object_of}
 use Rattle.siri_json.specs.Fields.{optional_member}
 use Rattle.siri_json.specs.Forms.{is_object, moment}
 use Rattle.siri_situations.specs.Periods.{kept, period, periods, periods_in, seconds, start_in_form}

@@ -16,10 +16,10 @@ use Rattle.journey_model.specs.declared.situation.Ref.{Ref}
 use Rattle.journey_model.specs.declared.situation.Ref.TheVariants.{Route, Stop, Journey}
 use Rattle.serde_json.specs.Data.{Data, null, string}
 use Rattle.serde_json.specs.Find.{get}
-use Rattle.siri_calls.specs.Written.DeliveryTree.{members, object_of}
+use Rattle.siri_json.specs.Trees.{members, object_of}
 use Rattle.siri_json.specs.Fields.{optional_member, required_member}
 use Rattle.siri_json.specs.Forms.{day, text}
-use Rattle.siri_calls.proofs.Written.SaidAgainCalls.{filled-some}
+use Rattle.siri_json.proofs.FormLemmas.{filled-some}
 use Rattle.siri_situations.specs.Affected.{day_in_form}
 use Rattle.siri_situations.specs.Steps.{gather}
 use Rattle.reverse_alerts.specs.Kept.{is_journey, is_route, is_stop}

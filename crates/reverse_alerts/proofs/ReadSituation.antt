@@ -14,7 +14,7 @@ use Rattle.journey_model.specs.declared.situation.ValidPeriod.{ValidPeriod}
 use Rattle.serde_json.specs.Data.{Data, string}
 use Rattle.serde_json.specs.Find.{get}
 use Rattle.service_day.specs.declared.zones.Rules.{Rules}
-use Rattle.siri_calls.specs.Written.DeliveryTree.{array_of, members, object_of}
+use Rattle.siri_json.specs.Trees.{array_of, members, object_of}
 use Rattle.siri_json.specs.Fields.{form_at, optional, optional_member, required_member}
 use Rattle.siri_json.specs.Forms.{is_object, text, whole}
 use Rattle.siri_json.specs.Frame.{repeated_at}

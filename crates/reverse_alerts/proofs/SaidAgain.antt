@@ -9,9 +9,9 @@ use Rattle.timetable.specs.Table.{Table}
 use Rattle.gw_base.specs.Chains.{◌>>=◌}
 use Rattle.journey_model.specs.Schedules.{Schedule}
 use Rattle.journey_model.specs.declared.situation.Situation.{Situation}
-use Rattle.siri_calls.specs.Written.DeliveryTree.{items_of}
+use Rattle.siri_json.specs.Trees.{items_of}
 use Rattle.siri_json.specs.Forms.{listed}
-use Rattle.siri_calls.proofs.Written.SaidAgainTrees.{is_utf8-compact_text, read-compact_text}
+use Rattle.siri_json.proofs.TreesReadAgain.{is_utf8-compact_text, read-compact_text}
 use Rattle.siri_situations.specs.Frame.{items}
 use Rattle.siri_situations.specs.Situations.{verdict, verdicts}
 use Rattle.reverse_alerts.specs.Again.{SaysAgain, taken_again}

@@ -5,7 +5,7 @@ use Rattle.timetable.specs.Table.{Table}
 use Rattle.journey_model.specs.declared.situation.Situation.{Situation}
 use Rattle.serde_json.specs.Data.{Data, string}
 use Rattle.serde_json.specs.Find.{get}
-use Rattle.siri_calls.specs.Written.DeliveryTree.{array_of, moment_tree, object_of}
+use Rattle.siri_json.specs.Trees.{array_of, moment_tree, object_of}
 use Rattle.reverse_alerts.specs.SituationTree.{Named, affects_tree, condition_of, consequences_of, period_tree, periods_member, reason_member, reason_of, situation_tree, text_member}
 use Rattle.reverse_alerts.proofs.Blocks.{block, blocks, found}
 use Rattle.reverse_alerts.proofs.ReadForms.{array_if_any}

@@ -11,9 +11,9 @@ use Rattle.journey_model.specs.declared.situation.Ref.{Ref}
 use Rattle.journey_model.specs.declared.situation.Ref.TheVariants.{Route, Stop, Journey}
 use Rattle.journey_model.specs.declared.situation.Situation.{Situation}
 use Rattle.journey_model.specs.declared.situation.ValidPeriod.{ValidPeriod}
-use Rattle.siri_calls.specs.Written.DeliveryTree.{array_of, items_of, members, moment_tree, object_of}
-use Rattle.siri_calls.specs.Written.DeliveryTexts.{led}
-use Rattle.siri_calls.proofs.Written.WrittenLemmas.{in_front}
+use Rattle.siri_json.specs.Trees.{array_of, items_of, members, moment_tree, object_of}
+use Rattle.siri_json.specs.WrittenTexts.{led}
+use Rattle.siri_json.proofs.Pieces.{in_front}
 use Rattle.reverse_alerts.specs.Kept.{is_journey, is_route, is_stop}
 use Rattle.reverse_alerts.specs.SituationTree.{Named, condition_of, consequences_of, delivery_text, journeys_member, lines_member, period_tree, periods_member, reason_member, reason_of, ref_tree, ref_trees, situation_tree, stops_member, text_member}
 use Rattle.reverse_alerts.specs.SituationTexts.{are_some, affects_text, condition_text, head_text, kind_text, kinds_text, led_if, period_text, periods_text, reason_text, ref_text, refs_text, situation_text, situations_text, tail_text, valid_text}

@@ -14,7 +14,7 @@ use Rattle.journey_model.specs.declared.situation.Ref.{Ref}
 use Rattle.journey_model.specs.declared.situation.Ref.TheVariants.{Route, Stop, Journey}
 use Rattle.journey_model.specs.declared.situation.Situation.{Situation}
 use Rattle.journey_model.specs.declared.situation.ValidPeriod.{ValidPeriod}
-use Rattle.siri_calls.specs.Written.DeliveryTree.{array_of, moment_tree, object_of}
+use Rattle.siri_json.specs.Trees.{array_of, moment_tree, object_of}
 use Rattle.reverse_alerts.specs.Kept.{is_journey, is_route, is_stop}
 
 -- named members

@@ -9,7 +9,7 @@ use crate::selectors::NamedRefs;
 use gw_base::Bytes;
 use journey_model::Ref;
 use service_day::{Day, day_text};
-use siri_calls::{put_comma, put_text};
+use siri_json::{put_comma, put_text};
 use std::alloc::AllocError;
 use timetable::Timetable;
 

@@ -2,7 +2,7 @@
 //! `specs/SituationTexts.antt`.
 ghost use Rattle.std.specs.Prelude.{◌≡◌, ◌++◌, false, All, codes, map, OnOk};
 ghost use Rattle.std.specs.Option.{option_copied};
-ghost use Rattle.siri_calls.specs.Written.DeliveryTexts.{led_moment};
+ghost use Rattle.siri_json.specs.WrittenTexts.{led_moment};
 ghost use Rattle.timetable.specs.Seen.{seen};
 ghost use Rattle.reverse_alerts.specs.Kept.{all_named};
 ghost use Rattle.reverse_alerts.specs.Naming.{AreKnown, refs_of};
@@ -20,7 +20,7 @@ use gw_base::alert_effect::{
     ADDITIONAL_SERVICE, DETOUR, MODIFIED_SERVICE, NO_SERVICE, SIGNIFICANT_DELAYS,
 };
 use gw_base::{Alert, Bytes, Moment, Period, Translation};
-use siri_calls::{put_comma, put_moment, put_text};
+use siri_json::{put_comma, put_moment, put_text};
 use std::alloc::AllocError;
 use timetable::Timetable;
 

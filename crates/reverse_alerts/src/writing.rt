@@ -17,7 +17,7 @@ use crate::selectors::{NamedRefs, count, find_named};
 use crate::write_situation::put_situation;
 use gw_base::{Alert, Bytes, Entity, List, Moment};
 use journey_model::{Fault, Report};
-use siri_calls::{put_comma, put_moment};
+use siri_json::{put_comma, put_moment};
 use std::alloc::{AllocError, Global};
 use timetable::Timetable;
 

@@ -17,4 +17,4 @@ mod writing;
 
 pub use delivery::{Delivery, Item, read_delivery};
 pub use siri_json::DeliveryFault;
-pub use writing::{put_comma, put_moment, put_text, write_delivery};
+pub use writing::write_delivery;

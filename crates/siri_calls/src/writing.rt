@@ -8,14 +8,12 @@ ghost use Rattle.siri_calls.specs.Written.DeliveryTexts.{head_text, tail_text};
 
 mod calls;
 mod journeys;
-mod texts;
 
-pub use calls::put_comma;
 use gw_base::{Bytes, List, Moment};
 use journey_model::{Context, DatedReading};
 use journeys::put_journeys;
+use siri_json::put_moment;
 use std::alloc::{AllocError, Global};
-pub use texts::{put_moment, put_text};
 
 // Adds a delivery up to its journeys.
 fn put_head(out: &mut Bytes) -> Result<(), AllocError>

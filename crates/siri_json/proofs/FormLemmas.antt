@@ -1,5 +1,5 @@
--- What a text of decimal digits says as a number of 64 bits.
-use Rattle.std.proofs.Common.{◌≡◌, refl, ap, ℕ, ◌≤◌, ◌<◌, ◌^◌, List, Result, Ok, Err, length, arith, rules, Bool, true, false, ◌&&◌, if◌then◌else◌}
+-- What a text of decimal digits says as a number of 64 bits, and a text that is filled.
+use Rattle.std.proofs.Common.{◌≡◌, refl, ap, ℕ, ◌≤◌, ◌<◌, ◌^◌, List, Result, Ok, Err, length, arith, rules, [], ◌∷◌, Bool, true, false, ◌&&◌, if◌then◌else◌}
 use Rattle.std.specs.Prelude.{nat_le, nat_lt}
 use Rattle.std.proofs.lemmas.Bool.Decides.{nat_tests}
 use Rattle.std.specs.Char.{is_ascii_digit}
@@ -7,7 +7,7 @@ use Rattle.std.specs.List.{list_all}
 use Rattle.std.specs.Str.Parse.{ParsesUnsigned}
 use Rattle.std.proofs.lemmas.Str.Parse.{IsNumeralModel, numerals_by_fold, parse_digits}
 use Rattle.timetable.specs.Digits.{digits_value}
-use Rattle.siri_json.specs.Forms.{whole_named}
+use Rattle.siri_json.specs.Forms.{filled, whole_named}
 use Rattle.siri_json.specs.declared.forms.Form.{Form}
 use Rattle.siri_json.specs.declared.forms.Form.TheVariants.{Wrong, Found}
 
@@ -42,3 +42,8 @@ whole_not_parsed t r fault is h digits =
     let none = rw is at (parse_digits own 64 t r h digits) in
     wrong_by (nat_le 1 (length t)) (nat_le (length t) 20) (list_all is_ascii_digit t) (nat_lt (digits_value 0 t) (2 ^ 64)) (Found (digits_value 0 t))
     (none_by t _ _ refl refl none)
+
+-- a text that isn't empty is found
+pub filled-some : (t : List ℕ) → 0 < length t → filled t ≡ Found t
+filled-some [] h = absurd (omega arith)
+filled-some (byte ∷ bytes) h = refl

@@ -4,4 +4,6 @@ pub mod Forms
 pub mod Frame
 pub mod Refusals
 pub mod Shown
+pub mod Trees
 pub mod Words
+pub mod WrittenTexts

@@ -7,6 +7,8 @@ pub mod fields;
 pub mod forms;
 pub mod frame;
 mod read_fault;
+mod writing;
 
 pub use delivery::{Delivery, DeliveryFault, Item};
 pub use read_fault::ReadFault;
+pub use writing::{put_comma, put_moment, put_number, put_text};

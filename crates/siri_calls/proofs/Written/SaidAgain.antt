@@ -9,7 +9,7 @@ use Rattle.siri_calls.specs.Written.SaidAgain.{SaysAgain}
 use Rattle.siri_calls.specs.Written.Sayable.{IsSayable}
 use Rattle.siri_calls.proofs.Written.SaidAgainItems.{verdicts-said}
 use Rattle.siri_calls.proofs.Written.SaidAgainPlain.{plain-delivery}
-use Rattle.siri_calls.proofs.Written.SaidAgainTrees.{is_utf8-compact_text, read-compact_text}
+use Rattle.siri_json.proofs.TreesReadAgain.{is_utf8-compact_text, read-compact_text}
 
 pub says_again : (schedule : Schedule) (moment : ℤ) (journeys : List DatedReading) → IsSound schedule.table → IsMoment moment → All (IsSayable schedule) journeys
     → SaysAgain schedule moment journeys (delivery_text schedule moment journeys)

@@ -27,7 +27,8 @@ use Rattle.siri_json.specs.Forms.{filled, flag, text, whole}
 use Rattle.siri_calls.specs.Journeys.{Call}
 use Rattle.siri_calls.specs.Judged.{all_dense, delays_fault, dense, call_reading, extras, fault_of_delay, numbered, placed_calls, reading_at, stop_named, stops_named, stops_read}
 use Rattle.siri_json.specs.declared.forms.Form.TheVariants.{Found}
-use Rattle.siri_calls.proofs.Written.SaidAgainIds.{id-at, position-id, some-id}
+use Rattle.siri_json.proofs.FormLemmas.{filled-some}
+use Rattle.journey_model.proofs.IdLemmas.{id-at, position-id, some-id}
 use Rattle.service_day.proofs.MomentTextLemmas.{moment_of-moment_text, some-moment_text}
 use Rattle.siri_calls.proofs.Written.SaidAgainRuns.{IsSoundRun}
 use Rattle.siri_calls.proofs.DenseLemmas.{other-above}
@@ -58,11 +59,6 @@ said_call run order row reading = record {
   arrival = arrival_said reading;
   departure = departure_said reading;
 }
-
--- a text that isn't empty is found
-pub filled-some : (t : List ℕ) → 0 < length t → filled t ≡ Found t
-filled-some [] h = absurd (omega arith)
-filled-some (byte ∷ bytes) h = refl
 
 -- a call by its members
 call-by : (zone : Rules) (tree : Data) (stop : List ℕ) (order : ℕ) (skip : Bool) (arrival departure : Option ℤ)

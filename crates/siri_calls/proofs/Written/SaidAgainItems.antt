@@ -23,7 +23,8 @@ use Rattle.journey_model.specs.declared.readings.JourneyReading.{JourneyReading}
 use Rattle.journey_model.specs.declared.readings.JourneyReading.TheVariants.{Cancelled, Stops}
 use Rattle.journey_model.specs.declared.readings.StopReading.{StopReading}
 use Rattle.siri_calls.specs.Calls.{call_trees, calls, calls_under}
-use Rattle.siri_calls.specs.Written.DeliveryTree.{call_trees_from, delivery_tree, frame_tree, framed_ref, is_cancelled_journey, items_of, journey_of_run, journey_on, journey_tree, stop_readings, service_tree, timetable_tree}
+use Rattle.siri_calls.specs.Written.DeliveryTree.{call_trees_from, delivery_tree, frame_tree, framed_ref, is_cancelled_journey, journey_of_run, journey_on, journey_tree, stop_readings, service_tree, timetable_tree}
+use Rattle.siri_json.specs.Trees.{items_of}
 use Rattle.siri_json.specs.Fields.{required_member}
 use Rattle.siri_json.specs.Forms.{day, is_object, listed, object_form, text}
 use Rattle.siri_calls.specs.Frame.{Place, delivery_place, frame_place, item_place, items}
@@ -32,8 +33,9 @@ use Rattle.siri_calls.specs.Judged.{extras, journey_read, judged, run_named, tak
 use Rattle.siri_calls.specs.Written.SaidAgain.{said_again, taken_again}
 use Rattle.siri_calls.specs.Written.Sayable.{IsSayable}
 use Rattle.siri_calls.specs.Verdicts.{calls_unless, header, item_read, recorded_at, relation, verdict, verdicts}
-use Rattle.siri_calls.proofs.Written.SaidAgainCalls.{calls-read, filled-some, no-extras, read_from, stops-read}
-use Rattle.siri_calls.proofs.Written.SaidAgainIds.{id-at, position-id, some-id}
+use Rattle.siri_calls.proofs.Written.SaidAgainCalls.{calls-read, no-extras, read_from, stops-read}
+use Rattle.siri_json.proofs.FormLemmas.{filled-some}
+use Rattle.journey_model.proofs.IdLemmas.{id-at, position-id, some-id}
 use Rattle.service_day.proofs.MomentTextLemmas.{day_of-dashed_text, moment_of-moment_text, some-dashed_text, some-moment_text}
 use Rattle.siri_calls.proofs.Written.SaidAgainPlain.{recorded-moment}
 use Rattle.siri_calls.proofs.Written.SaidAgainRuns.{IsSoundRun, sound-run}

@@ -17,12 +17,13 @@ use Rattle.journey_model.specs.declared.readings.DatedReading.{DatedReading}
 use Rattle.journey_model.specs.declared.readings.StopReading.{StopReading}
 use Rattle.journey_model.specs.declared.readings.StopReading.TheVariants.{Absent, Skipped, Timed}
 use Rattle.journey_model.proofs.NearLemmas.{planned_moments, are_moments}
-use Rattle.siri_calls.specs.Written.DeliveryTree.{call_tree, call_trees_from, delivery_tree, frame_tree, items_of, journey_of_run, journey_on, journey_tree, service_tree, stop_readings, timetable_tree}
+use Rattle.siri_calls.specs.Written.DeliveryTree.{call_tree, call_trees_from, delivery_tree, frame_tree, journey_of_run, journey_on, journey_tree, service_tree, stop_readings, timetable_tree}
+use Rattle.siri_json.specs.Trees.{items_of}
 use Rattle.siri_calls.specs.Written.Sayable.{IsSayable}
-use Rattle.siri_calls.proofs.Written.SaidAgainIds.{id-at, IsUtf8-id}
+use Rattle.journey_model.proofs.IdLemmas.{id-at, IsUtf8-id}
 use Rattle.service_day.proofs.MomentTextLemmas.{IsUtf8-dashed_text, IsUtf8-moment_text}
 use Rattle.siri_calls.proofs.Written.SaidAgainRuns.{IsSoundRun, sound-run}
-use Rattle.siri_calls.proofs.Written.SaidAgainTrees.{ArePlain, IsPlain}
+use Rattle.siri_json.proofs.TreesReadAgain.{ArePlain, IsPlain}
 use Rattle.siri_calls.proofs.Written.WrittenTimes.{fits_near}
 
 -- a name of ASCII letters

@@ -14,18 +14,17 @@ use Rattle.journey_model.specs.Schedules.{Schedule, run_on}
 use Rattle.journey_model.specs.declared.readings.DatedReading.{DatedReading}
 use Rattle.journey_model.specs.declared.readings.StopReading.{StopReading}
 use Rattle.journey_model.specs.declared.readings.StopReading.TheVariants.{Absent, Skipped, Timed}
-use Rattle.siri_calls.specs.Written.DeliveryTree.{call_tree, call_trees_from, delivery_text, framed_ref, is_cancelled_journey, items_of, journey_of_run, journey_on, journey_tree, moment_tree, object_of, stop_readings}
-use Rattle.siri_calls.specs.Written.DeliveryTexts.{call_text, calls_text, closing_text, frame_ref_text, head_text, journey_text, journey_text_on, journeys_text, led, led_number, opening_text, tail_text}
+use Rattle.siri_json.proofs.Pieces.{in_front}
+use Rattle.siri_calls.specs.Written.DeliveryTree.{call_tree, call_trees_from, delivery_text, framed_ref, is_cancelled_journey, journey_of_run, journey_on, journey_tree, stop_readings}
+use Rattle.siri_json.specs.Trees.{items_of, moment_tree, object_of}
+use Rattle.siri_calls.specs.Written.DeliveryTexts.{call_text, calls_text, closing_text, frame_ref_text, head_text, journey_text, journey_text_on, journeys_text, opening_text, tail_text}
+use Rattle.siri_json.specs.WrittenTexts.{led, led_number}
 
 call : (run : Run) (order : ℕ) (row : StopRow) (reading : StopReading) → compact_text (call_tree run order row reading) ≡ call_text run order row reading
 unfolding call_text escape_byte led led_number
 call run order row Absent = simp append_assoc
 call run order row Skipped = simp append_assoc
 call run order row (Timed arrival departure) = simp append_assoc
-
--- one more piece in front
-pub in_front : (comma one others one' others' : List ℕ) → one ≡ one' → others ≡ others' → comma ++ (one ++ others) ≡ comma ++ one' ++ others'
-in_front comma one others one' others' first rest = rw (first, rest) (sym (append_assoc comma one' others'))
 
 calls : (run : Run) (rows : List StopRow) (readings : List StopReading) (later : Bool) (order : ℕ)
     → items_text later (items_of (call_trees_from run order rows readings)) ≡ calls_text later run order rows readings
@@ -120,14 +119,3 @@ calls_on run position row reading all later order row-at reading-at =
     rw (dropped run.stops position row row-at, dropped all position reading reading-at) refl
 
 -- ---- pieces written one after the other
-
-pub two_pieces : (out one two a b : List ℕ) → one ≡ out ++ a → two ≡ one ++ b → two ≡ out ++ (a ++ b)
-two_pieces out one two a b first second = second ∙ ap (λ l. l ++ b) first ∙ append_assoc out a b
-
-pub three_pieces : (out one two three a b c : List ℕ) → one ≡ out ++ a → two ≡ one ++ b → three ≡ two ++ c → three ≡ out ++ (a ++ b ++ c)
-three_pieces out one two three a b c first second third = two_pieces out two three (a ++ b) c (two_pieces out one two a b first second) third
-
-pub four_pieces : (out one two three four a b c d : List ℕ) → one ≡ out ++ a → two ≡ one ++ b → three ≡ two ++ c → four ≡ three ++ d
-    → four ≡ out ++ (a ++ b ++ c ++ d)
-four_pieces out one two three four a b c d first second third fourth =
-    two_pieces out three four (a ++ b ++ c) d (three_pieces out one two three a b c first second third) fourth

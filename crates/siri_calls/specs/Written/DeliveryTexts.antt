@@ -1,10 +1,9 @@
 -- The text of a delivery of estimated timetables piece by piece, for the clauses of what writes them. The delivery as a
 -- tree is `delivery_tree` of `DeliveryTree.antt`, and its text is theirs: `proofs/Written/WrittenLemmas.antt`.
-use Rattle.std.specs.Prelude.{ℕ, ℤ, ◌+◌, Bool, true, false, List, [], ◌∷◌, ◌++◌, codes, decimal, unwrap_or, Option, Some, None}
-use Rattle.json.specs.Print.{quoted}
+use Rattle.std.specs.Prelude.{ℕ, ℤ, ◌+◌, Bool, true, false, List, [], ◌∷◌, ◌++◌, codes, unwrap_or, Option, Some, None}
 use Rattle.serde_json.specs.Written.{comma_if}
 use Rattle.service_day.specs.DayTexts.{dashed_text}
-use Rattle.service_day.specs.Utc.{moment_text}
+use Rattle.siri_json.specs.WrittenTexts.{led, led_moment, led_number}
 use Rattle.timetable.specs.Planned.{planned}
 use Rattle.timetable.specs.Table.{Table}
 use Rattle.timetable.specs.declared.stop_row.StopRow.{StopRow}
@@ -15,16 +14,6 @@ use Rattle.journey_model.specs.declared.readings.DatedReading.{DatedReading}
 use Rattle.journey_model.specs.declared.readings.StopReading.{StopReading}
 use Rattle.journey_model.specs.declared.readings.StopReading.TheVariants.{Absent, Skipped, Timed}
 use Rattle.siri_calls.specs.Written.DeliveryTree.{is_cancelled_journey, stop_readings}
-
--- a text as a string, after what leads to it; a moment; and a number in decimal
-unfoldable pub led : List ℕ → List ℕ → List ℕ
-led lead text = lead ++ quoted text
-
-abbrev pub led_moment : List ℕ → ℤ → List ℕ
-led_moment lead secs = led lead (moment_text secs)
-
-unfoldable pub led_number : List ℕ → ℕ → List ℕ
-led_number lead number = lead ++ decimal number
 
 -- an arrival and a departure, each after what leads to it
 abbrev pub times_text : List ℕ → List ℕ → ℤ × ℤ → List ℕ

@@ -4,7 +4,7 @@ use Rattle.std.specs.Prelude.{ℕ, ℤ, ◌+◌, Bool, true, false, List, [], �
 use Rattle.serde_json.specs.Data.{Data, null, boolean, number, string, array, object, unsigned, Items, no_items, item, Members, no_members, member}
 use Rattle.serde_json.specs.Written.{compact_text}
 use Rattle.service_day.specs.DayTexts.{dashed_text}
-use Rattle.service_day.specs.Utc.{moment_text}
+use Rattle.siri_json.specs.Trees.{array_of, moment_tree, object_of}
 use Rattle.timetable.specs.Planned.{planned}
 use Rattle.timetable.specs.declared.stop_row.StopRow.{StopRow}
 use Rattle.journey_model.specs.Ids.{id_of}
@@ -15,25 +15,6 @@ use Rattle.journey_model.specs.declared.readings.JourneyReading.{JourneyReading}
 use Rattle.journey_model.specs.declared.readings.JourneyReading.TheVariants.{Cancelled, Stops}
 use Rattle.journey_model.specs.declared.readings.StopReading.{StopReading}
 use Rattle.journey_model.specs.declared.readings.StopReading.TheVariants.{Absent, Skipped, Timed}
-
--- an object of named members, and an array of trees
-abbrev pub members : List (List ℕ × Data) → Members
-members [] = no_members
-members (one ∷ others) = member one.0 one.1 (members others)
-
-abbrev pub object_of : List (List ℕ × Data) → Data
-object_of named = object (members named)
-
-abbrev pub items_of : List Data → Items
-items_of [] = no_items
-items_of (tree ∷ trees) = item tree (items_of trees)
-
-abbrev pub array_of : List Data → Data
-array_of trees = array (items_of trees)
-
--- a moment as `YYYY-MM-DDThh:mm:ssZ`
-abbrev pub moment_tree : ℤ → Data
-moment_tree secs = string (moment_text secs)
 
 -- the planned times of a stop
 abbrev pub aimed_members : ℤ × ℤ → List (List ℕ × Data)

@@ -6,14 +6,29 @@ ghost use Rattle.timetable.specs.Planned.{planned};
 ghost use Rattle.timetable.specs.Stops.{are_known, is_timed};
 ghost use Rattle.journey_model.specs.Readings.{AreMoments, fits_trip, is_near};
 ghost use Rattle.siri_calls.specs.Written.DeliveryTree.{stop_readings};
-ghost use Rattle.siri_calls.specs.Written.DeliveryTexts.{aimed_text, call_text, calls_text, said_text, stop_text};
+ghost use Rattle.siri_calls.specs.Written.DeliveryTexts.{aimed_text, call_text, calls_text, said_text, stop_text, times_text};
 ghost use Rattle.journey_model.specs.TripRuns.{run_over};
 
-use crate::writing::texts::{put_number, put_text, put_times};
 use gw_base::Bytes;
 use journey_model::{JourneyReading, StopReading, TripRun};
+use siri_json::{put_comma, put_moment, put_number, put_text};
 use std::alloc::AllocError;
 use timetable::StopRow;
+
+// Adds an arrival and a departure, in seconds since 1970, each after what leads to it.
+fn put_times(
+    out: &mut Bytes,
+    leads: (&[u8], &[u8]),
+    arrival: &i64,
+    departure: &i64,
+) -> Result<(), AllocError>
+    requires { IsMoment arrival.now × IsMoment departure.now }
+    ensures { OnOk result (out.new ≡ out.old
+        ++ times_text leads.entry.0.now leads.entry.1.now (arrival.now, departure.now)) }
+{
+    put_moment(out, leads.0, arrival)?;
+    put_moment(out, leads.1, departure)
+}
 
 // Adds the planned times of a stop, with which its call begins.
 fn put_aimed(out: &mut Bytes, times: &(i64, i64)) -> Result<(), AllocError>
@@ -83,16 +98,6 @@ fn reading_at(run: &TripRun<'_>, reading: &JourneyReading, position: usize) -> S
         JourneyReading::Cancelled => StopReading::Skipped,
         JourneyReading::Stops(readings) => readings.as_slice()[position],
     }
-}
-
-/// Adds a comma, where an item or a member stands before (RFC 8259, sections 4 and 5). Err for want of memory.
-pub fn put_comma(out: &mut Bytes, later: bool) -> Result<(), AllocError>
-    ensures { OnOk result (out.new ≡ out.old ++ comma_if later) }
-{
-    if later {
-        return out.push(b',');
-    }
-    Ok(())
 }
 
 /// Adds the calls at all stops of a trip, and the bracket that closes them.

@@ -9,11 +9,11 @@ ghost use Rattle.siri_calls.specs.Written.DeliveryTree.{is_cancelled_journey};
 ghost use Rattle.siri_calls.specs.Written.DeliveryTexts.{closing_text, frame_ref_text, journey_text, journey_text_on, journeys_text, opening_text};
 ghost use Rattle.journey_model.specs.TripRuns.{run_over};
 
-use crate::writing::calls::{put_calls, put_comma};
-use crate::writing::texts::{put_moment, put_text};
+use crate::writing::calls::put_calls;
 use gw_base::{Bytes, Moment};
 use journey_model::{Context, DatedReading, JourneyReading, TripRun};
 use service_day::{Day, day_text};
+use siri_json::{put_comma, put_moment, put_text};
 use std::alloc::AllocError;
 
 // Adds a journey up to its calls.

@@ -1,7 +1,7 @@
 -- What the alert names is known, and the three parts are the situation.
 use Rattle.std.proofs.Common.{◌∙◌, ◌++◌, ap}
 use Rattle.std.proofs.lemmas.Result.{on_ok_weaker}
-use Rattle.siri_calls.proofs.Written.WrittenLemmas.{three_pieces}
+use Rattle.siri_json.proofs.Pieces.{three_pieces}
 use Rattle.timetable.specs.Seen.{seen}
 use Rattle.reverse_alerts.proofs.NamingLemmas.{all_known}
 use Rattle.reverse_alerts.proofs.SituationLemmas.{three_parts}

@@ -1,6 +1,6 @@
 -- Three pieces.
 use Rattle.std.proofs.lemmas.Result.{on_ok_weaker}
-use Rattle.siri_calls.proofs.Written.WrittenLemmas.{three_pieces}
+use Rattle.siri_json.proofs.Pieces.{three_pieces}
 use Rattle.reverse_alerts.proofs.write_situation.put_what.Goals as goal
 
 pub returns : goal.returns

@@ -1,6 +1,6 @@
 -- The four pieces after the journeys.
 use Rattle.std.proofs.lemmas.Result.{on_ok_weaker}
-use Rattle.siri_calls.proofs.Written.WrittenLemmas.{four_pieces}
+use Rattle.siri_json.proofs.Pieces.{four_pieces}
 use Rattle.siri_calls.proofs.writing.put_tail.Goals as goal
 
 pub returns : goal.returns

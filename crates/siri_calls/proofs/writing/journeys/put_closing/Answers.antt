@@ -1,6 +1,6 @@
 -- The three pieces of a journey's end.
 use Rattle.std.proofs.lemmas.Result.{on_ok_weaker}
-use Rattle.siri_calls.proofs.Written.WrittenLemmas.{three_pieces}
+use Rattle.siri_json.proofs.Pieces.{three_pieces}
 use Rattle.siri_calls.proofs.writing.journeys.put_closing.Goals as goal
 
 pub returns : goal.returns

@@ -3,7 +3,7 @@ use Rattle.std.proofs.Common.{◌≡◌, []}
 use Rattle.std.proofs.lemmas.Option.{get_or_from_slice_get}
 use Rattle.std.proofs.lemmas.Result.{on_ok_weaker}
 use Rattle.siri_calls.specs.Written.DeliveryTexts.{journey_text}
-use Rattle.siri_calls.proofs.Written.WrittenLemmas.{four_pieces}
+use Rattle.siri_json.proofs.Pieces.{four_pieces}
 use Rattle.siri_calls.proofs.writing.journeys.put_run.Goals as goal
 use Rattle.journey_model.specs.Ids.{id_of}
 

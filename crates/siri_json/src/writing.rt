@@ -1,9 +1,11 @@
-//! Strings, moments and numbers of JSON, written after what leads to them.
+//! Strings, moments and numbers of JSON, written after what leads to them. The functions meet
+//! `specs/WrittenTexts.antt`.
 ghost use Rattle.std.specs.Prelude.{◌≡◌, ◌++◌, ◌∷◌, [], ◌<◌, IsTrue, OnOk};
 ghost use Rattle.std.specs.Char.{digit_char};
 ghost use Rattle.json.specs.Print.{escape, escape_byte, escape_letter, quoted};
+ghost use Rattle.serde_json.specs.Written.{comma_if};
 ghost use Rattle.gw_base.specs.Moments.{IsMoment};
-ghost use Rattle.siri_calls.specs.Written.DeliveryTexts.{led, led_moment, led_number, times_text};
+ghost use Rattle.siri_json.specs.WrittenTexts.{led, led_moment, led_number};
 
 use gw_base::Bytes;
 use itoa::Buffer;
@@ -101,7 +103,7 @@ fn put_string(out: &mut Bytes, text: &[u8]) -> Result<(), AllocError>
 
 /// Adds what leads to a text, and the text as a string with the escapes that it needs (RFC 8259, section 7). Err for
 /// want of memory.
-#[tactic(auto, unfolding(crate::specs::Written::DeliveryTexts::led))]
+#[tactic(auto, unfolding(crate::specs::WrittenTexts::led))]
 pub fn put_text(out: &mut Bytes, lead: &[u8], text: &[u8]) -> Result<(), AllocError>
     ensures { OnOk result (out.new ≡ out.old ++ led lead.now text.now) }
 {
@@ -118,27 +120,22 @@ pub fn put_moment(out: &mut Bytes, lead: &[u8], secs: &i64) -> Result<(), AllocE
     put_text(out, lead, &write_moment(*secs))
 }
 
-/// Adds an arrival and a departure, in seconds since 1970, each after what leads to it.
-pub(crate) fn put_times(
-    out: &mut Bytes,
-    leads: (&[u8], &[u8]),
-    arrival: &i64,
-    departure: &i64,
-) -> Result<(), AllocError>
-    requires { IsMoment arrival.now × IsMoment departure.now }
-    ensures { OnOk result (out.new ≡ out.old
-        ++ times_text leads.entry.0.now leads.entry.1.now (arrival.now, departure.now)) }
-{
-    put_moment(out, leads.0, arrival)?;
-    put_moment(out, leads.1, departure)
-}
-
-/// Adds what leads to a number, and the number in decimal.
-#[tactic(auto, unfolding(crate::specs::Written::DeliveryTexts::led_number))]
-pub(crate) fn put_number(out: &mut Bytes, lead: &[u8], number: u64) -> Result<(), AllocError>
+/// Adds what leads to a number, and the number in decimal. Err for want of memory.
+#[tactic(auto, unfolding(crate::specs::WrittenTexts::led_number))]
+pub fn put_number(out: &mut Bytes, lead: &[u8], number: u64) -> Result<(), AllocError>
     ensures { OnOk result (out.new ≡ out.old ++ led_number lead.now number) }
 {
     let mut digits = Buffer::new();
     out.extend(lead)?;
     out.extend(digits.format(number).as_bytes())
+}
+
+/// Adds a comma, where an item or a member stands before (RFC 8259, sections 4 and 5). Err for want of memory.
+pub fn put_comma(out: &mut Bytes, later: bool) -> Result<(), AllocError>
+    ensures { OnOk result (out.new ≡ out.old ++ comma_if later) }
+{
+    if later {
+        return out.push(b',');
+    }
+    Ok(())
 }
