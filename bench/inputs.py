@@ -267,6 +267,9 @@ def make(top, name):
 
 
 def main():
+    if sys.argv[1:2] in (['--help'], ['-h']):
+        print(__doc__)
+        return
     if len(sys.argv) < 2 or not set(sys.argv[2:]) <= set(MAKERS):
         sys.exit(__doc__)
     for name in sys.argv[2:] or MAKERS:

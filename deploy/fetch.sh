@@ -225,7 +225,8 @@ for ((count = 1; ; count++)); do
     wait_for=$every
   else
     wait_for=$((2 * wait_for > most ? most : 2 * wait_for))
-    said="${said% }; next in $wait_for s"
+    said=${said% }
+    if [ "$count" -ne "$rounds" ]; then said+="; next in $wait_for s"; fi
   fi
   printf '%s %s\n' "$(date -u +%Y-%m-%dT%H:%M:%SZ)" "$said"
   if [ "$count" -eq "$rounds" ]; then exit "$status"; fi

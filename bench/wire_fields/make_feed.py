@@ -3,6 +3,10 @@
 import random
 import sys
 
+if sys.argv[1:2] in (["--help"], ["-h"]):
+    print(__doc__)
+    sys.exit()
+
 
 def varint(number):
     out = bytearray()

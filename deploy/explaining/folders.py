@@ -3,7 +3,7 @@
 import difflib
 import os
 
-from reading.folder import FILES, KEYS, NAMES_OF, records
+from reading.folder import FILES, KEYS, MOST_ID_BYTES, MOST_ROWS_OF_A_TRIP, NAMES_OF, records
 
 from .rules import COLUMN
 
@@ -106,11 +106,25 @@ def row(folder, name, number, column, kind):
         lines.append(f"{column} is {value!r}" + (f"; it has to be {COLUMN[FILES[name][0][column]]}" if kind == "BadField" else ""))
     if kind == "Duplicate":
         lines += earlier(name, data, header, fields, number)
+    if kind == "Limit":
+        lines.append(limit_of(name, fields, number))
     if kind == "NotUtf8":
         lines.append("is it Latin-1? iconv -f latin1 -t utf-8 turns it into UTF-8")
     if kind == "BadField" and not "".join(fields).strip():
         lines.append("it is a line of blanks: take it out")
     return lines
+
+
+def limit_of(name, fields, number):
+    """Which of the limits the row is over."""
+    most = FILES[name][1]
+    if number > most:
+        what = name.removesuffix(".txt").replace("_", " ")
+        return f"a folder may have at most {most:,} {what}: cut it by operator or by line, and give each part a gateway"
+    long = [field for field in fields if len(field.encode()) > MOST_ID_BYTES]
+    if long:
+        return f"{long[0][:40]!r}.. has {len(long[0].encode())} bytes, and an id at most {MOST_ID_BYTES}"
+    return f"its trip has over {MOST_ROWS_OF_A_TRIP} rows"
 
 
 def value_in(header, fields, column):

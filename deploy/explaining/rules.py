@@ -3,15 +3,15 @@
 ITEM = {
     "BadField": "A member that is read is missing or has another form. One such member sets its whole item aside, however "
                 "many others are right.",
-    "AddedJourney": "ExtraJourney is true: the journey isn't in the timetable, and only trips of the folder are carried.",
-    "UnknownJourney": "No trip of trips.txt has this id, or the trip stands in frequencies.txt, whose trips aren't carried.",
+    "AddedJourney": "ExtraJourney is true: the timetable doesn't have this journey, and the gateway carries only trips of the folder.",
+    "UnknownJourney": "No trip of trips.txt has this id, or frequencies.txt has the trip: the gateway doesn't carry those.",
     "OutOfWindow": "The service day isn't among those of --from and --days; a server's window moves with the clock and --keep.",
     "NotRunning": "By calendar.txt and calendar_dates.txt the trip doesn't run on this service day.",
     "UnknownStop": "The trip doesn't stop at this stop_id. One such call sets the whole journey aside.",
     "OutOfOrder": "The call matches no stop of the trip after the stop of the call before: calls come in the trip's order, "
                   "the recorded ones first, each stop once.",
     "DelayRange": "The time is over 7 days (604,800 seconds) away from the planned one: probably another service day or a wrong date.",
-    "Full": "As many journeys (50,000 in the window) or situation numbers (5,000 since the start) as may be are kept already.",
+    "Full": "The gateway keeps its most already: 50,000 journeys in the window, or 5,000 situation numbers since the start.",
     "NoAffects": "The situation names nothing in one of the three ways that are read: Networks..LineRef, StopPoints..StopPointRef, "
                  "VehicleJourneys..FramedVehicleJourneyRef.",
     "UnknownRef": "None of the things that it names is in the folder; the member is that of the first one.",
@@ -23,11 +23,11 @@ ITEM = {
     "NoTime": "The update is SCHEDULED and has neither a time nor a delay.",
 }
 # What stays when an item is set aside.
-STAYS = "What was known of that journey or situation before stays served until a later record of it is taken."
+STAYS = "The gateway serves what it knew before of that journey or situation until it accepts a later record of it."
 
 BODY = {
     "NotJson": "A delivery is one text of JSON in UTF-8, without a byte order mark and not compressed.",
-    "NotDelivery": "On the way down to the items this member is missing or has another form.",
+    "NotDelivery": "The delivery lacks this member above its items, or the member has another form.",
     "Wire": "A feed is a FeedMessage of GTFS Realtime in protobuf, not compressed.",
     "NotText": "A text of the feed isn't UTF-8.",
     "MissingField": "A field that GTFS Realtime 2.0 requires is missing.",
@@ -67,7 +67,7 @@ HTTP = {
     "Method": "/gtfs-rt and /siri/et have GET and POST, /siri/sx has POST.",
     "TooLarge": "A body has at most 16,777,216 bytes: post journeys in several deliveries.",
     "TooManyFields": "The head has over 16,384 bytes or over 64 header lines.",
-    "Clock": "The machine's clock tells no moment of the years that are served.",
-    "Memory": "There was no memory for this body: post it again.",
+    "Clock": "The machine's clock is outside the years that the gateway serves: set it.",
+    "Memory": "The gateway had no memory for this body: post it again.",
     "Journal": "The journal's disk failed: see the disk.",
 }

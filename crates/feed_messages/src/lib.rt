@@ -1,6 +1,7 @@
-//! The messages of GTFS Realtime 2.0 in protobuf's encoding, as the crates above have them: those of `feed_writing` and
-//! of `feed_reading`, which don't know each other, and what holds of both. What is written means what it was written
-//! from, and is read again as that.
+//! The messages of GTFS Realtime 2.0 in protobuf's encoding, as the crates above have them: those of `feed_writing`
+//! and of `feed_reading`, on which it stands and which don't know each other, and what holds of both. Its point is
+//! `a_written_feed_is_meant_law`, that what is written means what it was written from, and clause `again` of
+//! `read_feed`, that it is read again as that.
 #![tactic(auto)]
 
 mod laws;

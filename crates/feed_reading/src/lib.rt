@@ -1,6 +1,7 @@
 //! What bytes mean as a feed of GTFS Realtime 2.0 in protobuf's encoding, by `specs/Tables.antt`, and the readers that
-//! find it: the quick one first; where it finds no feed, the finder of the one fault, by `specs/Faults.antt`. A feed is
-//! read whole, or over any pieces. How messages are written is no part of it.
+//! find it: the quick one first; where it finds no feed, the finder of the one fault, by `specs/Faults.antt`. It
+//! stands on `wire_fields`; how messages are written is no part of it. Its point is `read_feed`: what the bytes mean,
+//! or exactly the fault of least place; `FeedReader` gives the same over any pieces.
 #![tactic(auto)]
 
 mod fault;

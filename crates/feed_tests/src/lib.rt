@@ -1,6 +1,7 @@
 //! The public calls of the crates that read and write GTFS Realtime and of those that turn it into SIRI and back, as
-//! their callers call them. They stand apart from those crates, since the tests of a crate are proved with its whole
-//! text.
+//! their callers call them. It stands on `test_folder` and on the crates that it calls; it stands apart from those,
+//! since the tests of a crate are proved with its whole text. Its point is that each call answers a first good case
+//! with something, which its contract alone would let it refuse for want of memory.
 #![tactic(auto)]
 
 #[cfg(test)]

@@ -20,16 +20,16 @@ SCHEDULE  --gtfs DIR ZONE --from DAY --days N: a GTFS Schedule folder, its zone,
 ZONE      --zone-rule RULE, a POSIX rule, or --zone-file FILE, a TZif file, such
           as /usr/share/zoneinfo/Europe/Paris
 DAY       YYYY-MM-DD; of serve, any day that is over
-K         how many days before the present one stay, below N and at most 31
+K         how many past days the window keeps, below N and at most 31
 ADDRESS   where connections are taken, such as 127.0.0.1:8080
 C         how many connections are served, from 1 to 4294967295
-MOMENT    when the result is made, in UTC: YYYY-MM-DDThh:mm:ssZ
+MOMENT    the moment of the result, in UTC: YYYY-MM-DDThh:mm:ssZ
 FILE      a delivery in JSON (--et, --sx), or a feed in protobuf (--feed)
 X, T, S   the numbers of a sample: a seed, from 0 to 2147483647, how many trips,
           from 1 to 20000, and at how many stops each stops, from 2 to 100
 
-serve takes deliveries and feeds by POST, and answers with a feed and a SIRI
-delivery by GET; its window of days rolls on with the clock:
+serve accepts deliveries and feeds by POST, and answers GET with a feed and a
+SIRI delivery; its window of days moves with the clock:
   ./gateway serve --gtfs FOLDER --zone-file /usr/share/zoneinfo/Europe/Paris \\
     --from 2026-11-28 --days 3 --keep 1 --listen 127.0.0.1:8080 \\
     --connections 1000000
@@ -51,15 +51,15 @@ show prints how each stop of the journeys of a feed reads:
   ./gateway show --gtfs examples/sample \\
     --zone-rule CET-1CEST,M3.5.0,M10.5.0/3 --from 2024-05-01 --days 2 \\
     --feed examples/late.pb
-make takes a folder and deliveries that it makes of three numbers through the
-whole way, reads no file, and counts what the feed says of all stops:
+make generates a folder and deliveries from three numbers, runs them end to
+end without reading files, and counts what the feed says of all stops:
   ./gateway make --seed 0 --trips 1 --stops 3
 
-Standard output gets the result, standard error a report on each file or why
-there is no result; of show, the report ends the result; of serve, each answer
-has its own. Statuses: 0 done, 2 bad words (word K, counted from 0, which is the
-command, can't stand there), 65 bad input, 66 a missing file, 71 no memory, 74 a
-failed device.
+The result goes to standard output. Standard error gets a report on each file,
+or the reason why there is no result; show ends its result with the report, and
+serve answers each body with one. Statuses: 0 done, 2 bad words (word K, counted
+from 0, which is the command, can't stand there), 65 bad input, 66 a missing
+file, 71 no memory, 74 a file, a stream or the network failed.
 ";
 
 // The most bytes of a word: Linux takes no longer one.

@@ -1,5 +1,7 @@
-//! Connections, one after the other: each is read, answered and logged over a gateway (RFC 9112). What an entry of the
-//! log may be is `IsLawful` of `specs/Log.antt`.
+//! Connections, one after the other: each is read, answered and logged over a gateway (RFC 9112). It stands on
+//! `gateway_core`, which keeps what was taken, and on `door_talk`, which reads requests. Its point is `serve_one`: the
+//! entry of the log is `IsLawful` of `specs/Log.antt` after what arrived before it; and
+//! `what_is_well_formed_is_taken_law`, over each entry of such a log.
 #![tactic(auto)]
 
 mod answers;

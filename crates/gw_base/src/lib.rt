@@ -1,5 +1,8 @@
-//! What every layer of the gateway stands on: texts, lists and buffers, moments, and the traits of the
-//! outside (files, sinks, a door of connections, a clock) with objects in memory that keep them.
+//! What every layer of the gateway stands on: texts, lists and buffers, moments, the messages of GTFS Realtime as
+//! types, and the traits of the outside (files, sinks, a door of connections, a clock) with objects in memory that
+//! keep what they are given. It stands on no crate of this repository. Its point is what a device promises: the
+//! clauses of `Files`, `Sink`, `Door` and `Clock`, and `put_all`, which hands a whole text to a sink or tells that it
+//! failed.
 #![tactic(auto)]
 
 pub mod alert_cause;

@@ -1,5 +1,7 @@
 //! Request heads and answers of HTTP/1.1 (RFC 9112): what a connection's bytes ask for, which is `IsRequest` of
-//! `specs/Request.antt`, and the bytes of an answer, which are those of `specs/Answers.antt`.
+//! `specs/Request.antt`, and the bytes of an answer, which are those of `specs/Answers.antt`. It stands on `gw_base`,
+//! and on `httparse` for header lines. Its point is `HeadReader::feed`: over any pieces of an input it gives the head
+//! or the refusal that the whole input has, and an input has one alone.
 #![tactic(auto)]
 
 mod answer;

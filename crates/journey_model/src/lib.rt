@@ -1,7 +1,8 @@
 //! What journeys read as: the readings of stops and journeys, how calls and updates are matched to the stops of a
 //! trip, the faults for which an item is set aside, reports, and situations. The definitions of propagation and of
-//! what a feed says stand here, since several layers cite them. Nothing in this crate takes memory but the lines of a
-//! report.
+//! what a feed says stand here, since several layers cite them. It stands on `stop_schedule`. Its point is
+//! `match_call`, beside `match_update`: the stop that is meant, or the fault, exactly by the rules. Only the lines of
+//! a report take memory.
 #![tactic(auto)]
 
 mod context;

@@ -1,6 +1,8 @@
 //! A GTFS Realtime feed becomes what it says of every stop of every journey: delays are propagated along a trip, and
-//! the updates of a feed are read over a timetable. The definitions stand in `journey_model`; those of a feed that is
-//! read, whole or entity by entity, in `specs/Feeds.antt` and `specs/Folding.antt`.
+//! the updates of a feed are read over a timetable. It stands on `journey_model`, which has the definitions; those of
+//! a feed that is read, whole or entity by entity, are `specs/Feeds.antt` and `specs/Folding.antt`. Its point is
+//! `readings_of`: the readings of a feed's journeys, or their first faults; `ReadingFold` gives the same of entities
+//! that come one by one.
 #![tactic(auto)]
 
 mod dating;

@@ -1,6 +1,7 @@
 //! A sample is run through the whole path: its made folder is read, its deliveries are taken by the gateway's state,
-//! the feed is written, read again and propagated, and what it says of all stops is counted. The order of work is
-//! `specs/Sample.antt`, and what is counted `specs/Counts.antt`.
+//! the feed is written, read again and propagated, and what it says of all stops is counted. It stands on
+//! `sample_maker` and `gateway_core`. Its point is `run_sample`: the counts are those of `specs/Counts.antt`, in the
+//! order of work of `specs/Sample.antt`.
 #![tactic(auto)]
 
 mod counting;

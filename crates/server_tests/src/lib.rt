@@ -1,6 +1,8 @@
 //! The public calls of the crates that keep and serve (span_pool, feed_index, gateway_core, http_talk, door_talk,
-//! tcp_door, gateway_server) and of those that make samples, as their callers call them. They stand apart from those
-//! crates, since the tests of a crate are proved with its whole text.
+//! tcp_door, gateway_server) and of those that make samples, as their callers call them. It stands on `test_folder`
+//! and on these crates; it stands apart from them, since the tests of a crate are proved with its whole text. Its
+//! point is that each call answers a first good case with something, which its contract alone would let it refuse for
+//! want of memory.
 #![tactic(auto)]
 
 #[cfg(test)]

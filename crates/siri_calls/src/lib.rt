@@ -1,5 +1,7 @@
-//! Deliveries of estimated timetables (SIRI 2.0, in JSON after SIRI Lite): what each journey of one
-//! says.
+//! Deliveries of estimated timetables (SIRI 2.0, in JSON after SIRI Lite): what each journey of one says, and how one
+//! is written. It stands on `siri_json` for the frame and the forms, and on `journey_model` for stops and faults. Its
+//! point is `read_delivery`, clause `reads`: each journey is a record with a reading for every stop, or its first
+//! fault; and `write_delivery`, whose text is exactly that of its definition.
 #![tactic(auto)]
 
 mod call_reading;

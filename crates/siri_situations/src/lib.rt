@@ -1,5 +1,7 @@
-//! Deliveries of situations (SIRI 2.0, SituationExchangeDelivery, in JSON after SIRI Lite): what each
-//! situation of one says.
+//! Deliveries of situations (SIRI 2.0, SituationExchangeDelivery, in JSON after SIRI Lite): what each situation of one
+//! says. It stands on `siri_json` for the frame and the forms, and on `journey_model`, which has the situations. Its
+//! point is `read_situations`: each item is what the rules say, or its first fault, and what it affects is known in
+//! the timetable.
 #![tactic(auto)]
 
 mod affected;

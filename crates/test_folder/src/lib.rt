@@ -1,5 +1,6 @@
-//! What the tests read over: a sample folder, timetables of files in memory, the zone of Paris, and windows from
-//! 2024-05-01 on.
+//! What the crates of tests read over: a sample folder, timetables of files in memory, the zone of Paris, and windows
+//! from 2024-05-01 on. It stands on `stop_schedule`. It promises nothing of its own: its calls hand on what
+//! `read_timetable` answers for texts that the tests see.
 #![tactic(auto)]
 
 use gw_base::{Bytes, List, MemoryFiles, Text};

@@ -1,5 +1,7 @@
-//! The wire grammar of protobuf: the fields of a message, written and read.
-//! What is written meets `specs/Spelling.antt`, and what is read `specs/Grammar.antt` and `specs/Breaks.antt`.
+//! The wire grammar of protobuf: the fields of a message, written and read. What is written meets
+//! `specs/Spelling.antt`, and what is read `specs/Grammar.antt` and `specs/Breaks.antt`. It stands on `gw_base`. Its
+//! point is `next_field`: the next field, or the break of the bytes, of which there is exactly one or none
+//! (`fields_or_a_break_law`); `TopReader` finds both over any pieces.
 #![tactic(auto)]
 
 mod fault;

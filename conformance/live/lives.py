@@ -19,7 +19,7 @@ from trials.siri_cases import Journeys, Situations, random_body
 from trials.store import files_below
 from trials.worlds import TripRow, World, folder_files, random_services, random_stops, random_world
 
-CHECKOUT = pathlib.Path(__file__).resolve().parent.parent
+CHECKOUT = pathlib.Path(__file__).resolve().parent.parent.parent
 EXAMPLE = CHECKOUT / "examples/riverside"
 LONDON = "GMT0BST,M3.5.0/1,M10.5.0"
 FAR_DAYS = ["2037-03-29", "2037-06-12", "2037-10-25", "2096-02-29", "2399-12-31", "9997-12-31"]
