@@ -23,10 +23,9 @@ use Rattle.journey_model.proofs.NearLemmas.{are_moments}
 use Rattle.siri_calls.specs.Calls.{call, calls, event, statuses}
 use Rattle.siri_calls.specs.Written.DeliveryTree.{call_tree, call_trees_from}
 use Rattle.siri_json.specs.Fields.{optional_member, required_member}
-use Rattle.siri_json.specs.Forms.{filled, flag, text, whole}
+use Rattle.siri_json.specs.Forms.{flag, text, whole}
 use Rattle.siri_calls.specs.Journeys.{Call}
 use Rattle.siri_calls.specs.Judged.{all_dense, delays_fault, dense, call_reading, extras, fault_of_delay, numbered, placed_calls, reading_at, stop_named, stops_named, stops_read}
-use Rattle.siri_json.specs.declared.forms.Form.TheVariants.{Found}
 use Rattle.siri_json.proofs.FormLemmas.{filled-some}
 use Rattle.journey_model.proofs.IdLemmas.{id-at, position-id, some-id}
 use Rattle.service_day.proofs.MomentTextLemmas.{moment_of-moment_text, some-moment_text}

@@ -1,7 +1,7 @@
 -- The delivery of estimated timetables that says how journeys read (SIRI 2.0, EstimatedTimetableDelivery; in JSON after
 -- SIRI Lite): its tree and its text. The members of each object come in the order of their names' bytes.
 use Rattle.std.specs.Prelude.{ℕ, ℤ, ◌+◌, Bool, true, false, List, [], ◌∷◌, ◌++◌, map, codes, unwrap_or, Option, Some, None}
-use Rattle.serde_json.specs.Data.{Data, null, boolean, number, string, array, object, unsigned, Items, no_items, item, Members, no_members, member}
+use Rattle.serde_json.specs.Data.{Data, null, boolean, number, string, unsigned}
 use Rattle.serde_json.specs.Written.{compact_text}
 use Rattle.service_day.specs.DayTexts.{dashed_text}
 use Rattle.siri_json.specs.Trees.{array_of, moment_tree, object_of}

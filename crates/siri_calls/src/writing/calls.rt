@@ -1,6 +1,5 @@
 //! The calls of a journey (SIRI 2.0, EstimatedCall), written. The functions meet `specs/Written/DeliveryTexts.antt`.
 ghost use Rattle.std.specs.Prelude.{◌≡◌, ◌++◌, ◌+◌, ◌<◌, true, false, length, slice_get, Some, OnOk};
-ghost use Rattle.serde_json.specs.Written.{comma_if};
 ghost use Rattle.gw_base.specs.Moments.{IsMoment};
 ghost use Rattle.timetable.specs.Planned.{planned};
 ghost use Rattle.timetable.specs.Stops.{are_known, is_timed};
