@@ -15,7 +15,7 @@ WEEKDAYS = ("monday", "tuesday", "wednesday", "thursday", "friday", "saturday", 
 # The columns that are read of each file, in their order, with their forms; and how many rows there may be.
 FILES = {
     "agency.txt": ({"agency_timezone": "any"}, 10_000),
-    "stops.txt": ({"stop_id": "id"}, 100_000),
+    "stops.txt": ({"stop_id": "id", "parent_station": "parent"}, 100_000),
     "routes.txt": ({"route_id": "id"}, 100_000),
     "trips.txt": ({"trip_id": "id", "route_id": "id", "service_id": "id"}, 200_000),
     "calendar.txt": (
@@ -41,6 +41,7 @@ FILES = {
     ),
 }
 OPTIONAL = ("calendar.txt", "calendar_dates.txt", "frequencies.txt")
+OPTIONAL_COLUMNS = (("stops.txt", "parent_station"),)
 
 # Which columns name something of an earlier file.
 NAMES_OF = {
@@ -92,12 +93,17 @@ class Timetable:
 
     trips: list
     stop_ids: set
+    stations: dict
     route_ids: set
     calendar: dict
     exceptions: dict
 
     def __post_init__(self):
         self.trip_numbers = {trip.id: i for i, trip in enumerate(self.trips)}
+
+    def station_of(self, stop):
+        """A stop's parent, or else the stop itself; a parent's own parent doesn't matter."""
+        return self.stations[stop]
 
     def runs(self, trip, day):
         service = self.trips[trip].service
@@ -170,14 +176,14 @@ def read_table(name, data, tables):
     rows = records(data)
     header = [column.strip(b" \t") for column in next(rows, [])]
     for column in forms:
-        if column.encode() not in header:
+        if column.encode() not in header and (name, column) not in OPTIONAL_COLUMNS:
             raise FolderFault(f"NoColumn {name} {column}")
-    places = {column: header.index(column.encode()) for column in forms}
+    places = {column: header.index(column.encode()) for column in forms if column.encode() in header}
     table, seen, of_trips = [], set(), {}
     for number, row in enumerate(rows, 1):
         fields = {
-            column: row[place].strip(b" \t") if place < len(row) else b""
-            for column, place in places.items()
+            column: row[places[column]].strip(b" \t") if places.get(column, len(row)) < len(row) else b""
+            for column in forms
         }
         values = read_row(name, number, fields, forms)
         limit_row(name, number, values, fields, most_rows, of_trips)
@@ -193,7 +199,17 @@ def read_table(name, data, tables):
                 raise FolderFault(f"Duplicate {name} {number}")
             seen.add(key)
         table.append(values)
+    if name == "stops.txt":
+        look_for_parents(table)
     return Table(table)
+
+
+def look_for_parents(stops):
+    """After all rows: the first whose parent is no stop of the file."""
+    ids = {row["stop_id"] for row in stops}
+    for number, row in enumerate(stops, 1):
+        if row["parent_station"] and row["parent_station"] not in ids:
+            raise FolderFault(f"Unknown stops.txt {number} parent_station")
 
 
 class Table(list):
@@ -226,7 +242,7 @@ def read_row(name, number, fields, forms):
 
 def limit_row(name, number, values, fields, most_rows, of_trips):
     forms, _ = FILES[name]
-    too_long = any(form == "id" and len(fields[c]) > MOST_ID_BYTES for c, form in forms.items())
+    too_long = any(form in ("id", "parent") and len(fields[c]) > MOST_ID_BYTES for c, form in forms.items())
     if name == "stop_times.txt":
         of_trips[values["trip_id"]] = of_trips.get(values["trip_id"], 0) + 1
         too_long = too_long or of_trips[values["trip_id"]] > MOST_ROWS_OF_A_TRIP
@@ -258,6 +274,7 @@ UNTIMED = -1
 FORMS = {
     "any": lambda text: text,
     "id": lambda text: text or None,
+    "parent": lambda text: text,
     "flag": lambda text: {"0": False, "1": True}.get(text),
     "exception": lambda text: {"1": 1, "2": 2}.get(text),
     "date": read_compact_day,
@@ -295,6 +312,7 @@ def timetable(tables):
     return Timetable(
         trips=list(trips.values()),
         stop_ids=ids_of(tables["stops.txt"], "stops.txt"),
+        stations={row["stop_id"]: row["parent_station"] or row["stop_id"] for row in tables["stops.txt"]},
         route_ids=ids_of(tables["routes.txt"], "routes.txt"),
         calendar={
             row["service_id"]: (row["start_date"], row["end_date"], [row[day] for day in WEEKDAYS])

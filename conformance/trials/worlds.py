@@ -137,7 +137,7 @@ def folder_files(dice, trips, stops, routes, services, frequencies):
         dice.shuffle(times)
     tables = {
         "agency.txt": (["agency_timezone"], [["Europe/Paris"]] * dice.choice((0, 1, 1, 2))),
-        "stops.txt": (["stop_id"], [[stop] for stop in stops]),
+        "stops.txt": stop_table(dice, stops),
         "routes.txt": (["route_id"], [[route] for route in routes]),
         "trips.txt": (
             ["trip_id", "route_id", "service_id"],
@@ -157,6 +157,17 @@ def folder_files(dice, trips, stops, routes, services, frequencies):
             continue
         files[f"g/{name}"] = csv_text(dice, columns, rows)
     return files
+
+
+def stop_table(dice, stops):
+    """The stops, now and then with their parents: other stops, themselves, or stations that no trip calls at."""
+    if not dice.one_in(3):
+        return ["stop_id"], [[stop] for stop in stops]
+    names = [*stops, *dice.choice(([], [], ["station"], ["\u00e9 station", "y" * 200]))]
+    rows = [[name, dice.choice(("", *names))] for name in names]
+    if dice.one_in(3):
+        dice.shuffle(rows)
+    return ["stop_id", "parent_station"], rows
 
 
 def csv_text(dice, columns, rows):
@@ -250,7 +261,7 @@ BY_COLUMN = {
     "arrival_time": TIMES, "departure_time": TIMES, "date": DATES, "start_date": DATES, "end_date": DATES,
     "exception_type": ["", "0", "1", "2", "3", "01"],
     "agency_timezone": ["", "Europe/Paris", "Europe/Rome", "europe/paris"],
-    "trip_id": IDS, "stop_id": IDS, "route_id": IDS, "service_id": IDS,
+    "trip_id": IDS, "stop_id": IDS, "parent_station": IDS, "route_id": IDS, "service_id": IDS,
 }
 BY_COLUMN |= {day: FLAGS for day in WEEKDAYS}
 

@@ -13,6 +13,7 @@ use std::io::ErrorKind;
 
 const MOST_FILE: u64 = 268_435_456;
 const MOST_ID: usize = 200;
+const MAY_BE_MISSING: &str = "parent_station";
 const MOST_STOPS_OF_TRIP: usize = 250;
 const UNTIMED: u32 = u32::MAX;
 
@@ -188,16 +189,19 @@ fn read_rows<const N: usize>(
     let mut builder = csv::ReaderBuilder::new();
     let mut reader = builder.has_headers(false).flexible(true).buffer_capacity(1 << 16).from_reader(opened);
     let mut record = ByteRecord::new();
-    let mut places = [0; N];
+    let mut places = [None; N];
     reader.read_byte_record(&mut record).map_err(|_| Exit::Failed)?;
     for (place, column) in places.iter_mut().zip(columns) {
         let found = record.iter().position(|name| trim(name) == column.as_bytes());
-        *place = found.ok_or_else(|| Exit::Refused(format!("NoColumn {file} {column}")))?;
+        if found.is_none() && *column != MAY_BE_MISSING {
+            return Err(Exit::Refused(format!("NoColumn {file} {column}")));
+        }
+        *place = found;
     }
     let mut number = 0;
     while reader.read_byte_record(&mut record).map_err(|_| Exit::Failed)? {
         number += 1;
-        let fields = places.map(|place| trim(record.get(place).unwrap_or(b"")));
+        let fields = places.map(|place| trim(place.and_then(|place| record.get(place)).unwrap_or(b"")));
         take(Row { file, number, most_rows, columns, fields })?;
     }
     Ok(true)
@@ -219,17 +223,28 @@ pub fn read_folder(folder: &str) -> Result<Timetable, Exit> {
     })?;
     need(there, "agency.txt")?;
 
-    let read_ids = |file, columns, ids: &mut Ids| {
-        let there = read_rows(folder, file, columns, 100_000, |row| {
-            let [id] = row.texts()?;
-            row.id(0)?;
-            row.limits(&[0])?;
-            row.once(ids.insert(id).1)
-        })?;
-        need(there, file)
-    };
-    read_ids("stops.txt", &["stop_id"], &mut table.stop_ids)?;
-    read_ids("routes.txt", &["route_id"], &mut table.route_ids)?;
+    let mut parents: Vec<(u32, Box<str>)> = Vec::new();
+    let there = read_rows(folder, "stops.txt", &["stop_id", MAY_BE_MISSING], 100_000, |row| {
+        let [id, parent] = row.texts()?;
+        row.id(0)?;
+        row.limits(&[0, 1])?;
+        if !parent.is_empty() {
+            parents.push((row.number, parent.into()));
+        }
+        row.once(table.stop_ids.insert(id).1)
+    })?;
+    need(there, "stops.txt")?;
+    if let Some((number, _)) = parents.iter().find(|(_, parent)| table.stop_ids.find(parent.as_bytes()).is_none()) {
+        return Err(Exit::Refused(format!("Unknown stops.txt {number} {MAY_BE_MISSING}")));
+    }
+
+    let there = read_rows(folder, "routes.txt", &["route_id"], 100_000, |row| {
+        let [id] = row.texts()?;
+        row.id(0)?;
+        row.limits(&[0])?;
+        row.once(table.route_ids.insert(id).1)
+    })?;
+    need(there, "routes.txt")?;
 
     let there = read_rows(folder, "trips.txt", &["trip_id", "route_id", "service_id"], 200_000, |row| {
         let [trip, _, service] = row.texts()?;

@@ -1,12 +1,12 @@
 -- Faults of rows, and places of columns.
-use Rattle.std.proofs.Common.{◌≡◌, ◌∙◌, ◌<◌, ◌+◌, ℕ, Bool, true, false, List, [], ◌∷◌, ◌++◌, length, Option, Some, None, Result, Ok, Err, refl, ap, sym, arith, append_assoc, drop, get_or, add-one, drop-cons}
+use Rattle.std.proofs.Common.{cond, ◌≡◌, ◌∙◌, ◌<◌, ◌+◌, ℕ, Bool, true, false, List, [], ◌∷◌, ◌++◌, length, Option, Some, None, Result, Ok, Err, refl, ap, sym, arith, append_assoc, drop, get_or, add-one, drop-cons}
 use Rattle.std.specs.Str.{is_utf8}
 use Rattle.std.specs.Option.{option_or}
 use Rattle.std.specs.Bool.{MatchBool}
 use Rattle.std.specs.Prelude.{⊤}
 use Rattle.gw_base.specs.Chains.{ok_map}
 use Rattle.stop_schedule.specs.Faults.{all_text, first_fault}
-use Rattle.stop_schedule.specs.Layout.{columns}
+use Rattle.stop_schedule.specs.Layout.{is_optional}
 use Rattle.stop_schedule.specs.Columns.{column_name}
 use Rattle.stop_schedule.specs.Rows.{column}
 use Rattle.stop_schedule.specs.Sheet.{Row, nth, place_then, places_of}
@@ -14,6 +14,7 @@ use Rattle.stop_schedule.specs.declared.table_file.TableFile.{TableFile}
 use Rattle.stop_schedule.specs.declared.column.Column.{Column}
 use Rattle.stop_schedule.specs.declared.forms.Form.{Form}
 use Rattle.stop_schedule.specs.declared.table_fault.TableFault.{TableFault}
+use Rattle.stop_schedule.specs.declared.table_fault.TableFault.TheVariants.{NoColumn}
 
 -- where the first of some columns has no text, not all have
 pub first-no-text : (at : ℕ) (columns : List (Column × Form)) (row : Row) → 0 < length columns
@@ -42,6 +43,22 @@ step-place file names items i d before place all within at so_far =
     so_far ∙ ap (λ later. join (places_of file names later)) cell
     ∙ ap (λ (found : Option ℕ). join (place_then file (get_or items i d).0 found rest)) at
     ∙ one-place before place rest
+
+-- a column that is left out, since it may be missing
+pub step-past : (file : TableFile) (names : Row) (items : List (Column × Form)) (i : ℕ) (d : Column × Form)
+    (before : List ℕ) (all : Result (List ℕ) TableFault)
+    → i < length items → column (column_name (get_or items i d).0) names ≡ None
+    → is_optional (get_or items i d).0 ≡ true
+    → all ≡ ok_map (λ later. before ++ later) (places_of file names (drop i items))
+    → all ≡ ok_map (λ later. before ++ later) (places_of file names (drop (i + 1) items))
+step-past file names items i d before all within at may so_far =
+    let join : Result (List ℕ) TableFault → Result (List ℕ) TableFault =
+    λ answer. ok_map (λ later. before ++ later) answer in
+    let cell : drop i items ≡ get_or items i d ∷ drop (i + 1) items = rw (add-one i) (drop-cons items i d within) in
+    let rest = places_of file names (drop (i + 1) items) in
+    so_far ∙ ap (λ later. join (places_of file names later)) cell
+    ∙ ap (λ (found : Option ℕ). join (place_then file (get_or items i d).0 found rest)) at
+    ∙ ap (λ b. join (cond b rest (Err (NoColumn file (get_or items i d).0)))) may
 
 -- ---- one row more
 

@@ -16,7 +16,7 @@ use Rattle.stop_schedule.specs.Carrying.{Candidate, Lists, candidate, carried_to
 use Rattle.stop_schedule.specs.Folder.{HoldsRest}
 use Rattle.timetable.specs.Held.{route_held, runs_held, shown, stops_held}
 use Rattle.stop_schedule.specs.Answers.{is_free}
-use Rattle.stop_schedule.specs.Holding.{AreNumbers, HoldsServices}
+use Rattle.stop_schedule.specs.Holding.{AreNumbers, HoldsServices, HoldsStations}
 use Rattle.timetable.specs.Services.{Calendars, Exceptions}
 use Rattle.stop_schedule.specs.Reading.{Assembles, Reads}
 use Rattle.stop_schedule.specs.Sheet.{Row, nth, rows_in}
@@ -29,6 +29,7 @@ use Rattle.stop_schedule.specs.declared.assembling.Assembled.{Assembled}
 use Rattle.timetable.specs.declared.carried_trip.CarriedTrip.{CarriedTrip}
 use Rattle.stop_schedule.specs.declared.folder_rows.FolderRows.{FolderRows}
 use Rattle.stop_schedule.specs.declared.stop_times.LoadedStop.{LoadedStop}
+use Rattle.timetable.specs.declared.numbers.StopNo.{StopNo}
 use Rattle.timetable.specs.declared.stop_row.StopRow.{StopRow}
 use Rattle.timetable.specs.declared.timetable.Timetable.{Timetable}
 use Rattle.stop_schedule.specs.declared.table_fault.TableFault.{TableFault}
@@ -242,15 +243,16 @@ untimed_of sheets folder all held carries =
     ∙ ap least (untimed_same (ids_in sheets Routes) held.runs.0 (stops_by sheets)
     (carried_to (listed folder) (length folder.trips.ids)) (trips_in sheets) (rows_are sheets folder held))
 
-abbrev shown_of_rows : FolderRows → List (List ℕ) → Assembled → Table
-shown_of_rows folder trips all =
-    shown trips folder.stops folder.routes all.carried.items all.stop_rows.items folder.services
+abbrev shown_of_rows : FolderRows → List (List ℕ) → Assembled → List StopNo → Table
+shown_of_rows folder trips all stations =
+    shown trips folder.stops folder.routes all.carried.items all.stop_rows.items folder.services stations
 
-pub shown_of : (sheets : Sheets) (folder : FolderRows) (trips : List (List ℕ)) (all : Assembled) → Held folder sheets
+pub shown_of : (sheets : Sheets) (folder : FolderRows) (trips : List (List ℕ)) (all : Assembled) (stations : List StopNo)
+    → Held folder sheets → HoldsStations (ids_in sheets Stops) stations (rows_in (sheets Stops))
     → trips ≡ ids_to folder.trips.ids folder.carried.items (length folder.trips.ids)
     → Carries all (carried_to (listed folder) (length folder.trips.ids))
-    → shown_of_rows folder trips all ≡ table_of sheets
-shown_of sheets folder trips all held trips_are carries = λ i. record {
+    → shown_of_rows folder trips all stations ≡ table_of sheets
+shown_of sheets folder trips all stations held placed trips_are carries = λ i. record {
   trips = (trips_are ∙ sym (carried-ids (listed folder) (length folder.trips.ids))
       ∙ ids_same routes services (stops_by sheets) ones (trips_in sheets) zip) i;
   stops = held.stops_are i;
@@ -263,6 +265,7 @@ shown_of sheets folder trips all held trips_are carries = λ i. record {
   runs = λ k day. runs_same routes services (stops_by sheets) all.stop_rows.items folder.services.calendars
       folder.services.exceptions (rows_in (sheets Calendar)) (rows_in (sheets CalendarDates))
       held.runs.2 (slice_get all.carried.items k) (slice_get (trips_in sheets) k) day (at k) i;
+  station_of = λ k. placed k i;
 }
   where
     routes : List (List ℕ)

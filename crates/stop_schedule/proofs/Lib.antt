@@ -18,6 +18,7 @@ pub mod SequenceLemmas
 pub mod ServiceLemmas
 pub mod ServiceStep
 pub mod StartLemmas
+pub mod StationLemmas
 pub mod StepLemmas
 pub mod StopStep
 pub mod TakingLemmas

@@ -6,13 +6,14 @@ use Rattle.std.specs.Str.{bytes_eq}
 use Rattle.stop_schedule.specs.Faults.{fault_if}
 use Rattle.timetable.specs.Ids.{has_id}
 use Rattle.timetable.specs.Limits.{stop_limit}
-use Rattle.stop_schedule.specs.Places.{own_id, agency_timezone, trips_route_id, dates_service_id, frequencies_trip_id, stop_times_trip_id, stop_times_stop_id}
+use Rattle.stop_schedule.specs.Places.{own_id, agency_timezone, stops_parent_station, trips_route_id, dates_service_id, frequencies_trip_id, stop_times_trip_id, stop_times_stop_id}
 use Rattle.stop_schedule.specs.Services.{is_exception, day_of_row}
 use Rattle.stop_schedule.specs.Sheet.{Row, nth}
+use Rattle.stop_schedule.specs.Stations.{has_parent}
 use Rattle.stop_schedule.specs.StopTimes.{sequence_of}
 use Rattle.stop_schedule.specs.declared.column.Column.TheVariants as Column
 use Rattle.stop_schedule.specs.declared.table_file.TableFile.{TableFile}
-use Rattle.stop_schedule.specs.declared.table_file.TableFile.TheVariants.{Trips, Calendar, CalendarDates, Frequencies, StopTimes}
+use Rattle.stop_schedule.specs.declared.table_file.TableFile.TheVariants.{Stops, Trips, Calendar, CalendarDates, Frequencies, StopTimes}
 use Rattle.stop_schedule.specs.declared.table_fault.TableFault.{TableFault}
 use Rattle.stop_schedule.specs.declared.table_fault.TableFault.TheVariants.{Limit, Zones, Unknown, Duplicate}
 
@@ -28,6 +29,14 @@ duplicate_fault file before row =
 abbrev pub first_row : List Row → Option Row
 first_row [] = None
 first_row (row ∷ rows) = Some row
+
+-- stops.txt, of which these are the ids: the row names a parent that is no stop
+abbrev pub is_unknown_parent : List (List ℕ) → Row → Bool
+is_unknown_parent stops row = has_parent row && not (has_id (nth stops_parent_station row) stops)
+
+abbrev pub parent_fault : List (List ℕ) → List Row → Row → Option TableFault
+parent_fault stops before row =
+    fault_if (is_unknown_parent stops row) (Unknown Stops (number_after before) Column.ParentStation)
 
 -- agency.txt: the zone is the first row's
 abbrev pub differs : Option Row → Row → Bool

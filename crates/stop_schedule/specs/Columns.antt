@@ -1,12 +1,13 @@
 -- The names of columns (GTFS Schedule reference, field definitions).
 use Rattle.std.specs.Prelude.{ℕ, List, codes}
 use Rattle.stop_schedule.specs.declared.column.Column.{Column}
-use Rattle.stop_schedule.specs.declared.column.Column.TheVariants.{AgencyTimezone, StopId, RouteId, TripId, ServiceId, Monday, Tuesday, Wednesday, Thursday, Friday, Saturday, Sunday, StartDate, EndDate, Date, ExceptionType, StopSequence, ArrivalTime, DepartureTime}
+use Rattle.stop_schedule.specs.declared.column.Column.TheVariants.{AgencyTimezone, StopId, ParentStation, RouteId, TripId, ServiceId, Monday, Tuesday, Wednesday, Thursday, Friday, Saturday, Sunday, StartDate, EndDate, Date, ExceptionType, StopSequence, ArrivalTime, DepartureTime}
 
 -- the name of a column in the first row of its file
 abbrev pub column_name : Column → List ℕ
 column_name AgencyTimezone = codes "agency_timezone"
 column_name StopId = codes "stop_id"
+column_name ParentStation = codes "parent_station"
 column_name RouteId = codes "route_id"
 column_name TripId = codes "trip_id"
 column_name ServiceId = codes "service_id"

@@ -1,8 +1,8 @@
 -- Which file could not be read: where the files are told, those before it have no fault.
 use Rattle.std.specs.Prelude.{◌≡◌, ◌⊎◌, ⊤, List, ℕ, Option, None, Result, Ok, Err}
-use Rattle.stop_schedule.specs.Causes.{zone_fault, duplicate_fault, trip_fault, calendar_fault, frequency_fault}
+use Rattle.stop_schedule.specs.Causes.{zone_fault, trip_fault, calendar_fault, frequency_fault}
 use Rattle.stop_schedule.specs.Faults.{needed_fault, optional_fault}
-use Rattle.stop_schedule.specs.Timetable.{Sheets, ids_in, names_fault, runs_fault}
+use Rattle.stop_schedule.specs.Timetable.{Sheets, ids_in, names_fault, runs_fault, stop_names_fault}
 use Rattle.stop_schedule.specs.declared.table_file.TableFile.{TableFile}
 use Rattle.stop_schedule.specs.declared.table_file.TableFile.TheVariants.{Agency, Stops, Routes, Trips, Calendar, CalendarDates, Frequencies, StopTimes}
 use Rattle.stop_schedule.specs.declared.table_fault.TableFault.{TableFault}
@@ -27,7 +27,7 @@ Is wanted file = file ≡ wanted
 abbrev pub NamesFailed : Sheets → TableFile → Type 0
 NamesFailed sheets =
     OrLater (Is Agency) (needed_fault Agency zone_fault (sheets Agency))
-    (OrLater (Is Stops) (needed_fault Stops (duplicate_fault Stops) (sheets Stops)) (Is Routes))
+    (OrLater (Is Stops) (stop_names_fault (sheets Stops)) (Is Routes))
 
 abbrev pub DaysFailed : Sheets → TableFile → Type 0
 DaysFailed sheets = OrLater (Is Calendar) (optional_fault Calendar calendar_fault (sheets Calendar)) (Is CalendarDates)

@@ -9,7 +9,7 @@ use Rattle.timetable.specs.Limits.{id_limit}
 use Rattle.stop_schedule.specs.Sheet.{Row, nth}
 use Rattle.stop_schedule.specs.declared.column.Column.{Column}
 use Rattle.stop_schedule.specs.declared.forms.Form.{Form}
-use Rattle.stop_schedule.specs.declared.forms.Form.TheVariants.{Id}
+use Rattle.stop_schedule.specs.declared.forms.Form.TheVariants.{Id, OptionalId}
 use Rattle.stop_schedule.specs.declared.table_file.TableFile.{TableFile}
 use Rattle.stop_schedule.specs.declared.table_fault.TableFault.{TableFault}
 use Rattle.stop_schedule.specs.declared.table_fault.TableFault.TheVariants.{Missing, NotUtf8, BadField, Limit}
@@ -31,6 +31,7 @@ first_bad at (read ∷ later) row = if fits read.1 (nth at row) then first_bad (
 -- a field is an id of more bytes than one has at most
 abbrev pub is_long : Form → List ℕ → Bool
 is_long Id text = nat_lt id_limit (length text)
+is_long OptionalId text = nat_lt id_limit (length text)
 is_long form text = false
 
 abbrev pub any_long : ℕ → List (Column × Form) → Row → Bool

@@ -8,7 +8,7 @@ use Rattle.std.specs.Char.{is_ascii_digit}
 use Rattle.timetable.specs.Digits.{digits_value}
 use Rattle.timetable.specs.Limits.{number_limit}
 use Rattle.stop_schedule.specs.declared.forms.Form.{Form}
-use Rattle.stop_schedule.specs.declared.forms.Form.TheVariants.{Any, Id, Flag, Exception, Date, Sequence, Time}
+use Rattle.stop_schedule.specs.declared.forms.Form.TheVariants.{Any, Id, OptionalId, Flag, Exception, Date, Sequence, Time}
 
 abbrev pub are_digits : List ℕ → Bool
 are_digits text = list_all is_ascii_digit text
@@ -59,6 +59,7 @@ date text = day_of Compact text
 abbrev pub fits : Form → List ℕ → Bool
 fits Any text = true
 fits Id text = not (length text == 0)
+fits OptionalId text = true
 fits Flag text = bytes_eq text (codes "0") || bytes_eq text (codes "1")
 fits Exception text = bytes_eq text (codes "1") || bytes_eq text (codes "2")
 fits Date text = is_some (date text)

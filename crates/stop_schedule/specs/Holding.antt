@@ -4,13 +4,26 @@ use Rattle.std.specs.List.{list_all}
 use Rattle.timetable.specs.Services.{Calendars, Exceptions, calendar_at, exception_at}
 use Rattle.stop_schedule.specs.Faults.{Fits}
 use Rattle.timetable.specs.Ids.{are_ids, has_id}
-use Rattle.stop_schedule.specs.Places.{trips_trip_id, trips_route_id, trips_service_id, calendar_service_id, dates_service_id, stop_times_trip_id, stop_times_stop_id}
+use Rattle.stop_schedule.specs.Places.{own_id, trips_trip_id, trips_route_id, trips_service_id, calendar_service_id, dates_service_id, stop_times_trip_id, stop_times_stop_id}
 use Rattle.stop_schedule.specs.Rising.{is_rising}
 use Rattle.stop_schedule.specs.Services.{calendar_in, exception_in}
 use Rattle.stop_schedule.specs.Sheet.{Row, nth}
+use Rattle.stop_schedule.specs.Stations.{station_in}
 use Rattle.stop_schedule.specs.StopTimes.{loaded, stops_in}
+use Rattle.timetable.specs.Held.{station_held}
+use Rattle.timetable.specs.declared.numbers.StopNo.{StopNo}
 use Rattle.stop_schedule.specs.declared.stop_times.LoadedStop.{LoadedStop}
 use Rattle.stop_schedule.specs.declared.table_file.TableFile.TheVariants.{StopTimes}
+
+-- the station of each stop is the one that the rows give it
+abbrev pub HoldsStations : List (List ℕ) → List StopNo → List Row → Type 0
+HoldsStations stops stations rows =
+    (stop : ℕ) → station_held stations stop ≡ station_in stops (slice_get rows stop) stop
+
+-- the ids of the stops, and their stations
+pub record HoldsStopNames (stops : List (List ℕ)) (stations : List StopNo) (rows : List Row) : Type 0 where
+  pub ids : stops ≡ map (nth own_id) rows
+  pub stations_are : HoldsStations (map (nth own_id) rows) stations rows
 
 -- these are the numbers of names among ids
 abbrev pub AreNumbers : List (List ℕ) → List ℕ → List (List ℕ) → Type 0

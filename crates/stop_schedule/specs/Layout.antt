@@ -7,7 +7,7 @@ use Rattle.stop_schedule.specs.declared.table_file.TableFile.TheVariants.{Agency
 
 abbrev pub columns : TableFile → List (Column × Form)
 columns Agency = (Column.AgencyTimezone, Form.Any) ∷ []
-columns Stops = (Column.StopId, Form.Id) ∷ []
+columns Stops = (Column.StopId, Form.Id) ∷ (Column.ParentStation, Form.OptionalId) ∷ []
 columns Routes = (Column.RouteId, Form.Id) ∷ []
 columns Trips = (Column.TripId, Form.Id) ∷ (Column.RouteId, Form.Id) ∷ (Column.ServiceId, Form.Id) ∷ []
 columns Calendar =
@@ -22,8 +22,7 @@ columns StopTimes =
     (Column.TripId, Form.Id) ∷ (Column.StopSequence, Form.Sequence) ∷ (Column.StopId, Form.Id)
     ∷ (Column.ArrivalTime, Form.Time) ∷ (Column.DepartureTime, Form.Time) ∷ []
 
--- the file is read as a list of ids
-abbrev pub lists_ids : TableFile → Bool
-lists_ids Stops = true
-lists_ids Routes = true
-lists_ids file = false
+-- a file may lack the column, which is the last that is read of its file
+abbrev pub is_optional : Column → Bool
+is_optional Column.ParentStation = true
+is_optional column = false

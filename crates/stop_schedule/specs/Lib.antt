@@ -18,6 +18,7 @@ pub mod RowReader
 pub mod Rows
 pub mod Services
 pub mod Sheet
+pub mod Stations
 pub mod StopTimes
 pub mod Timetable
 pub mod TripStops

@@ -6,6 +6,10 @@ use Rattle.std.specs.Prelude.{ℕ}
 abbrev pub own_id : ℕ
 own_id = 0
 
+-- stops.txt
+abbrev pub stops_parent_station : ℕ
+stops_parent_station = 1
+
 -- agency.txt
 abbrev pub agency_timezone : ℕ
 agency_timezone = 0

@@ -6,7 +6,7 @@ use Rattle.gw_base.specs.Chains.{ok_map}
 use Rattle.stop_schedule.specs.Answers.{is_free}
 use Rattle.stop_schedule.specs.Columns.{column_name}
 use Rattle.stop_schedule.specs.Fields.{field_of}
-use Rattle.stop_schedule.specs.Layout.{columns}
+use Rattle.stop_schedule.specs.Layout.{columns, is_optional}
 use Rattle.stop_schedule.specs.Limits.{file_limit}
 use Rattle.stop_schedule.specs.RowReader.{RowsLeft}
 use Rattle.stop_schedule.specs.Rows.{rows, column}
@@ -28,12 +28,12 @@ nth column row = unwrap_or (slice_get row column) []
 abbrev pub fields_at : List ℕ → List (List ℕ) → Row
 fields_at places fields = map (λ place. field_of place fields) places
 
--- a place before others, where there is one
+-- a place before others, where there is one; a column that may be missing is left out where it is
 abbrev pub place_then : TableFile → Column → Option ℕ → Result (List ℕ) TableFault → Result (List ℕ) TableFault
-place_then file column None later = Err (NoColumn file column)
+place_then file column None later = if is_optional column then later else Err (NoColumn file column)
 place_then file column (Some place) later = ok_map (λ places. place ∷ places) later
 
--- the places of the columns by the names of the first record, or the first column that it doesn't name
+-- the places of the columns by the names of the first record, or the first column that it has to name and doesn't
 abbrev pub places_of : TableFile → List (List ℕ) → List (Column × Form) → Result (List ℕ) TableFault
 places_of file names [] = Ok []
 places_of file names (read ∷ later) =

@@ -3,12 +3,13 @@ use Rattle.std.specs.Prelude.{ℕ, ℤ, Bool, false, List, [], ◌++◌, map, sl
 use Rattle.std.specs.Option.{option_or}
 use Rattle.gw_base.specs.Directory.{bytes_of}
 use Rattle.gw_base.specs.Chains.{unless_fault}
-use Rattle.stop_schedule.specs.Causes.{zone_fault, duplicate_fault, trip_fault, calendar_fault, date_fault, frequency_fault, stop_time_fault}
-use Rattle.stop_schedule.specs.Faults.{needed_fault, optional_fault}
+use Rattle.stop_schedule.specs.Causes.{zone_fault, duplicate_fault, parent_fault, trip_fault, calendar_fault, date_fault, frequency_fault, stop_time_fault}
+use Rattle.stop_schedule.specs.Faults.{first_fault, needed_fault, optional_fault}
 use Rattle.stop_schedule.specs.Places.{own_id, trips_trip_id, trips_route_id, trips_service_id}
 use Rattle.stop_schedule.specs.Services.{exception_in, calendar_in}
 use Rattle.timetable.specs.Services.{runs_by}
 use Rattle.stop_schedule.specs.Sheet.{Row, nth, sheet_in, rows_in}
+use Rattle.stop_schedule.specs.Stations.{station_in}
 use Rattle.stop_schedule.specs.StopTimes.{stops_in, filled, untimed_end, least}
 use Rattle.timetable.specs.Table.{Table}
 use Rattle.stop_schedule.specs.Trips.{carried_rows}
@@ -71,11 +72,20 @@ abbrev pub untimed_in : Sheets → Option ℕ
 untimed_in sheets =
     least (map (λ trip. untimed_end (stops_of_trip sheets trip)) (trips_in sheets))
 
+-- the first row of stops.txt whose parent is no stop of the file
+abbrev pub parents_fault : List Row → Option TableFault
+parents_fault rows = first_fault (parent_fault (map (nth own_id) rows)) [] rows
+
+-- the first fault of stops.txt: of its rows, and after all of them of their parents
+abbrev pub stop_names_fault : Option (Result (List Row) TableFault) → Option TableFault
+stop_names_fault sheet =
+    option_or (needed_fault Stops (duplicate_fault Stops) sheet) (parents_fault (rows_in sheet))
+
 -- the first fault of the files that name zones, stops and routes
 abbrev pub names_fault : Sheets → Option TableFault
 names_fault sheets =
     option_or (needed_fault Agency zone_fault (sheets Agency))
-    (option_or (needed_fault Stops (duplicate_fault Stops) (sheets Stops))
+    (option_or (stop_names_fault (sheets Stops))
     (needed_fault Routes (duplicate_fault Routes) (sheets Routes)))
 
 -- of trips.txt and the calendar files, where these are the ids of the routes
@@ -127,6 +137,7 @@ table_of sheets = record {
   stops_of = λ trip. stop_rows_in (ids_in sheets Stops) (rows_in (sheets StopTimes)) (slice_get (trips_in sheets) trip);
   runs = λ trip day.
       runs_in (rows_in (sheets Calendar)) (rows_in (sheets CalendarDates)) (slice_get (trips_in sheets) trip) day;
+  station_of = λ stop. station_in (ids_in sheets Stops) (slice_get (rows_in (sheets Stops)) stop) stop;
 }
 
 -- the timetable of a folder, or its first fault; of two files of one name the first counts

@@ -4,12 +4,12 @@ ghost use Rattle.gw_base.specs.Count.{Counts};
 ghost use Rattle.stop_schedule.specs.Failures.{FileFailed, IfFailed};
 ghost use Rattle.stop_schedule.specs.Answers.{HasFailed};
 ghost use Rattle.stop_schedule.specs.Carrying.{Adds, Carries, carried_to, ids_to};
-ghost use Rattle.stop_schedule.specs.Folder.{HoldsRest, IsLoaded};
+ghost use Rattle.stop_schedule.specs.Folder.{HoldsFolder, IsLoaded};
 ghost use Rattle.timetable.specs.Ids.{has_id};
 ghost use Rattle.stop_schedule.specs.Reading.{Assembles, IsAssembled, Reads};
-ghost use Rattle.stop_schedule.specs.Timetable.{Sheets, ids_in, sheets_in, timetable as timetable_of};
+ghost use Rattle.stop_schedule.specs.Timetable.{Sheets, sheets_in, timetable as timetable_of};
 ghost use Rattle.stop_schedule.specs.TripStops.{stops_kept};
-ghost use Rattle.stop_schedule.specs.declared.table_file.TableFile.TheVariants as File;
+ghost use Rattle.timetable.specs.Held.{are_stations};
 
 use crate::folder_rows::{FolderRows, read_folder};
 use crate::loading::Trips;
@@ -18,7 +18,7 @@ use crate::table_fault::TableFault;
 use crate::trip_stops::TripStops;
 use gw_base::Files;
 use std::alloc::{AllocError, Global};
-use timetable::{CarriedTrip, Ids, StopRow, Timetable};
+use timetable::{CarriedTrip, Ids, StopNo, StopRow, Timetable};
 
 // The trips that are carried so far, with their stops one after the other, and the least row of an end without
 // times.
@@ -158,10 +158,14 @@ fn carried_ids(alloc: Global, ids: Ids, carried: &[bool]) -> Result<Ids, AllocEr
 }
 
 // The timetable of what was read.
-fn assemble(alloc: Global, folder: FolderRows) -> Result<Timetable, TableFault>
-    requires { IsLoaded folder }
-    ensures exact { (sheets : Sheets) → HoldsRest (ids_in sheets File.Stops) (ids_in sheets File.Routes) folder sheets
-        → Assembles sheets result }
+fn assemble(
+    alloc: Global,
+    folder: FolderRows,
+    stations: Vec<StopNo>,
+) -> Result<Timetable, TableFault>
+    requires loaded { IsLoaded folder }
+    requires known { are_stations (length folder.stops) stations.items ≡ true }
+    ensures exact { (sheets : Sheets) → HoldsFolder folder stations.items sheets → Assembles sheets result }
     ensures faults { IfErr result IsAssembled }
 {
     let FolderRows {
@@ -187,7 +191,7 @@ fn assemble(alloc: Global, folder: FolderRows) -> Result<Timetable, TableFault>
         stop_rows,
         untimed: _,
     } = all;
-    Ok(Timetable::new(trips, stops, routes, carried, stop_rows, services))
+    Ok(Timetable::new(trips, stops, routes, carried, stop_rows, services, stations))
 }
 
 /// Reads the timetable of the folder `dir` (GTFS Schedule reference): `agency.txt`, `stops.txt`, `routes.txt`,
@@ -207,7 +211,7 @@ pub fn read_timetable<F: Files>(
     ensures same { F.told files.new ≡ F.told files.old }
 {
     match read_folder(alloc, files, dir) {
-        Ok(folder) => assemble(alloc, folder),
+        Ok((folder, stations)) => assemble(alloc, folder, stations),
         Err(fault) => Err(fault),
     }
 }

@@ -16,7 +16,10 @@ use timetable::MAX_ID_LEN;
 fn is_long(form: Form, text: &str) -> bool
     ensures { result ≡ spec.is_long form text.now }
 {
-    form == Form::Id && text.len() > MAX_ID_LEN
+    match form {
+        Form::Id | Form::OptionalId => text.len() > MAX_ID_LEN,
+        _ => false,
+    }
 }
 
 // Whether a field has the form by its digits, so that it is a text too, which isn't read once more then.

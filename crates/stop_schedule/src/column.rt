@@ -9,6 +9,8 @@ pub enum Column {
     AgencyTimezone,
     /// `stop_id`
     StopId,
+    /// `parent_station`
+    ParentStation,
     /// `route_id`
     RouteId,
     /// `trip_id`
@@ -53,6 +55,7 @@ impl Column {
         match self {
             Column::AgencyTimezone => "agency_timezone",
             Column::StopId => "stop_id",
+            Column::ParentStation => "parent_station",
             Column::RouteId => "route_id",
             Column::TripId => "trip_id",
             Column::ServiceId => "service_id",

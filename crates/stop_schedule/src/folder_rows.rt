@@ -3,24 +3,26 @@ ghost use Rattle.std.specs.Prelude.{◌≡◌, true, map, length, IfOk, IfSome};
 ghost use Rattle.gw_base.specs.Count.{Counts};
 ghost use Rattle.stop_schedule.specs.Failures.{FileFailed, IfFailed, NamesFailed, RestFailed, RunsFailed, StopsFailed};
 ghost use Rattle.stop_schedule.specs.Answers.{Finds, HasFailed};
-ghost use Rattle.stop_schedule.specs.Folder.{HoldsRest, HoldsRuns, IsLoaded};
-ghost use Rattle.stop_schedule.specs.Holding.{HoldsStops};
+ghost use Rattle.stop_schedule.specs.Folder.{HoldsFolder, HoldsRest, HoldsRuns, IsLoaded};
+ghost use Rattle.stop_schedule.specs.Holding.{HoldsStopNames, HoldsStops};
 ghost use Rattle.stop_schedule.specs.Keeping.{HasTrips, all_loaded};
 ghost use Rattle.stop_schedule.specs.Sheet.{rows_in};
 ghost use Rattle.stop_schedule.specs.TripStops.{stops_kept};
 ghost use Rattle.stop_schedule.specs.Trips.{is_carried};
 ghost use Rattle.stop_schedule.specs.Timetable.{files_fault, ids_in, rest_fault, runs_fault, stops_fault, names_fault, sheets_in};
 ghost use Rattle.stop_schedule.specs.declared.table_file.TableFile.TheVariants as File;
+ghost use Rattle.timetable.specs.Held.{are_stations};
 
 use crate::loading::{
-    Trips, read_frequencies, read_ids, read_services, read_stop_times, read_trips, read_zones,
+    Trips, read_frequencies, read_routes, read_services, read_stop_names, read_stop_times,
+    read_trips, read_zones,
 };
 use crate::table_fault::TableFault;
 use crate::table_file::TableFile;
 use crate::trip_stops::TripStops;
 use gw_base::{Bytes, Files, List};
 use std::alloc::Global;
-use timetable::{Ids, Services};
+use timetable::{Ids, Services, StopNo};
 
 /// What is made of the rows of a folder's files.
 #[derive(Drop)]
@@ -33,25 +35,38 @@ pub(crate) struct FolderRows {
     pub(crate) by_trip: Vec<TripStops>,
 }
 
-// Reads `agency.txt`, `stops.txt` and `routes.txt`, and answers the ids of the stops and the routes.
+// The ids of the stops and the routes, and the stations of the stops.
+#[derive(Drop)]
+struct Names {
+    stops: Ids,
+    stations: Vec<StopNo>,
+    routes: Ids,
+}
+
+// Reads `agency.txt`, `stops.txt` and `routes.txt`.
 fn read_names<F: Files>(
     alloc: Global,
     files: &mut F,
     dir: &str,
     buffer: &mut Bytes,
-) -> Result<(Ids, Ids), TableFault>
+) -> Result<Names, TableFault>
     ensures exact { IfSome (F.told files.old) (λ told. Finds (names_fault (sheets_in told dir.now))
-        (λ names. (names.0 ≡ ids_in (sheets_in told dir.now) File.Stops)
-        × (names.1 ≡ ids_in (sheets_in told dir.now) File.Routes)) result) }
+        (λ names. HoldsStopNames names.stops names.stations.items (rows_in (sheets_in told dir.now File.Stops))
+        × (names.routes ≡ ids_in (sheets_in told dir.now) File.Routes)) result) }
+    ensures known { IfOk result (λ names. are_stations (length names.stops) names.stations.items ≡ true) }
     ensures counts { Counts (HasFailed result) (F.faults files.old) (F.faults files.new) }
     ensures failed { IfFailed result
         (λ named. IfSome (F.told files.old) (λ told. NamesFailed (sheets_in told dir.now) named)) }
     ensures same { F.told files.new ≡ F.told files.old }
 {
     read_zones(alloc, files, dir, buffer)?;
-    let stops = read_ids(alloc, files, dir, buffer, TableFile::Stops)?;
-    let routes = read_ids(alloc, files, dir, buffer, TableFile::Routes)?;
-    Ok((stops, routes))
+    let (stops, stations) = read_stop_names(alloc, files, dir, buffer)?;
+    let routes = read_routes(alloc, files, dir, buffer)?;
+    Ok(Names {
+        stops,
+        stations,
+        routes,
+    })
 }
 
 // Reads `trips.txt` and the calendar files.
@@ -112,6 +127,7 @@ fn read_rest<F: Files>(
     ensures exact { IfSome (F.told files.old) (λ told. Finds (rest_fault routes stops (sheets_in told dir.now))
         (λ folder. HoldsRest stops routes folder (sheets_in told dir.now)) result) }
     ensures loaded { IfOk result IsLoaded }
+    ensures stops { IfOk result (λ folder. folder.stops ≡ stops) }
     ensures counts { Counts (HasFailed result) (F.faults files.old) (F.faults files.new) }
     ensures failed { IfFailed result
         (λ named. IfSome (F.told files.old) (λ told. RestFailed routes (sheets_in told dir.now) named)) }
@@ -134,25 +150,33 @@ fn read_rest<F: Files>(
     }
 }
 
-/// Reads all files of a folder, each into the same buffer.
+/// Reads all files of a folder, each into the same buffer, and answers the stations of the stops beside what is made of
+/// the rows.
 pub(crate) fn read_folder<F: Files>(
     alloc: Global,
     files: &mut F,
     dir: &str,
-) -> Result<FolderRows, TableFault>
+) -> Result<(FolderRows, Vec<StopNo>), TableFault>
     ensures exact { IfSome (F.told files.old) (λ told. Finds (files_fault (sheets_in told dir.now))
-        (λ folder. HoldsRest (ids_in (sheets_in told dir.now) File.Stops)
-        (ids_in (sheets_in told dir.now) File.Routes) folder (sheets_in told dir.now)) result) }
-    ensures loaded { IfOk result IsLoaded }
+        (λ found. HoldsFolder found.0 found.1.items (sheets_in told dir.now)) result) }
+    ensures loaded { IfOk result (λ found. IsLoaded found.0) }
+    ensures known { IfOk result (λ found. are_stations (length found.0.stops) found.1.items ≡ true) }
     ensures counts { Counts (HasFailed result) (F.faults files.old) (F.faults files.new) }
     ensures failed { IfFailed result
         (λ named. IfSome (F.told files.old) (λ told. FileFailed (sheets_in told dir.now) named)) }
     ensures same { F.told files.new ≡ F.told files.old }
 {
     let mut buffer = List::new(alloc);
-    let (stops, routes) = match read_names(alloc, files, dir, &mut buffer) {
+    let Names {
+        stops,
+        stations,
+        routes,
+    } = match read_names(alloc, files, dir, &mut buffer) {
         Ok(names) => names,
         Err(fault) => return Err(fault),
     };
-    read_rest(alloc, files, dir, &mut buffer, stops, routes)
+    match read_rest(alloc, files, dir, &mut buffer, stops, routes) {
+        Ok(folder) => Ok((folder, stations)),
+        Err(fault) => Err(fault),
+    }
 }

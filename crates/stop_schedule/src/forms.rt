@@ -13,6 +13,8 @@ pub(crate) enum Form {
     Any,
     /// An id, which isn't empty.
     Id,
+    /// An id, or empty.
+    OptionalId,
     /// `0` or `1`.
     Flag,
     /// `1` or `2`.
@@ -30,7 +32,7 @@ pub(crate) fn fits(form: Form, text: &str) -> bool
     ensures { result ≡ spec.fits form text.now }
 {
     match form {
-        Form::Any => true,
+        Form::Any | Form::OptionalId => true,
         Form::Id => !text.is_empty(),
         Form::Flag => text.as_bytes() == b"0".as_slice() || text.as_bytes() == b"1".as_slice(),
         Form::Exception => text.as_bytes() == b"1".as_slice() || text.as_bytes() == b"2".as_slice(),

@@ -1,4 +1,4 @@
-//! What is read of each file: its columns in order. The function meets `specs/Layout.antt`.
+//! What is read of each file: its columns in order. The functions meet `specs/Layout.antt`.
 ghost use Rattle.std.specs.Prelude.{◌≡◌};
 ghost use Rattle.stop_schedule.specs.Layout as spec;
 
@@ -12,7 +12,10 @@ pub(crate) fn columns(file: TableFile) -> &'static [(Column, Form)]
 {
     match file {
         TableFile::Agency => &[(Column::AgencyTimezone, Form::Any)],
-        TableFile::Stops => &[(Column::StopId, Form::Id)],
+        TableFile::Stops => &[
+            (Column::StopId, Form::Id),
+            (Column::ParentStation, Form::OptionalId),
+        ],
         TableFile::Routes => &[(Column::RouteId, Form::Id)],
         TableFile::Trips => &[
             (Column::TripId, Form::Id),
@@ -44,5 +47,16 @@ pub(crate) fn columns(file: TableFile) -> &'static [(Column, Form)]
             (Column::ArrivalTime, Form::Time),
             (Column::DepartureTime, Form::Time),
         ],
+    }
+}
+
+/// Whether a file may lack a column. Such a column is the last that is read of its file, and is left out where it is
+/// missing.
+pub(crate) fn is_optional(column: Column) -> bool
+    ensures { result ≡ spec.is_optional column }
+{
+    match column {
+        Column::ParentStation => true,
+        _ => false,
     }
 }

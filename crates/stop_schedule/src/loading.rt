@@ -1,7 +1,6 @@
 //! The files of a folder, each with what is made of its rows. The functions meet `specs/Timetable.antt`.
 ghost use Rattle.std.specs.Prelude.{◌≡◌, ◌≤◌, ◌+◌, [], ⊤, true, map, length, is_some, IfOk, IfSome, OnOk};
 ghost use Rattle.stop_schedule.specs.Keeping.{HasTrips, KeepsTo, all_loaded};
-ghost use Rattle.stop_schedule.specs.Layout.{lists_ids};
 ghost use Rattle.stop_schedule.specs.Limits.{row_limit};
 ghost use Rattle.stop_schedule.specs.Places.{own_id};
 ghost use Rattle.gw_base.specs.Count.{Counts};
@@ -9,18 +8,21 @@ ghost use Rattle.stop_schedule.specs.Failures.{DaysFailed, IfFailed, Is};
 ghost use Rattle.stop_schedule.specs.Answers.{Finds, HasFailed};
 ghost use Rattle.stop_schedule.specs.Causes.{zone_fault, duplicate_fault, trip_fault, calendar_fault, date_fault, frequency_fault, stop_time_fault};
 ghost use Rattle.stop_schedule.specs.Faults.{optional_fault};
-ghost use Rattle.stop_schedule.specs.Holding.{HoldsCalendars, HoldsDates, HoldsTrips, HoldsServices, HoldsStops};
+ghost use Rattle.stop_schedule.specs.Holding.{HoldsCalendars, HoldsDates, HoldsTrips, HoldsServices, HoldsStopNames, HoldsStops};
 ghost use Rattle.stop_schedule.specs.Reading.{ReadsNeeded, ReadsRows};
-ghost use Rattle.stop_schedule.specs.Timetable.{calendars_fault, sheets_in};
+ghost use Rattle.stop_schedule.specs.Timetable.{calendars_fault, sheets_in, stop_names_fault};
 ghost use Rattle.stop_schedule.specs.Sheet.{nth, rows_in};
 ghost use Rattle.stop_schedule.specs.TripStops.{stops_kept};
 ghost use Rattle.stop_schedule.specs.Trips.{is_carried};
 ghost use Rattle.stop_schedule.specs.declared.table_file.TableFile.TheVariants as File;
+ghost use Rattle.timetable.specs.Held.{are_stations};
 
+use crate::folder::read_file;
 use crate::frequency_rows::FrequencyRows;
 use crate::guesses::Guesses;
-use crate::id_rows::IdRows;
+use crate::route_rows::RouteRows;
 use crate::service_rows::{CalendarRows, DateRows};
+use crate::stop_rows::names_of;
 use crate::stop_time_rows::StopTimeRows;
 use crate::table_fault::TableFault;
 use crate::table_file::TableFile;
@@ -31,7 +33,7 @@ use crate::zone_rows::ZoneRows;
 use gw_base::{Bytes, Files};
 use std::alloc::{AllocError, Global};
 use std::collections::HashMap;
-use timetable::{Ids, Services};
+use timetable::{Ids, Services, StopNo};
 
 /// The trips of `trips.txt` with the numbers of their routes and services.
 #[derive(Drop)]
@@ -82,30 +84,51 @@ pub(crate) fn read_zones<F: Files>(
     read_needed(alloc, files, dir, buffer, &mut zones)
 }
 
-/// Reads `stops.txt` or `routes.txt`.
-pub(crate) fn read_ids<F: Files>(
+/// Reads `stops.txt`, and answers the ids of the stops, and their stations, of which there are none where no stop has a
+/// parent.
+pub(crate) fn read_stop_names<F: Files>(
     alloc: Global,
     files: &mut F,
     dir: &str,
     buffer: &mut Bytes,
-    file: TableFile,
-) -> Result<Ids, TableFault>
-    requires { lists_ids file ≡ true }
-    ensures exact { IfSome (F.told files.old)
-        (λ told. ReadsNeeded file (duplicate_fault file) (λ ids rows. ids ≡ map (nth own_id) rows)
-        (sheets_in told dir.now) result) }
+) -> Result<(Ids, Vec<StopNo>), TableFault>
+    ensures exact { IfSome (F.told files.old) (λ told. Finds (stop_names_fault (sheets_in told dir.now File.Stops))
+        (λ found. HoldsStopNames found.0 found.1.items (rows_in (sheets_in told dir.now File.Stops))) result) }
+    ensures known { IfOk result (λ found. are_stations (length found.0) found.1.items ≡ true) }
     ensures counts { Counts (HasFailed result) (F.faults files.old) (F.faults files.new) }
-    ensures failed { IfFailed result (Is file) }
+    ensures failed { IfFailed result (Is File.Stops) }
     ensures same { F.told files.new ≡ F.told files.old }
 {
-    let mut rows = IdRows {
-        file,
+    if !read_file(alloc, files, dir, TableFile::Stops, buffer)? {
+        return Err(TableFault::Missing(TableFile::Stops));
+    }
+    match names_of(alloc, buffer.as_slice()) {
+        Ok(found) => Ok(found),
+        Err(fault) => Err(fault),
+    }
+}
+
+/// Reads `routes.txt`, and answers the ids of the routes.
+pub(crate) fn read_routes<F: Files>(
+    alloc: Global,
+    files: &mut F,
+    dir: &str,
+    buffer: &mut Bytes,
+) -> Result<Ids, TableFault>
+    ensures exact { IfSome (F.told files.old)
+        (λ told. ReadsNeeded File.Routes (duplicate_fault File.Routes) (λ ids rows. ids ≡ map (nth own_id) rows)
+        (sheets_in told dir.now) result) }
+    ensures counts { Counts (HasFailed result) (F.faults files.old) (F.faults files.new) }
+    ensures failed { IfFailed result (Is File.Routes) }
+    ensures same { F.told files.new ≡ F.told files.old }
+{
+    let mut rows = RouteRows {
         ids: Ids::new(alloc),
     };
     if let Err(fault) = read_needed(alloc, files, dir, buffer, &mut rows) {
         return Err(fault);
     }
-    let IdRows { file: _, ids } = rows;
+    let RouteRows { ids } = rows;
     Ok(ids)
 }
 

@@ -12,7 +12,7 @@ ghost use Rattle.stop_schedule.specs.Rows.{rows};
 ghost use Rattle.stop_schedule.specs.Sheet.{left_of, nth, places_of, sheet_of};
 ghost use Rattle.stop_schedule.specs.Layout.{columns as columns_of};
 
-use crate::layout::columns;
+use crate::layout::{columns, is_optional};
 use crate::rows::Rows;
 use crate::table_fault::TableFault;
 use crate::table_file::TableFile;
@@ -40,7 +40,8 @@ impl<'a> Model for Sheet<'a> {
     } };
 }
 
-// The places of a file's columns where the row at hand names the columns, or the first that it doesn't name.
+// The places of a file's columns where the row at hand names the columns, or the first that it has to
+// name and doesn't.
 fn find_places(alloc: Global, rows: &Rows<'_>, file: TableFile) -> Result<Vec<usize>, TableFault>
     ensures no_failure { HasFailed result → ⊥ }
     ensures exact { UnlessFree is_free result
@@ -48,10 +49,13 @@ fn find_places(alloc: Global, rows: &Rows<'_>, file: TableFile) -> Result<Vec<us
 {
     let mut places = Vec::new(alloc);
     for (column, _) in columns(file) {
-        let Some(place) = rows.column(column.name()) else {
+        if let Some(place) = rows.column(column.name()) {
+            places.push(place)?;
+            continue;
+        }
+        if !is_optional(*column) {
             return Err(TableFault::NoColumn(file, *column));
-        };
-        places.push(place)?;
+        }
     }
     Ok(places)
 }

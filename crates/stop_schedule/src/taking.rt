@@ -135,8 +135,12 @@ fn take_rows<T: TakesRows>(
     Ok(())
 }
 
-// Takes all rows by the bytes of a file, up to its first fault.
-fn take_bytes<T: TakesRows>(alloc: Global, bytes: &[u8], taker: &mut T) -> Result<(), TableFault>
+/// Takes all rows by the bytes of a file, up to its first fault.
+pub(crate) fn take_bytes<T: TakesRows>(
+    alloc: Global,
+    bytes: &[u8],
+    taker: &mut T,
+) -> Result<(), TableFault>
     requires { T.Keeps taker.old 1 }
     ensures takes { T.Holds taker.old taker.old []
         → Finds (fault_in (T.file_of taker.old) (T.fault taker.old) (sheet_of (T.file_of taker.old) (rows bytes.now)))

@@ -2,11 +2,12 @@
 use Rattle.std.proofs.Common.{◌≡◌, ◌<◌, ℕ, zero, suc, true, nat_le, nat_lt, List, [], ◌∷◌, length, slice_get, drop, take, unwrap_or, arith, refl}
 use Rattle.std.specs.List.{list_all}
 use Rattle.std.proofs.lemmas.Bool.{ltb-true}
-use Rattle.timetable.specs.Held.{are_in_range, is_in_range, route_held, stops_held}
+use Rattle.timetable.specs.Held.{are_in_range, are_stations, is_in_range, route_held, station_held, station_or, stops_held}
 use Rattle.timetable.specs.Ids.{are_ids, is_id}
 use Rattle.timetable.specs.Stops.{are_stops_of}
 use Rattle.timetable.specs.declared.carried_trip.CarriedTrip.{CarriedTrip}
 use Rattle.timetable.specs.declared.stop_row.StopRow.{StopRow}
+use Rattle.timetable.specs.declared.numbers.StopNo.{StopNo}
 use Rattle.timetable.proofs.IdLemmas.{and-left, and-right}
 
 id-within : (ids : List (List ℕ)) (n : ℕ) → n < length ids → list_all is_id ids ≡ true
@@ -69,3 +70,18 @@ routes-sound trips routes stops carried rows h ids trip within =
     route-at routes (length stops) rows carried trip
     (let same = as-many trips routes stops carried rows h in omega (arith, same))
     (and-left (list_all is_id routes) _ ids) (each-in trips routes stops carried rows h)
+
+-- ---- the stations of stops
+
+-- the station of a stop is one of the stops
+station-in : (stops : ℕ) (stations : List StopNo) (place stop : ℕ) → stop < stops → are_stations stops stations ≡ true
+    → station_or (slice_get stations place) stop < stops
+station-in stops [] place stop within all = within
+station-in stops (station ∷ stations) zero stop within all =
+    ltb-true station.0 stops (and-left (nat_lt station.0 stops) _ all)
+station-in stops (station ∷ stations) (suc place) stop within all =
+    station-in stops stations place stop within (and-right (nat_lt station.0 stops) _ all)
+
+pub stations-sound : (stops : ℕ) (stations : List StopNo) → are_stations stops stations ≡ true
+    → (stop : ℕ) → stop < stops → station_held stations stop < stops
+stations-sound stops stations all stop within = station-in stops stations stop stop within all

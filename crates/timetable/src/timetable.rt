@@ -1,7 +1,7 @@
 //! The timetable and its calls, which meet the `Table` that it shows (`specs/Table.antt`, `Seen.antt`).
 ghost use Rattle.std.specs.Prelude.{◌≡◌, ◌≤◌, ◌<◌, true, Some, length, slice_get, position, option_map, IfSome, IsTrue};
 ghost use Rattle.std.specs.Str.{bytes_eq};
-ghost use Rattle.timetable.specs.Held.{are_in_range};
+ghost use Rattle.timetable.specs.Held.{are_in_range, are_stations};
 ghost use Rattle.timetable.specs.Ids.{are_distinct};
 ghost use Rattle.timetable.specs.Limits.{id_limit, stop_limit, trip_limit};
 ghost use Rattle.timetable.specs.Stops.{are_known, are_rising, are_timed};
@@ -23,7 +23,10 @@ pub struct Timetable {
     carried: Vec<CarriedTrip>,
     stop_rows: Vec<StopRow>,
     services: Services,
+    // The station of each stop; none where no stop has a parent.
+    stations: Vec<StopNo>,
     ghost in_range: { are_in_range trips routes stops carried.items stop_rows.items ≡ true },
+    ghost stations_known: { are_stations (length stops) stations.items ≡ true },
 }
 
 impl Timetable {
@@ -32,7 +35,8 @@ impl Timetable {
     ghost use Rattle.timetable.specs.Sound.{IsSound};
 
     /// The timetable of these ids, of the trips that are carried, whose stops stand one trip's after the other's, and
-    /// of their services. The numbers and places of each trip are in range, and its stops are those of a trip.
+    /// of their services; and of the station of each stop, or of none, where each stop is its own station. The numbers
+    /// and places of each trip are in range, its stops are those of a trip, and the stations are stops.
     pub fn new(
         trips: Ids,
         stops: Ids,
@@ -40,9 +44,11 @@ impl Timetable {
         carried: Vec<CarriedTrip>,
         stop_rows: Vec<StopRow>,
         services: Services,
+        stations: Vec<StopNo>,
     ) -> Timetable
-        requires { are_in_range trips routes stops carried.items stop_rows.items ≡ true }
-        ensures { seen result ≡ shown trips stops routes carried.items stop_rows.items services }
+        requires in_range { are_in_range trips routes stops carried.items stop_rows.items ≡ true }
+        requires stations { are_stations (length stops) stations.items ≡ true }
+        ensures { seen result ≡ shown trips stops routes carried.items stop_rows.items services stations.items }
     {
         Timetable {
             trips,
@@ -51,6 +57,7 @@ impl Timetable {
             carried,
             stop_rows,
             services,
+            stations,
         }
     }
 
@@ -120,6 +127,18 @@ impl Timetable {
         self.stops.at(stop.0)
     }
 
+    /// The number of a stop's station: that of its parent (`parent_station` of stops.txt), or else its own. Two stops
+    /// are of one station where this is equal; a parent's own parent isn't looked at.
+    pub fn station_of(&self, stop: StopNo) -> StopNo
+        ensures value { result.0 ≡ (seen self.now).station_of stop.0 }
+        ensures within { stop.0 < length self.now.stops → result.0 < length self.now.stops }
+    {
+        match self.stations.get(stop.0 as usize) {
+            Some(station) => *station,
+            None => stop,
+        }
+    }
+
     /// The route with that id, if there is one.
     pub fn find_route(&self, id: &str) -> Option<RouteNo>
         ensures place { option_map (λ route. route.0) result ≡ position (bytes_eq id.now) self.now.routes }
@@ -157,8 +176,8 @@ impl Timetable {
         stops
     }
 
-    /// What every timetable keeps: the ids are told apart, and the stops and the route of each trip are known. A law
-    /// for readers of a timetable, which does nothing when it runs.
+    /// What every timetable keeps: the ids are told apart, and the stops and the route of each trip are known, and so
+    /// is the station of each stop. A law for readers of a timetable, which does nothing when it runs.
     pub fn soundness_law(&self)
         ensures { IsSound (seen self.now) }
     {

@@ -1,8 +1,8 @@
 //! Trips, stops and routes by their ids, and the days on which trips run.
-use super::folder::table;
+use super::folder::{Given, read, table};
 use service_day::{DayForm, read_day};
 use std::process::Abort;
-use stop_schedule::{Timetable, TripNo};
+use stop_schedule::{TableFile, Timetable, TripNo};
 
 // Whether a trip runs on a day, where both are known.
 fn runs(table: &Timetable, trip: &str, day: &str) -> Option<bool> {
@@ -67,4 +67,35 @@ fn assert_found(rt: &impl Abort, table: &Timetable) {
 #[test]
 fn stops_and_routes_are_found_by_their_ids(rt: HostRuntime) {
     assert_found(&rt, &table(&rt, rt.alloc()));
+}
+
+// The id of the station of the stop of that id.
+fn station<'a>(table: &'a Timetable, id: &str) -> Option<&'a str> {
+    let stop = table.find_stop(id)?;
+    Some(table.stop_id(table.station_of(stop)))
+}
+
+// A stop, and its station.
+static STATIONS: [(&str, Option<&str>); 6] = [
+    ("A", Some("A")),
+    ("B", Some("SB")),
+    ("C", Some("C")),
+    ("D", Some("D")),
+    ("SB", Some("SC")),
+    ("S", None),
+];
+
+// Each stop is of its station.
+fn assert_stations(rt: &impl Abort, table: &Timetable, cases: &[(&str, Option<&str>)]) {
+    for (stop, wanted) in cases {
+        assert!(rt; station(table, stop) == *wanted, "{stop}");
+    }
+}
+
+#[test]
+fn a_stop_is_of_its_parent_or_of_itself(rt: HostRuntime) {
+    let stops = b"stop_id,parent_station\nA,\nB,SB\nC,C\nD\nSB,SC\nSC,\n";
+    let others = [(TableFile::Stops, Given::Whole(stops))];
+    let read = read(rt.alloc(), &others, None).expect(&rt, "memory");
+    assert_stations(&rt, &read.expect(&rt, "a timetable"), &STATIONS);
 }

@@ -1,7 +1,4 @@
-//! The rows of `stops.txt` and `routes.txt`: ids that differ.
-ghost use Rattle.std.specs.Prelude.{◌≡◌, true};
-ghost use Rattle.stop_schedule.specs.Layout.{lists_ids};
-
+//! The rows of `routes.txt`: ids that differ.
 use crate::sheet::Sheet;
 use crate::table_fault::TableFault;
 use crate::table_file::TableFile;
@@ -9,23 +6,22 @@ use crate::taking::TakesRows;
 use std::alloc::Global;
 use timetable::Ids;
 
-/// The ids of a file's rows, in order.
+/// The ids of the rows, in order.
 #[derive(Drop)]
-pub(crate) struct IdRows {
-    pub(crate) file: TableFile,
+pub(crate) struct RouteRows {
     pub(crate) ids: Ids,
-    pub(crate) ghost lists_ids: { lists_ids file ≡ true },
 }
 
-impl TakesRows for IdRows {
+impl TakesRows for RouteRows {
     ghost use Rattle.std.specs.Prelude.{◌≡◌, ◌<◌, map, length};
     ghost use Rattle.stop_schedule.specs.Causes.{duplicate_fault};
     ghost use Rattle.stop_schedule.specs.Places.{own_id};
     ghost use Rattle.stop_schedule.specs.Sheet.{nth};
+    ghost use Rattle.stop_schedule.specs.declared.table_file.TableFile.TheVariants.{Routes};
 
-    ghost file_of = { λ taker. taker.file };
+    ghost file_of = { λ _. Routes };
 
-    ghost fault = { λ taker. duplicate_fault taker.file };
+    ghost fault = { λ _. duplicate_fault Routes };
 
     ghost given = { λ _. 0 };
 
@@ -34,13 +30,13 @@ impl TakesRows for IdRows {
     ghost Holds = { λ _ taker rows. taker.ids ≡ map (nth own_id) rows };
 
     fn file(&self) -> TableFile {
-        self.file
+        TableFile::Routes
     }
 
     fn take(&mut self, alloc: Global, sheet: &Sheet<'_>, number: u64) -> Result<(), TableFault> {
         let added = self.ids.add(alloc, sheet.field(0))?;
         if !added {
-            return Err(TableFault::Duplicate(self.file, number));
+            return Err(TableFault::Duplicate(TableFile::Routes, number));
         }
         Ok(())
     }
