@@ -164,8 +164,7 @@ fn prepare_arrived(
     Ok(Prepared { accepted, change })
 }
 
-/// Reads and judges a feed that arrives whole at a moment, as in one piece, and takes all memory for what it changes. All
-/// that is kept stays as it is.
+/// Reads and judges a feed that arrives whole at a moment, in one piece. For what it changes no more memory is needed.
 pub(crate) fn prepare_feed(
     alloc: Global,
     setting: &Setting,

@@ -68,8 +68,8 @@ fn of_keep(fault: KeepFault) -> KeptFault
     }
 }
 
-// Reads and judges a body of any kind that arrives whole at a moment, and takes all memory for what it changes. All that
-// is kept stays as it is.
+// Reads and judges a body of any kind that arrives whole at a moment, and takes all memory for what it changes. All
+// that is kept stays as it is.
 fn prepare(
     alloc: Global,
     setting: &Setting,
