@@ -28,7 +28,7 @@ module _ (kept : Kept) (arrivals : List Arrival) (moment : ℤ) (now : Kept) whe
   takes_situations body (Err (delivery_fault.NotDelivery member)) says = says
   takes_situations body (Err delivery_fault.Memory) says = tt
 
-  takes_feed : (body : List ℕ) (answer : Result Accepted FeedRefusal) → FeedAnswer kept arrivals moment body answer now
+  pub takes_feed : (body : List ℕ) (answer : Result Accepted FeedRefusal) → FeedAnswer kept arrivals moment body answer now
       → Takes kept arrivals moment kind.Feed body (of_feed answer) now
   takes_feed body (Ok accepted) says = (feed says.0, (refl, says.1), says.2)
   takes_feed body (Err (feed_refusal.Feed fault)) says = says

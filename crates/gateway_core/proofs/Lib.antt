@@ -1,4 +1,5 @@
 mod BodyAnswers
+mod ChangeLemmas
 mod EstimatedLemmas
 mod FeedAnswers
 pub mod FewerLemmas
@@ -8,6 +9,7 @@ mod HeldLemmas
 mod JourneyLemmas
 mod JsonLemmas
 mod KeepsLemmas
+mod KeptAnswers
 mod LatestLemmas
 mod LengthLemmas
 mod OneLemmas

@@ -1,6 +1,6 @@
 -- The window after one moment more, and the entries that it leaves behind.
 use Rattle.journey_model.specs.Schedules.{schedule_from}
-use Rattle.std.proofs.Common.{◌≡◌, ◌∙◌, ◌<◌, ◌≤◌, ◌∷◌, ◌+◌, [], ℕ, add-one, ℤ, zero, suc, true, false, List, map, take, drop, ap, sym, subst, arith}
+use Rattle.std.proofs.Common.{◌≡◌, ◌∙◌, ◌<◌, ◌∷◌, ◌+◌, [], ℕ, add-one, ℤ, zero, suc, true, false, List, map, take, drop, ap, sym, subst, arith}
 use Rattle.std.specs.Prelude.{int_lt, length, slice_index_or, filter}
 use Rattle.std.specs.List.{AllByRecursion}
 use Rattle.service_day.specs.Windows.{DayStarts, IsWindow}
@@ -13,7 +13,6 @@ use Rattle.gateway_core.specs.Settings.{IsWindowIn}
 use Rattle.gateway_core.specs.Standing.{JourneyEntry, Kept, KeepsJourneys, Stands, journey_seen}
 use Rattle.gateway_core.specs.declared.keys.JourneyKey.{JourneyKey}
 use Rattle.gateway_core.specs.declared.setting.Setting.{Setting}
-use Rattle.gateway_core.proofs.SeenLemmas.{journeys_long}
 use Rattle.gateway_core.proofs.StandingLemmas.{keeps_rolled}
 use Rattle.gateway_core.proofs.WindowLemmas.{window_is}
 
@@ -82,7 +81,3 @@ one_more_gone first entries i lt here h = rw add-one (at entries i lt here h)
     at [] i lt here h = absurd (omega arith)
     at (one ∷ entries) zero lt here h = (here one, tt)
     at (one ∷ entries) (suc i) lt here h = (h.0, at entries i (omega arith) here h.1)
-
--- there are as many entries as are seen
-pub gone_within : (kept : Kept) (entries : List (Entry JourneyKey Instant)) (n : ℕ) → kept.journeys ≡ map journey_seen entries → n ≤ length entries → n ≤ length kept.journeys
-gone_within kept entries n seen h = subst (λ (long : ℕ). n ≤ long) (sym (ap length seen ∙ journeys_long entries)) h

@@ -98,14 +98,14 @@ Takes kept arrivals moment of bytes (Err why) now =
     Refuses (schedule_at kept.setting (moment ∷ moments_of arrivals)) of bytes why
 
 -- what is answered to a delivery, and to a feed, as to a body of any kind
-abbrev pub of_delivery : Result Accepted DeliveryFault → Result Accepted BodyRefusal
-of_delivery (Ok accepted) = Ok accepted
+abbrev pub of_delivery : {A : Type 0} → Result A DeliveryFault → Result A BodyRefusal
+of_delivery (Ok one) = Ok one
 of_delivery (Err delivery_fault.NotJson) = Err NotJson
 of_delivery (Err (delivery_fault.NotDelivery member)) = Err (NotDelivery member)
 of_delivery (Err delivery_fault.Memory) = Err Memory
 
-abbrev pub of_feed : Result Accepted FeedRefusal → Result Accepted BodyRefusal
-of_feed (Ok accepted) = Ok accepted
+abbrev pub of_feed : {A : Type 0} → Result A FeedRefusal → Result A BodyRefusal
+of_feed (Ok one) = Ok one
 of_feed (Err (feed_refusal.Feed fault)) = Err (Feed fault)
 of_feed (Err feed_refusal.Differential) = Err Differential
 of_feed (Err (feed_refusal.TooManyCalls calls)) = Err (TooManyCalls calls)

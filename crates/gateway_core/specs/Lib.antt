@@ -1,13 +1,16 @@
 pub mod Alerts
 pub mod Arrivals
 pub mod Arriving
+pub mod Before
 pub mod Bodies
+pub mod Changes
 pub mod Deliveries
 pub mod Feeds
 pub mod FeedTexts
 pub mod Gives
 pub mod JourneySteps
 pub mod Keeping
+pub mod KeptFirst
 pub mod Recording
 pub mod Reports
 pub mod Settings

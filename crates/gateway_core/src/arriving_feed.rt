@@ -5,6 +5,7 @@ ghost use Rattle.gw_base.specs.Limits.{body_limit};
 ghost use Rattle.gateway_core.specs.Arriving.{Reads, StandsFor};
 
 use crate::gateway::Gateway;
+use crate::setting::Setting;
 use feed_messages::FeedReader;
 use gw_base::Moment;
 use journey_model::Context;
@@ -74,6 +75,20 @@ fn take_all(
 }
 
 impl FeedTaking {
+    /// Takes the next bytes of the feed, over the setting of the gateway at which it began to arrive. Err for want of
+    /// memory.
+    pub(crate) fn take_piece(&mut self, setting: &Setting, piece: &[u8]) -> Result<(), AllocError>
+        requires room { self.old.reader.taken + length piece.now ≤ body_limit }
+        ensures takes { (bytes : List ℕ) → StandsFor setting.now self.old bytes
+            → OnOk result (StandsFor setting.now self.new (bytes ++ piece.now)) }
+        ensures moment { self.new.moment ≡ self.old.moment }
+        ensures window { self.new.window ≡ self.old.window }
+        ensures counted { OnOk result (self.new.reader.taken ≡ self.old.reader.taken + length piece.now) }
+    {
+        let context = setting.context_over(&self.window);
+        take_all(&context, &mut self.reader, &mut self.fold, piece)
+    }
+
     /// Takes the next bytes of the feed, at the gateway at which it began to arrive. Err for want of memory, after
     /// which it may only be dropped.
     pub fn piece(&mut self, gate: &Gateway, piece: &[u8]) -> Result<(), AllocError>
@@ -84,7 +99,6 @@ impl FeedTaking {
         ensures window { self.new.window ≡ self.old.window }
         ensures counted { OnOk result (self.new.reader.taken ≡ self.old.reader.taken + length piece.now) }
     {
-        let context = gate.setting.context_over(&self.window);
-        take_all(&context, &mut self.reader, &mut self.fold, piece)
+        self.take_piece(&gate.setting, piece)
     }
 }

@@ -5,12 +5,12 @@ ghost use Rattle.gateway_core.specs.Arrivals.{Arrival, moments_of, schedule_at};
 ghost use Rattle.gateway_core.specs.Settings.{IsWindowIn};
 ghost use Rattle.gateway_core.specs.Standing.{Stands};
 
-use crate::keys::{Edition, JourneyKey};
 use crate::setting::Setting;
+use crate::state::State;
 use feed_index::FeedIndex;
-use gw_base::{Bytes, List, Moment, Text};
+use gw_base::{List, Moment};
 use journey_model::{Context, DatedReading};
-use service_day::{Instant, Window};
+use service_day::Window;
 use siri_calls::write_delivery;
 use std::alloc::{AllocError, Global};
 use std::marker::Model;
@@ -21,35 +21,23 @@ use std::marker::Model;
 #[derive(Drop)]
 pub struct Gateway {
     pub(crate) setting: Setting,
-    pub(crate) window: Window,
-    pub(crate) journeys: FeedIndex<JourneyKey, Instant>,
-    pub(crate) situations: FeedIndex<Text, Edition>,
-    pub(crate) text: Bytes,
+    pub(crate) state: State,
 }
 
 impl Model for Gateway {
     ghost use Rattle.std.specs.Coded.{codes};
-    ghost use Rattle.std.specs.Prelude.{◌≡◌, length, map};
-    ghost use Rattle.gateway_core.specs.Standing.{Kept, journey_seen, situation_seen};
-    ghost use Rattle.gateway_core.specs.Settings.{IsWindowIn};
+    ghost use Rattle.gateway_core.specs.Standing.{Kept};
     ghost use Rattle.gateway_core.specs.contracts.setting.Setting as settings;
 
     ghost Value = { Kept };
 
     ghost coded = { Prim.hlevel (codes, settings.the_row.coded) };
 
-    ghost view = { λ g. record {
-      setting = g.setting;
-      window = g.window;
-      journeys = map journey_seen g.journeys.entries;
-      situations = map situation_seen g.situations.entries;
-      text = g.text;
-      dead_journeys = g.journeys.dead;
-      dead_situations = g.situations.dead;
-    } };
+    ghost use Rattle.gateway_core.specs.Changes.{IsWindowOf, kept_of};
 
-    ghost invariant = { λ g. IsWindowIn g.setting.zone g.window
-        × (length g.window.starts ≡ length g.setting.window.starts) };
+    ghost view = { λ g. kept_of g.setting g.state };
+
+    ghost invariant = { λ g. IsWindowOf g.setting g.state.window };
 }
 
 impl Gateway {
@@ -65,10 +53,12 @@ impl Gateway {
         let window = Window::make(&setting.zone, setting.window.first(), setting.window.days())?;
         Ok(Gateway {
             setting,
-            window,
-            journeys: FeedIndex::make(alloc),
-            situations: FeedIndex::make(alloc),
-            text,
+            state: State {
+                window,
+                journeys: FeedIndex::make(alloc),
+                situations: FeedIndex::make(alloc),
+                text,
+            },
         })
     }
 
@@ -76,7 +66,7 @@ impl Gateway {
     pub fn window(&self) -> &Window
         ensures value { result.now ≡ self.now.window }
     {
-        &self.window
+        &self.state.window
     }
 
     /// What journeys are read over now, lent: the window is one of the context's zone.
@@ -85,6 +75,6 @@ impl Gateway {
             → result ≡ schedule_at self.now.setting (moments_of arrivals) }
         ensures own_window { IsWindowIn result.zone result.window }
     {
-        self.setting.context_over(&self.window)
+        self.setting.context_over(&self.state.window)
     }
 }

@@ -4,6 +4,7 @@
 
 mod accepted;
 mod arriving_feed;
+mod before;
 mod gateway;
 mod items;
 mod keys;
@@ -13,10 +14,12 @@ mod reporting;
 mod rolling;
 mod serving;
 mod setting;
+mod state;
 mod take;
 
 pub use accepted::{Accepted, FeedRefusal, TakeFault};
 pub use arriving_feed::FeedTaking;
+pub use before::{Before, KeepFault};
 pub use gateway::Gateway;
 pub use keys::{Edition, JourneyKey};
 pub use laws::{
@@ -25,4 +28,4 @@ pub use laws::{
 };
 pub use reporting::feed_report;
 pub use setting::Setting;
-pub use take::{Body, BodyRefusal};
+pub use take::{Body, BodyRefusal, KeptFault};

@@ -1,6 +1,6 @@
 //! What becomes of the window by a moment, and which entries it leaves behind. The definitions are those of
 //! `specs/Arrivals.antt`.
-ghost use Rattle.std.specs.Prelude.{◌≡◌, ◌≤◌, ◌<◌, ◌+ℤ◌, ◌-ℤ◌, ◌≤ℤ◌, ◌∷◌, ℤ, true, false, pos, int_lt, length, take, drop, filter, slice_index_or, List};
+ghost use Rattle.std.specs.Prelude.{◌≡◌, ◌≤◌, ◌<◌, ◌+ℤ◌, ◌-ℤ◌, ◌≤ℤ◌, ◌∷◌, ℤ, true, false, pos, int_lt, length, take, drop, filter, map, slice_index_or, List};
 ghost use Rattle.std.specs.List.{AllByRecursion};
 ghost use Rattle.feed_index.specs.declared.entry.Entry.{Entry};
 ghost use Rattle.service_day.specs.declared.moments.Instant as moments;
@@ -8,12 +8,13 @@ ghost use Rattle.gateway_core.specs.declared.keys.JourneyKey as keys;
 ghost use Rattle.service_day.specs.Starts.{IsServiceDay};
 ghost use Rattle.gateway_core.specs.Arrivals as spec;
 ghost use Rattle.gateway_core.specs.Arrivals.{Arrival, admitted, is_within, moments_of, schedule_at, window_at};
+ghost use Rattle.gateway_core.specs.Changes.{IsWindowOf, kept_of};
 ghost use Rattle.gateway_core.specs.Settings.{IsWindowIn};
-ghost use Rattle.gateway_core.specs.Standing.{KeepsJourneys, Stands};
+ghost use Rattle.gateway_core.specs.Standing.{KeepsJourneys, Stands, journey_seen};
 
-use crate::gateway::Gateway;
 use crate::keys::JourneyKey;
 use crate::setting::Setting;
+use crate::state::State;
 use feed_index::FeedIndex;
 use gw_base::Moment;
 use service_day::{Day, Instant, Window, Zone, local_day};
@@ -106,20 +107,20 @@ pub(crate) struct WindowMove {
     pub expired: u64,
 }
 
-/// What becomes of a gateway's window by a body that arrives at a moment. Takes no memory.
-pub(crate) fn window_move(gate: &Gateway, moment: Moment) -> WindowMove
-    ensures own { IsWindowIn gate.now.setting.zone result.window }
-    ensures days { length result.window.starts ≡ length gate.now.setting.window.starts }
-    ensures rolls { (arrivals : List Arrival) → Stands gate.now arrivals
-        → result.window ≡ window_at gate.now.setting (moment ∷ moments_of arrivals) }
-    ensures within { result.expired ≤ length gate.now.journeys }
-    ensures keeps { (arrivals : List Arrival) → Stands gate.now arrivals
-        → KeepsJourneys (schedule_at gate.now.setting (moment ∷ moments_of arrivals))
-        (filter (is_within (window_at gate.now.setting (moment ∷ moments_of arrivals)))
-        (admitted gate.now.setting arrivals))
-        (drop result.expired gate.now.journeys) }
+/// What becomes of the window of what is kept by a body that arrives at a moment. Takes no memory.
+pub(crate) fn window_move(setting: &Setting, state: &State, moment: Moment) -> WindowMove
+    requires own { IsWindowOf setting.now state.now.window }
+    ensures own { IsWindowOf setting.now result.window }
+    ensures rolls { (arrivals : List Arrival) → Stands (kept_of setting.now state.now) arrivals
+        → result.window ≡ window_at setting.now (moment ∷ moments_of arrivals) }
+    ensures within { result.expired ≤ length state.now.journeys.entries }
+    ensures keeps { (arrivals : List Arrival) → Stands (kept_of setting.now state.now) arrivals
+        → KeepsJourneys (schedule_at setting.now (moment ∷ moments_of arrivals))
+        (filter (is_within (window_at setting.now (moment ∷ moments_of arrivals)))
+        (admitted setting.now arrivals))
+        (drop result.expired (map journey_seen state.now.journeys.entries)) }
 {
-    let window = window_after(&gate.setting, &gate.window, moment);
-    let expired = expired_before(&gate.journeys, window.first());
+    let window = window_after(setting, &state.window, moment);
+    let expired = expired_before(&state.journeys, window.first());
     WindowMove { window, expired }
 }

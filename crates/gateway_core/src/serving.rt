@@ -101,10 +101,10 @@ impl Gateway {
             → result ≡ length (served moment self.now) }
     {
         let header = header_bytes(moment);
-        let journeys = self.journeys.total_bytes();
+        let journeys = self.state.journeys.total_bytes();
         let len = header.as_slice().len() as u64;
         len.saturating_add(journeys)
-            .saturating_add(served_len(&self.situations))
+            .saturating_add(served_len(&self.state.situations))
     }
 
     /// Writes the feed that is made at that moment (GTFS Realtime, FeedMessage): the header, the entity of the latest
@@ -123,14 +123,19 @@ impl Gateway {
             (present self.now.setting arrivals) (served moment self.now) }
     {
         let header = header_bytes(moment);
-        write_entities(header.as_slice(), &self.journeys, &self.situations, sink)
+        write_entities(
+            header.as_slice(),
+            &self.state.journeys,
+            &self.state.situations,
+            sink,
+        )
     }
 
     /// How many bytes the SIRI text has.
     pub fn siri_len(&self) -> u64
         ensures value { result ≡ length self.now.text }
     {
-        self.text.len() as u64
+        self.state.text.len() as u64
     }
 
     /// Writes the SIRI text of the last feed (SIRI 2.0, EstimatedTimetableDelivery). After a failure a prefix of it is
@@ -142,6 +147,6 @@ impl Gateway {
         ensures counts { Counts (IsErr result) (S.faults sink.old) (S.faults sink.new) }
         ensures others { S.beside sink.new ≡ S.beside sink.old }
     {
-        put_all(sink, self.text.as_slice())
+        put_all(sink, self.state.text.as_slice())
     }
 }

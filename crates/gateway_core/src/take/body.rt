@@ -41,24 +41,24 @@ pub enum BodyRefusal {
     Memory,
 }
 
-// What is answered to a delivery, as to a body of any kind.
-fn of_delivery(answer: Result<Accepted, TakeFault>) -> Result<Accepted, BodyRefusal>
+/// What is answered to a delivery, as to a body of any kind.
+pub(crate) fn of_delivery<T: Drop>(answer: Result<T, TakeFault>) -> Result<T, BodyRefusal>
     ensures { result ≡ spec.of_delivery answer }
 {
     match answer {
-        Ok(accepted) => Ok(accepted),
+        Ok(one) => Ok(one),
         Err(TakeFault::NotJson) => Err(BodyRefusal::NotJson),
         Err(TakeFault::NotDelivery(member)) => Err(BodyRefusal::NotDelivery(member)),
         Err(TakeFault::Memory) => Err(BodyRefusal::Memory),
     }
 }
 
-// What is answered to a feed, as to a body of any kind.
-fn of_feed(answer: Result<Accepted, FeedRefusal>) -> Result<Accepted, BodyRefusal>
+/// What is answered to a feed, as to a body of any kind.
+pub(crate) fn of_feed<T: Drop>(answer: Result<T, FeedRefusal>) -> Result<T, BodyRefusal>
     ensures { result ≡ spec.of_feed answer }
 {
     match answer {
-        Ok(accepted) => Ok(accepted),
+        Ok(one) => Ok(one),
         Err(FeedRefusal::Feed(fault)) => Err(BodyRefusal::Feed(fault)),
         Err(FeedRefusal::Differential) => Err(BodyRefusal::Differential),
         Err(FeedRefusal::TooManyCalls(calls)) => Err(BodyRefusal::TooManyCalls(calls)),

@@ -5,6 +5,7 @@ ghost use Rattle.gw_base.specs.Limits.{body_limit};
 ghost use Rattle.propagation.specs.Folding as folding;
 ghost use Rattle.gateway_core.specs.Arrivals.{Arrival, moments_of, window_at};
 ghost use Rattle.gateway_core.specs.Arriving.{Reads, StandsFor};
+ghost use Rattle.gateway_core.specs.Changes as changes;
 ghost use Rattle.gateway_core.specs.FeedTexts as spec;
 ghost use Rattle.gateway_core.specs.Standing.{Stands};
 ghost use Rattle.gateway_core.specs.Taking.{FeedAnswer, report_json};
@@ -14,6 +15,8 @@ use crate::arriving_feed::FeedTaking;
 use crate::gateway::Gateway;
 use crate::report_text;
 use crate::rolling::{WindowMove, window_move};
+use crate::setting::Setting;
+use crate::state::{Change, News, Prepared, State};
 use feed_messages::{FeedFault, FeedReader};
 use gw_base::incrementality::DIFFERENTIAL;
 use gw_base::{Bytes, FeedHead, Moment};
@@ -106,6 +109,84 @@ fn read_text(
     }
 }
 
+// Begins to take a feed over what is kept.
+fn begin(alloc: Global, setting: &Setting, state: &State, moment: Moment) -> FeedTaking
+    requires own { changes.IsWindowOf setting.now state.now.window }
+    ensures stands { StandsFor setting.now result [] }
+    ensures moment { result.moment ≡ moment }
+    ensures window { (arrivals : List Arrival) → Stands (changes.kept_of setting.now state.now) arrivals
+        → result.window ≡ window_at setting.now (moment ∷ moments_of arrivals) }
+    ensures counted { result.reader.taken ≡ 0 }
+{
+    let WindowMove { window, expired: _ } = window_move(setting, state, moment);
+    FeedTaking {
+        moment,
+        window,
+        reader: FeedReader::make(alloc),
+        fold: ReadingFold::make(alloc),
+    }
+}
+
+// Judges the feed of all the bytes that arrived. For what it changes no more memory is needed.
+fn prepare_arrived(
+    alloc: Global,
+    setting: &Setting,
+    state: &State,
+    taking: FeedTaking,
+) -> Result<Prepared, FeedRefusal>
+    requires own { changes.IsWindowOf setting.now state.now.window }
+    requires stands { (bytes : List ℕ) × StandsFor setting.now taking bytes }
+    ensures ready { IfOk result (changes.IsReady setting.now state.now) }
+    ensures answers { (arrivals : List Arrival) → Stands (changes.kept_of setting.now state.now) arrivals
+        → taking.window ≡ window_at setting.now (taking.moment ∷ moments_of arrivals)
+        → (bytes : List ℕ) → StandsFor setting.now taking bytes
+        → changes.WillAnswer setting.now state.now
+        (FeedAnswer (changes.kept_of setting.now state.now) arrivals taking.moment bytes) result }
+    ensures text { IfOk result (λ one. one.accepted.text ≡ report_json one.accepted.report) }
+{
+    let FeedTaking {
+        moment,
+        window: read_over,
+        reader,
+        fold,
+    } = taking;
+    let WindowMove { window, expired } = window_move(setting, state, moment);
+    let context = setting.context_over(&read_over);
+    let (siri, accepted) = match read_text(alloc, &context, moment, reader, fold) {
+        Ok(both) => both,
+        Err(refusal) => return Err(refusal),
+    };
+    let change = Change {
+        window,
+        expired,
+        news: News::Text(siri),
+    };
+    Ok(Prepared { accepted, change })
+}
+
+/// Reads and judges a feed that arrives whole at a moment, in one piece. For what it changes no more memory is needed.
+pub(crate) fn prepare_feed(
+    alloc: Global,
+    setting: &Setting,
+    state: &State,
+    body: &[u8],
+    moment: Moment,
+) -> Result<Prepared, FeedRefusal>
+    requires own { changes.IsWindowOf setting.now state.now.window }
+    requires small { length body.now ≤ body_limit }
+    ensures ready { IfOk result (changes.IsReady setting.now state.now) }
+    ensures answers { (arrivals : List Arrival) → Stands (changes.kept_of setting.now state.now) arrivals
+        → changes.WillAnswer setting.now state.now
+        (FeedAnswer (changes.kept_of setting.now state.now) arrivals moment body.now) result }
+    ensures text { IfOk result (λ one. one.accepted.text ≡ report_json one.accepted.report) }
+{
+    let mut taking = begin(alloc, setting, state, moment);
+    match taking.take_piece(setting, body) {
+        Ok(()) => prepare_arrived(alloc, setting, state, taking),
+        Err(AllocError) => Err(FeedRefusal::Memory),
+    }
+}
+
 impl Gateway {
     /// Begins to take a feed (GTFS Realtime, FeedMessage) that arrives from this moment on: no byte of it came yet. Err
     /// for want of memory.
@@ -116,13 +197,7 @@ impl Gateway {
             → IfOk result (λ taking. taking.window ≡ window_at self.now.setting (moment ∷ moments_of arrivals)) }
         ensures counted { IfOk result (λ taking. taking.reader.taken ≡ 0) }
     {
-        let WindowMove { window, expired: _ } = window_move(self, moment);
-        Ok(FeedTaking {
-            moment,
-            window,
-            reader: FeedReader::make(alloc),
-            fold: ReadingFold::make(alloc),
-        })
+        Ok(begin(alloc, &self.setting, &self.state, moment))
     }
 
     /// Takes the feed of all the bytes that arrived, which has to be a full dataset of at most 400,000 calls; its SIRI
@@ -138,21 +213,16 @@ impl Gateway {
         ensures setting { self.new.setting ≡ self.old.setting }
         ensures refused { OnErr result (self.new ≡ self.old) }
     {
-        let FeedTaking {
-            moment,
-            window: read_over,
-            reader,
-            fold,
-        } = taking;
-        let WindowMove { window, expired } = window_move(self, moment);
-        let context = self.setting.context_over(&read_over);
-        let (siri, accepted) = match read_text(alloc, &context, moment, reader, fold) {
-            Ok(both) => both,
+        let Prepared { accepted, change } = match prepare_arrived(
+            alloc,
+            &self.setting,
+            &self.state,
+            taking,
+        ) {
+            Ok(prepared) => prepared,
             Err(refusal) => return Err(refusal),
         };
-        self.window = window;
-        self.journeys.cut_front(expired);
-        self.text = siri;
+        self.state.commit(change);
         Ok(accepted)
     }
 
@@ -172,13 +242,17 @@ impl Gateway {
         ensures setting { self.new.setting ≡ self.old.setting }
         ensures refused { OnErr result (self.new ≡ self.old) }
     {
-        let mut taking = match self.begin_feed(alloc, moment) {
-            Ok(taking) => taking,
-            Err(AllocError) => return Err(FeedRefusal::Memory),
+        let Prepared { accepted, change } = match prepare_feed(
+            alloc,
+            &self.setting,
+            &self.state,
+            body,
+            moment,
+        ) {
+            Ok(prepared) => prepared,
+            Err(refusal) => return Err(refusal),
         };
-        if taking.piece(self, body).is_err() {
-            return Err(FeedRefusal::Memory);
-        }
-        self.end_feed(alloc, taking)
+        self.state.commit(change);
+        Ok(accepted)
     }
 }

@@ -4,6 +4,7 @@ ghost use Rattle.std.specs.Prelude.{◌≡◌, ◌≤◌, drop, filter, length, 
 ghost use Rattle.feed_index.specs.Entries.{put_all};
 ghost use Rattle.journey_model.specs.Records.{Recorded};
 ghost use Rattle.gateway_core.specs.Arrivals.{Arrival, is_within};
+ghost use Rattle.gateway_core.specs.Changes as changes;
 ghost use Rattle.gateway_core.specs.JourneySteps as spec;
 ghost use Rattle.gateway_core.specs.Standing.{KeepsJourneys, Stands, journey_seen};
 ghost use Rattle.gateway_core.specs.Taking as taking;
@@ -14,6 +15,8 @@ use crate::items::journeys::take_journeys;
 use crate::keys::JourneyKey;
 use crate::report_text::report_json;
 use crate::rolling::{WindowMove, window_move};
+use crate::setting::Setting;
+use crate::state::{Change, News, Prepared, State};
 use feed_index::{Batch, Draft, FeedIndex};
 use gw_base::Moment;
 use journey_model::Context;
@@ -62,6 +65,40 @@ fn made_of(
     })
 }
 
+/// Reads and judges a delivery of journeys that arrives at a moment, and takes all memory for what it changes. All that
+/// is kept stays as it is.
+pub(crate) fn prepare_journeys(
+    alloc: Global,
+    setting: &Setting,
+    state: &mut State,
+    body: &[u8],
+    moment: Moment,
+) -> Result<Prepared, TakeFault>
+    requires own { changes.IsWindowOf setting.now state.old.window }
+    ensures same { changes.IsSame state.old state.new }
+    ensures ready { IfOk result (changes.IsReady setting.now state.new) }
+    ensures answers { (arrivals : Values Arrival) → Stands (changes.kept_of setting.now state.old) arrivals
+        → changes.WillAnswer setting.now state.new
+        (taking.JourneysAnswer (changes.kept_of setting.now state.old) arrivals moment body.now) result }
+    ensures text { IfOk result (λ one. one.accepted.text ≡ taking.report_json one.accepted.report) }
+{
+    let WindowMove { window, expired } = window_move(setting, state, moment);
+    let context = setting.context_over(&window);
+    let Made { accepted, batch } = match made_of(alloc, &context, &state.journeys, expired, body) {
+        Ok(made) => made,
+        Err(fault) => return Err(fault),
+    };
+    let change = Change {
+        window,
+        expired,
+        news: News::Journeys(batch),
+    };
+    match state.prepare(&change) {
+        Ok(()) => Ok(Prepared { accepted, change }),
+        Err(AllocError) => Err(TakeFault::Memory),
+    }
+}
+
 impl Gateway {
     /// Takes a delivery of estimated timetables (SIRI 2.0, EstimatedTimetableDelivery) that arrives at a moment: each
     /// journey is taken, or set aside with its first fault, in the window that is there by that moment. NotJson comes
@@ -79,25 +116,17 @@ impl Gateway {
         ensures setting { self.new.setting ≡ self.old.setting }
         ensures refused { OnErr result (self.new ≡ self.old) }
     {
-        let WindowMove { window, expired } = window_move(self, moment);
-        let context = self.setting.context_over(&window);
-        let Made { accepted, batch } = match made_of(
+        let Prepared { accepted, change } = match prepare_journeys(
             alloc,
-            &context,
-            &self.journeys,
-            expired,
+            &self.setting,
+            &mut self.state,
             body,
+            moment,
         ) {
-            Ok(made) => made,
+            Ok(prepared) => prepared,
             Err(fault) => return Err(fault),
         };
-        match self.journeys.prepare_for(&batch) {
-            Ok(()) => {}
-            Err(AllocError) => return Err(TakeFault::Memory),
-        }
-        self.window = window;
-        self.journeys.cut_front(expired);
-        self.journeys.merge(batch);
+        self.state.commit(change);
         Ok(accepted)
     }
 }

@@ -6,6 +6,7 @@ ghost use Rattle.feed_index.specs.Entries.{put_all};
 ghost use Rattle.journey_model.specs.declared.situation.Situation as of_journeys;
 ghost use Rattle.siri_json.specs.declared.delivery.DeliveryFault.TheVariants as DeliveryFault;
 ghost use Rattle.gateway_core.specs.Arrivals.{Arrival};
+ghost use Rattle.gateway_core.specs.Changes as changes;
 ghost use Rattle.gateway_core.specs.SituationSteps as spec;
 ghost use Rattle.gateway_core.specs.Standing.{KeepsSituations, Stands, situation_seen};
 ghost use Rattle.gateway_core.specs.Taking.{SituationsAnswer, report_json};
@@ -16,6 +17,8 @@ use crate::items::situations::{SituationDraft, take_delivery};
 use crate::keys::Edition;
 use crate::report_text;
 use crate::rolling::{WindowMove, window_move};
+use crate::setting::Setting;
+use crate::state::{Change, News, Prepared, State};
 use feed_index::{Batch, Draft, FeedIndex};
 use gw_base::{Moment, Text};
 use journey_model::{Context, Report};
@@ -91,6 +94,40 @@ fn made_of(
     }
 }
 
+/// Reads and judges a delivery of situations that arrives at a moment, and takes all memory for what it changes. All
+/// that is kept stays as it is.
+pub(crate) fn prepare_situations(
+    alloc: Global,
+    setting: &Setting,
+    state: &mut State,
+    body: &[u8],
+    moment: Moment,
+) -> Result<Prepared, TakeFault>
+    requires own { changes.IsWindowOf setting.now state.old.window }
+    ensures same { changes.IsSame state.old state.new }
+    ensures ready { IfOk result (changes.IsReady setting.now state.new) }
+    ensures answers { (arrivals : List Arrival) → Stands (changes.kept_of setting.now state.old) arrivals
+        → changes.WillAnswer setting.now state.new
+        (SituationsAnswer (changes.kept_of setting.now state.old) arrivals moment body.now) result }
+    ensures text { IfOk result (λ one. one.accepted.text ≡ report_json one.accepted.report) }
+{
+    let WindowMove { window, expired } = window_move(setting, state, moment);
+    let context = setting.context_over(&window);
+    let Made { accepted, batch } = match made_of(alloc, body, &context, &state.situations) {
+        Ok(made) => made,
+        Err(fault) => return Err(fault),
+    };
+    let change = Change {
+        window,
+        expired,
+        news: News::Situations(batch),
+    };
+    match state.prepare(&change) {
+        Ok(()) => Ok(Prepared { accepted, change }),
+        Err(AllocError) => Err(TakeFault::Memory),
+    }
+}
+
 impl Gateway {
     /// Takes a delivery of situations (SIRI 2.0, SituationExchangeDelivery), as `take_estimated` takes one of journeys:
     /// a situation whose alert has a body of more than 65,536 bytes is set aside too, and one without room is set aside
@@ -107,19 +144,17 @@ impl Gateway {
         ensures setting { self.new.setting ≡ self.old.setting }
         ensures refused { OnErr result (self.new ≡ self.old) }
     {
-        let WindowMove { window, expired } = window_move(self, moment);
-        let context = self.setting.context_over(&window);
-        let Made { accepted, batch } = match made_of(alloc, body, &context, &self.situations) {
-            Ok(made) => made,
+        let Prepared { accepted, change } = match prepare_situations(
+            alloc,
+            &self.setting,
+            &mut self.state,
+            body,
+            moment,
+        ) {
+            Ok(prepared) => prepared,
             Err(fault) => return Err(fault),
         };
-        match self.situations.prepare_for(&batch) {
-            Ok(()) => {}
-            Err(AllocError) => return Err(TakeFault::Memory),
-        }
-        self.window = window;
-        self.journeys.cut_front(expired);
-        self.situations.merge(batch);
+        self.state.commit(change);
         Ok(accepted)
     }
 }

@@ -11,5 +11,5 @@ returns-clause-shows c = λ arrivals h.
     let lent = schedule_from c.self.inside.setting.table c.self.inside.setting.zone in
     let here = subst (λ (kept : Kept). Stands kept arrivals) (sym c.self.view_is) h in
     c.context_over.ensures
-    ∙ subst (λ (kept : Kept). lent c.self.inside.window ≡ schedule_at kept.setting (moments_of arrivals)) c.self.view_is
+    ∙ subst (λ (kept : Kept). lent c.self.inside.state.window ≡ schedule_at kept.setting (moments_of arrivals)) c.self.view_is
     (ap (λ (window : DayStarts). lent window) here.window_is)

@@ -10,7 +10,7 @@ use Rattle.gateway_core.proofs.gateway.Gateway.write_feed.Goals as goal
 pub returns-clause-all : goal.returns-clause-all
 returns-clause-all g c =
     let told = g.S.Sink.told in
-    let text = all_written c.args.moment c.args.self.now c.as_slice.result.now c.self.inside.journeys.entries c.self.inside.situations.entries
+    let text = all_written c.args.moment c.args.self.now c.as_slice.result.now c.self.inside.state.journeys.entries c.self.inside.state.situations.entries
     (c.as_slice.ensures.same ∙ c.header_bytes-header.ensures.written) (ap (λ (kept : Kept). kept.journeys) c.self.view_is) (ap (λ (kept : Kept). kept.situations) c.self.view_is) in
     subst (λ (text : List ℕ). OnOk c.write_entities.result (told c.write_entities.new.sink ≡ with_bytes (told c.args.sink.now) text)) text c.write_entities.ensures.all
 
@@ -18,7 +18,7 @@ pub returns-clause-front : goal.returns-clause-front
 returns-clause-front g c =
     let told = g.S.Sink.told in
     let faults = g.S.Sink.faults in
-    let text = all_written c.args.moment c.args.self.now c.as_slice.result.now c.self.inside.journeys.entries c.self.inside.situations.entries
+    let text = all_written c.args.moment c.args.self.now c.as_slice.result.now c.self.inside.state.journeys.entries c.self.inside.state.situations.entries
     (c.as_slice.ensures.same ∙ c.header_bytes-header.ensures.written) (ap (λ (kept : Kept). kept.journeys) c.self.view_is) (ap (λ (kept : Kept). kept.situations) c.self.view_is) in
     subst (λ (text : List ℕ). PutsUnless (Rose (faults c.args.sink.now) (faults c.write_entities.new.sink)) (told c.args.sink.now) (told c.write_entities.new.sink) text) text
     c.write_entities.ensures.front
