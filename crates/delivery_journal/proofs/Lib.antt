@@ -1,0 +1,3 @@
+mod CallLemmas
+mod DiskLemmas
+mod WriteLemmas
