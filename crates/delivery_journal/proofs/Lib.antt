@@ -1,3 +1,6 @@
+mod BlockLemmas
 mod CallLemmas
 mod DiskLemmas
+mod FileLemmas
+mod RunLemmas
 mod WriteLemmas

@@ -3,8 +3,14 @@
 
 mod call;
 mod disk;
+mod header;
+mod journal;
 mod memory_disk;
+mod open_fault;
+mod reading;
 
 pub use call::{Call, Op};
 pub use disk::Disk;
+pub use journal::Journal;
 pub use memory_disk::MemoryDisk;
+pub use open_fault::OpenFault;
