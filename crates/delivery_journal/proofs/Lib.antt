@@ -1,3 +1,5 @@
+mod AppendLemmas
+mod AppendRuns
 mod BlockLemmas
 mod CallLemmas
 mod DiskLemmas

@@ -59,3 +59,12 @@ module _ {D : Type 0} (told : D → Option (List ℕ)) (may_leave : D → List �
         (λ now. inr (of_next image now))
         (next.from_before since image (omega (arith, le, first.later)) left);
   }
+
+  -- a wider fact
+  pub survives_wider : (old new : D) (Holds Wider : List ℕ → Type 0) → Survives clock left_since old new Holds
+      → ((image : List ℕ) → Holds image → Wider image) → Survives clock left_since old new Wider
+  survives_wider old new Holds Wider survives wider = record {
+    later = survives.later;
+    each = λ image left. wider image (survives.each image left);
+    from_before = λ since image le left. ⊎_elim (λ past. inl past) (λ now. inr (wider image now)) (survives.from_before since image le left);
+  }

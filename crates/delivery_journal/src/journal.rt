@@ -1,16 +1,22 @@
 //! A journal over a disk: it is opened, read body by body, and appended to.
-ghost use Rattle.std.specs.Prelude.{◌≡◌, ◌≢◌, ◌⊎◌, ◌+◌, ◌≤◌, ◌<◌, ℕ, List, true, length, take, drop, [], ◌∷◌, IfOk, IfErr, OnOk, IsErr, IsErrOf, Ok, Err, option_map};
+ghost use Rattle.std.specs.Prelude.{◌≡◌, ◌≢◌, ◌⊎◌, ◌+◌, ◌≤◌, ◌<◌, ℕ, List, true, false, length, take, drop, [], ◌∷◌, IfOk, IfErr, OnOk, IsErr, IsErrOf, Ok, Err, option_map};
 ghost use Rattle.gw_base.specs.Count.{Counts};
+ghost use Rattle.gw_base.specs.Limits.{body_limit};
 ghost use Rattle.delivery_journal.specs.Disk.{WhereTold, LeavesThis, Changes, ReadsOnly, Survives};
 ghost use Rattle.delivery_journal.specs.Kept.{KeptBody, kept, found, magic};
 ghost use Rattle.std.specs.Str.{bytes_eq};
-ghost use Rattle.delivery_journal.specs.Standing.{StandsOn, new_file, opened_file};
+ghost use Rattle.delivery_journal.specs.Standing.{StandsOn, Adds, HoldsWithOrWithout, new_file, opened_file};
 
+use crate::append_fault::AppendFault;
 use crate::disk::Disk;
 use crate::open_fault::OpenFault;
 use crate::reading::find_end;
-use gw_base::Failed;
+use crate::writing::{open_gate, write_record};
+use gw_base::{Failed, Kind, Moment};
 use std::marker::Model;
+
+// The most bytes that the file of a journal may have: 1 TiB.
+const FILE_LIMIT: u64 = 1_099_511_627_776;
 
 /// A journal whose file lies on a disk. A contract sees the place of the closed gate behind its list, and whether it is sound.
 #[derive(Debug, Drop)]
@@ -57,6 +63,52 @@ impl Journal {
         }
         let end = find(disk, len)?;
         Ok(Journal { end, sound: true })
+    }
+
+    /// Appends a body of at most 16 MiB, with its kind and moment. When it answers Ok, every crash from then on leaves it.
+    /// Full where the file would have more than 1 TiB, and then nothing was done. After a fault of the disk the journal isn't
+    /// sound any more, and is to be opened again. Takes no memory.
+    pub fn append<K: Disk>(
+        &mut self,
+        disk: &mut K,
+        kind: Kind,
+        moment: Moment,
+        body: &[u8],
+    ) -> Result<(), AppendFault>
+        requires sound { self.old.is_sound ≡ true }
+        requires stands { StandsOn K.told K.may_leave self.old disk.old }
+        requires short { length body.now ≤ body_limit }
+
+        ensures added { OnOk result (Adds (record { kind = kind; moment = moment; body = body.now })
+            (K.told disk.old) (K.told disk.new)) }
+        ensures ok { OnOk result (self.new
+            ≡ record { end = self.old.end + 14 + length body.now; is_sound = true }) }
+        ensures stands { result ≢ Err AppendFault.Disk → StandsOn K.told K.may_leave self.new disk.new }
+
+        // A crash in the call leaves the bodies from before it, or those and the new one.
+        ensures any_moment { WhereTold (K.told disk.old) (λ file. (bodies : List KeptBody) → kept file ≡ Ok bodies
+            → Survives K.clock K.left_since disk.old disk.new
+            (HoldsWithOrWithout bodies (record { kind = kind; moment = moment; body = body.now }))) }
+
+        // Full comes exactly where the file would be too long, and then nothing was done.
+        ensures full { 1099511627776 < self.old.end + 15 + length body.now
+            → (result ≡ Err (AppendFault.Full self.old.end)) × (self.new ≡ self.old) × (disk.new ≡ disk.old) }
+        ensures not_full { self.old.end + 15 + length body.now ≤ 1099511627776
+            → (end : ℕ) → result ≢ Err (AppendFault.Full end) }
+
+        ensures unsound { result ≡ Err AppendFault.Disk → self.new.is_sound ≡ false }
+        ensures counts { Counts (result ≡ Err AppendFault.Disk) (K.faults disk.old) (K.faults disk.new) }
+    {
+        let _secs = moment.secs();
+        if self.end > FILE_LIMIT - 15 - body.len() as u64 {
+            return Err(AppendFault::Full(self.end));
+        }
+        self.sound = false;
+        write_record(disk, self.end, kind, moment, body)?;
+        open_gate(disk, self.end)?;
+        self.end += 14 + body.len() as u64;
+        self.sound = true;
+        Ok(())
     }
 
     /// The place of the closed gate behind the list, in bytes from the file's beginning.

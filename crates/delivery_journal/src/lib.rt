@@ -1,6 +1,7 @@
 //! A journal of the bodies that were accepted, each on the disk before it is acknowledged.
 #![tactic(auto)]
 
+mod append_fault;
 mod call;
 mod disk;
 mod header;
@@ -8,7 +9,9 @@ mod journal;
 mod memory_disk;
 mod open_fault;
 mod reading;
+mod writing;
 
+pub use append_fault::AppendFault;
 pub use call::{Call, Op};
 pub use disk::Disk;
 pub use journal::Journal;
