@@ -1,0 +1,6 @@
+pub mod Disk
+pub mod DiskInMemory
+pub mod HeaderBytes
+pub mod ImageLaws
+pub mod Kept
+pub mod Standing
