@@ -1,5 +1,5 @@
-//! The public calls of the crates that read and write SIRI (json_tree, siri_calls, siri_situations), as their callers
-//! call them. They stand apart from those crates, since the tests of a crate are proved with its whole text.
+//! The public calls of the crates that read and write SIRI (json_tree, siri_calls, siri_situations), each once on its
+//! happy path, as their callers call them. What they answer else is data: `library_cases` has it.
 #![tactic(auto)]
 
 #[cfg(test)]
@@ -8,5 +8,3 @@ mod of_json_tree;
 mod of_siri_calls;
 #[cfg(test)]
 mod of_siri_situations;
-#[cfg(test)]
-mod texts;

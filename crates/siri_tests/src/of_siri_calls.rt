@@ -1,101 +1,82 @@
-//! Deliveries over the sample folder.
-mod calls;
-mod frames;
-mod items;
-mod journeys;
-mod written;
-
-use crate::texts::between;
-use journey_model::{Context, JourneyReading, JourneyRecord, StopReading};
-use siri_calls::{Delivery, DeliveryFault, Item, read_delivery};
+//! A delivery of estimated timetables over the sample folder is read, and one is written.
+use gw_base::{Bytes, Moment};
+use journey_model::{Context, Fault, JourneyReading, JourneyRecord, StopReading};
+use siri_calls::{Delivery, DeliveryFault, Item, read_delivery, write_delivery};
 use std::alloc::{AllocError, Global};
 use std::process::Abort;
 use test_folder::{paris, sample, window};
 
-// The start of the first of May 2024 in the zone, to which the times of the cases are added.
-const START: i64 = 1_714_514_400;
+// A journey with a stop that is late, one that is skipped, and an extra call, and a journey of an unknown trip.
+const DELIVERY: &str = concat!(
+    r#"{"ServiceDelivery":{"EstimatedTimetableDelivery":[{"EstimatedJourneyVersionFrame":[{"#,
+    r#""RecordedAtTime":"2024-05-01T06:00:00Z","EstimatedVehicleJourney":["#,
+    r#"{"FramedVehicleJourneyRef":{"DataFrameRef":"2024-05-01","DatedVehicleJourneyRef":"T1"},"#,
+    r#""EstimatedCalls":{"EstimatedCall":[{"StopPointRef":"A","ExpectedDepartureTime":"2024-05-01T08:01:00"},"#,
+    r#"{"StopPointRef":"B","Cancellation":true},{"ExtraCall":true}]}},"#,
+    r#"{"FramedVehicleJourneyRef":{"DataFrameRef":"2024-05-01","DatedVehicleJourneyRef":"T9"}}]}]}]}}"#,
+);
 
-// Adds how a stop reads.
-fn push_stop(alloc: Global, text: &mut String, reading: &StopReading) -> Result<(), AllocError> {
-    match reading {
-        StopReading::Absent => text.push_str(" -"),
-        StopReading::Skipped => text.push_str(" x"),
-        StopReading::Timed { arrival, departure } => {
-            let arrival = arrival.wrapping_sub(START);
-            let departure = departure.wrapping_sub(START);
-            let times = format!(in alloc; " {arrival}/{departure}")?;
-            text.push_str(times.as_str())
-        }
-    }
+// How the first journey's stops read.
+const STOPS: [StopReading; 3] = [
+    StopReading::Timed {
+        arrival: 1_714_543_260,
+        departure: 1_714_543_260,
+    },
+    StopReading::Skipped,
+    StopReading::Absent,
+];
+
+fn is_first(record: &JourneyRecord) -> bool {
+    let is_at = record.at.secs == 1_714_543_200 && record.at.nanos == 0;
+    let is_read = match &record.reading {
+        JourneyReading::Stops(stops) => stops.as_slice() == STOPS.as_slice(),
+        JourneyReading::Cancelled => false,
+    };
+    record.trip.0 == 0 && record.day.number() == 19_844 && is_at && is_read
 }
 
-// Adds what is recorded of a journey: its trip, its day, its instant and its stops.
-fn push_record(alloc: Global, text: &mut String, record: &JourneyRecord) -> Result<(), AllocError> {
-    let head = format!(in alloc;
-        "|{} {} {}.{}",
-        record.trip.0,
-        record.day.number(),
-        record.at.secs,
-        record.at.nanos
-    )?;
-    text.push_str(head.as_str())?;
-    match &record.reading {
-        JourneyReading::Cancelled => text.push_str(" cancelled"),
-        JourneyReading::Stops(stops) => {
-            for stop in stops.as_slice() {
-                push_stop(alloc, text, stop)?;
-            }
-            Ok(())
-        }
-    }
+// Whether a delivery says that.
+fn is_said(delivery: &Delivery) -> bool {
+    let are_said = match delivery.items.as_slice() {
+        [Item::Taken(record), Item::Aside(Fault::UnknownJourney)] => is_first(record),
+        _ => false,
+    };
+    are_said && delivery.passed == 1
 }
 
-// Adds what an item is.
-fn push_item(alloc: Global, text: &mut String, item: &Item) -> Result<(), AllocError> {
-    match item {
-        Item::Taken(record) => push_record(alloc, text, record),
-        Item::Aside(fault) => {
-            let fault = format!(in alloc; "|{fault:?}")?;
-            text.push_str(fault.as_str())
-        }
-    }
+// What a body says. Its clauses are in no caller's goals.
+fn read(alloc: Global, context: &Context<'_>) -> Result<Delivery, DeliveryFault> {
+    read_delivery(alloc, DELIVERY.as_bytes(), context)
 }
 
-// What a delivery says.
-fn text_of(alloc: Global, answer: &Result<Delivery, DeliveryFault>) -> Result<String, AllocError> {
-    let mut text = String::new(alloc);
-    match answer {
-        Err(fault) => return format!(in alloc; "{fault:?}"),
-        Ok(delivery) => {
-            for item in delivery.items.as_slice() {
-                push_item(alloc, &mut text, item)?;
-            }
-            let passed = format!(in alloc; " passed {}", delivery.passed)?;
-            text.push_str(passed.as_str())?;
-        }
-    }
-    Ok(text)
+fn write(alloc: Global, context: &Context<'_>, moment: Moment) -> Result<Bytes, AllocError> {
+    write_delivery(alloc, context, &[], moment)
 }
 
-// What a body says over a timetable.
-fn said(alloc: Global, body: &str, context: &Context<'_>) -> Result<String, AllocError> {
-    let answer = read_delivery(alloc, body.as_bytes(), context);
-    text_of(alloc, &answer)
+const WRITTEN: &str = concat!(
+    r#"{"Siri":{"ServiceDelivery":{"EstimatedTimetableDelivery":[{"EstimatedJourneyVersionFrame":[{"#,
+    r#""EstimatedVehicleJourney":[],"RecordedAtTime":"1970-01-01T00:00:00Z"}],"#,
+    r#""ResponseTimestamp":"1970-01-01T00:00:00Z","version":"2.0"}],"ResponseTimestamp":"1970-01-01T00:00:00Z"}}}"#,
+);
+
+fn assert_both(rt: &impl Abort, alloc: Global, context: &Context<'_>) {
+    let delivery = read(alloc, context).expect(rt, "a delivery");
+    assert!(rt; is_said(&delivery));
+    let moment = Moment::new(0).expect(rt, "a moment");
+    let text = write(alloc, context, moment).expect(rt, "memory");
+    assert_eq!(rt; text.as_slice(), WRITTEN.as_bytes());
 }
 
-// The cases, each between two texts, say this.
-fn assert_said(rt: &impl Abort, alloc: Global, ends: (&str, &str), cases: &[(&str, &str)]) {
-    let table = sample(alloc).expect(rt, "a timetable");
-    let zone = paris().expect(rt, "a zone");
-    let window = window(&zone, 2).expect(rt, "a window");
+#[test]
+fn a_delivery_is_read_and_written(rt: HostRuntime) {
+    let alloc = rt.alloc();
+    let table = sample(alloc).expect(&rt, "a timetable");
+    let zone = paris().expect(&rt, "a zone");
+    let window = window(&zone, 2).expect(&rt, "a window");
     let context = Context {
         table: &table,
         zone: &zone,
         window: &window,
     };
-    for (case, wanted) in cases {
-        let body = between(alloc, ends, case).expect(rt, "memory");
-        let text = said(alloc, body.as_str(), &context).expect(rt, "memory");
-        assert_eq!(rt; text.as_str(), *wanted, "what {case} says");
-    }
+    assert_both(&rt, alloc, &context);
 }

@@ -1,7 +1,7 @@
 -- The last record of a delivery that can be served can be served.
 use Rattle.std.proofs.Common.{IfSome, subst}
 use Rattle.siri_calls.specs.Servable.{IsServable}
-use Rattle.siri_tests.proofs.of_siri_calls.written.written_of.Goals as goal
+use Rattle.library_cases.proofs.written.written_of.Goals as goal
 
 pub written-requires : goal.written-requires
 written-requires c = λ x found.

@@ -5,7 +5,7 @@ use Rattle.journey_model.specs.Schedules.{FitsSchedule, Schedule}
 use Rattle.journey_model.specs.declared.readings.DatedReading.{DatedReading}
 use Rattle.journey_model.specs.declared.readings.JourneyRecord.{JourneyRecord}
 use Rattle.siri_calls.specs.Servable.{IsServable}
-use Rattle.siri_tests.proofs.of_siri_calls.written.written.Goals as goal
+use Rattle.library_cases.proofs.written.written.Goals as goal
 
 fits : (schedule : Schedule) (one : JourneyRecord) (two : DatedReading) → IsServable schedule one
     → (two.trip ≡ one.trip) × (two.day ≡ one.day) × (two.reading ≡ one.reading)
