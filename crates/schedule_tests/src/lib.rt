@@ -1,6 +1,6 @@
 //! The public calls of the crates that read what runs when (gw_base, service_day, stop_schedule, journey_model,
-//! sparse_planner), as their callers call them. They stand apart from those crates, since the tests of a crate are
-//! proved with its whole text.
+//! sparse_planner): those that take memory once on their happy path, and the objects in memory. What they answer else
+//! is data: `library_cases` has it.
 #![tactic(auto)]
 
 #[cfg(test)]

@@ -17,33 +17,6 @@ fn numbers(rt: &impl Abort, alloc: Global, values: &[u64]) -> List<u64> {
     list
 }
 
-// Seconds, and whether they are a moment.
-static SECONDS: [(i64, bool); 7] = [
-    (-1, false),
-    (0, true),
-    (1_714_543_200, true),
-    (253_370_764_799, true),
-    (253_370_764_800, false),
-    (i64::MIN, false),
-    (i64::MAX, false),
-];
-
-// Each is a moment or isn't.
-fn each_moment(rt: &impl Abort, seconds: &[(i64, bool)]) {
-    for (secs, is_moment) in seconds {
-        let moment = Moment::new(*secs);
-        assert_eq!(rt; moment.is_some(), *is_moment, "at {secs}");
-        if let Some(moment) = moment {
-            assert_eq!(rt; moment.secs(), *secs);
-        }
-    }
-}
-
-#[test]
-fn moments_end_with_the_year_9998(rt: HostRuntime) {
-    each_moment(&rt, &SECONDS);
-}
-
 #[test]
 fn lists_hold_what_they_are_given(rt: HostRuntime) -> Result<(), Fail> {
     let mut list = List::new(rt.alloc());

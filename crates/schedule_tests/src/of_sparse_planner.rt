@@ -1,4 +1,4 @@
-//! Readings of one trip, each with the updates that say it.
+//! A reading of a trip, with the updates that say it. `gateway_cases` has others.
 ghost use Rattle.std.specs.Prelude.{◌≡◌, ◌∷◌, [], true, IfOk};
 ghost use Rattle.journey_model.specs.Readings.{are_near, fits_trip};
 ghost use Rattle.journey_model.specs.declared.readings.JourneyReading.TheVariants.{Stops};
@@ -130,67 +130,5 @@ fn a_delay_is_said_once(rt: HostRuntime) -> Result<(), Fail> {
         at(1_714_544_460, 1_714_544_460),
         "|10 0 60@1714543260 60@1714543260",
     )?;
-    check(
-        &rt,
-        rt.alloc(),
-        at(1_714_543_199, 1_714_543_199),
-        at(1_714_543_799, 1_714_543_859),
-        at(1_714_544_399, 1_714_544_399),
-        "|10 0 -1@1714543199 -1@1714543199",
-    )?;
-    Ok(())
-}
-
-#[test]
-fn the_delay_of_the_departure_is_carried_on(rt: HostRuntime) -> Result<(), Fail> {
-    check(
-        &rt,
-        rt.alloc(),
-        StopReading::Absent,
-        at(1_714_543_860, 1_714_543_860),
-        at(1_714_544_400, 1_714_544_400),
-        "|20 0 60@1714543860 0@1714543860",
-    )?;
-    Ok(())
-}
-
-#[test]
-fn what_is_known_begins_and_ends(rt: HostRuntime) -> Result<(), Fail> {
-    check(
-        &rt,
-        rt.alloc(),
-        at(1_714_543_260, 1_714_543_260),
-        at(1_714_543_860, 1_714_543_920),
-        StopReading::Absent,
-        "|10 0 60@1714543260 60@1714543260|30 2 - -",
-    )?;
-    check(
-        &rt,
-        rt.alloc(),
-        StopReading::Absent,
-        StopReading::Absent,
-        at(1_714_544_460, 1_714_544_460),
-        "|30 0 60@1714544460 60@1714544460",
-    )?;
-    Ok(())
-}
-
-#[test]
-fn a_delay_is_carried_over_a_skipped_stop(rt: HostRuntime) -> Result<(), Fail> {
-    check(
-        &rt,
-        rt.alloc(),
-        at(1_714_543_320, 1_714_543_320),
-        StopReading::Skipped,
-        at(1_714_544_520, 1_714_544_520),
-        "|10 0 120@1714543320 120@1714543320|20 1 - -",
-    )?;
-    Ok(())
-}
-
-#[test]
-fn a_cancelled_journey_has_no_updates(rt: HostRuntime) -> Result<(), Fail> {
-    let text = planned(&rt, rt.alloc(), &JourneyReading::Cancelled)?;
-    assert_eq!(rt; text.as_str(), "");
     Ok(())
 }
