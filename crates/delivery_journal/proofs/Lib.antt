@@ -4,5 +4,6 @@ mod BlockLemmas
 mod CallLemmas
 mod DiskLemmas
 mod FileLemmas
+mod GateLemmas
 mod RunLemmas
 mod WriteLemmas
