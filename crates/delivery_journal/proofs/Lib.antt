@@ -5,5 +5,6 @@ mod CallLemmas
 mod DiskLemmas
 mod FileLemmas
 mod GateLemmas
+mod KeptRows
 mod RunLemmas
 mod WriteLemmas
