@@ -4,5 +4,7 @@ mod BlockLemmas
 mod CallLemmas
 mod DiskLemmas
 mod FileLemmas
+mod GateLemmas
+mod KeptRows
 mod RunLemmas
 mod WriteLemmas

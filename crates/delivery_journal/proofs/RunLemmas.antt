@@ -1,6 +1,7 @@
 -- Several calls of a disk, one after the other.
 use Rattle.std.proofs.Common.{◌≡◌, inl, inr, ⊎_elim, ℕ, ◌≤◌, List, Option, refl, ◌∙◌, arith}
 use Rattle.delivery_journal.specs.Disk.{NoMore, Passes, ReadsOnly, Survives}
+use Rattle.delivery_journal.specs.Standing.{IsAtRest}
 
 module _ {D : Type 0} (told : D → Option (List ℕ)) (may_leave : D → List ℕ → Type 0) (clock : D → ℕ) (left_since : D → ℕ → List ℕ → Type 0) where
   pub reads_none : (disk : D) → ReadsOnly told may_leave clock left_since disk disk
@@ -68,3 +69,8 @@ module _ {D : Type 0} (told : D → Option (List ℕ)) (may_leave : D → List �
     each = λ image left. wider image (survives.each image left);
     from_before = λ since image le left. ⊎_elim (λ past. inl past) (λ now. inr (wider image now)) (survives.from_before since image le left);
   }
+
+-- what stands on a disk stands on it after it was read
+pub at_rest_reads : (old new : List ℕ → Type 0) (end : ℕ) (file : List ℕ) → NoMore old new → IsAtRest old end file → IsAtRest new end file
+at_rest_reads old new end file no_more at_rest =
+    record { bodies = at_rest.bodies; holds = at_rest.holds; on_disk = λ image left. at_rest.on_disk image (no_more image left) }

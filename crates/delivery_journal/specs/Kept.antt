@@ -1,7 +1,7 @@
 -- What the bytes of a journal's file hold. A file is the 8 bytes `GWJRNL01`, and then records. A record is a gate, one byte, and
 -- behind it a byte of the kind (1 a delivery of estimated timetables, 2 one of situations, 3 a feed), the moment in 8 bytes, the
 -- body's length in 4, both with the greatest byte first, and the body. Gate 0 is closed and ends the list; any other is open.
-use Rattle.std.specs.Prelude.{◌==◌, ◌&&◌, ◌+◌, ℕ, zero, suc, ℤ, pos, nat_le, if◌then◌else◌, List, [], ◌∷◌, length, take, drop, codes, sum_by, slice_index, Option, Some, None, option_map, option_and_then, Result, Ok, Err}
+use Rattle.std.specs.Prelude.{◌==◌, ◌&&◌, ◌+◌, ℕ, zero, suc, ℤ, pos, nat_le, if◌then◌else◌, List, [], ◌∷◌, length, take, drop, codes, slice_index, Option, Some, None, option_map, option_and_then, Result, Ok, Err}
 use Rattle.std.specs.Int.{w32, w64, from_be_bytes}
 use Rattle.std.specs.Option.{option_map_or}
 use Rattle.std.specs.Str.{bytes_eq}
@@ -82,6 +82,11 @@ found file = if bytes_eq (take 8 file) magic then found_from 0 8 (drop 8 file) e
 abbrev pub kept : List ℕ → Result (List KeptBody) OpenFault
 kept file = if nat_le (length file) 9 then Ok [] else ok_map (λ (all : Found). all.bodies) (found file)
 
+-- how many bytes the records of these bodies have, each with its gate
+abbrev pub size_of : List KeptBody → ℕ
+size_of [] = 0
+size_of (first ∷ rest) = 14 + length first.body + size_of rest
+
 -- the place of the gate behind these bodies, of which the first stands at the beginning of the list
 abbrev pub place_after : List KeptBody → ℕ
-place_after bodies = 8 + sum_by (λ (kept : KeptBody). 14 + length kept.body) bodies
+place_after bodies = 8 + size_of bodies

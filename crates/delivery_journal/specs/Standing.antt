@@ -1,5 +1,6 @@
 -- What a journal stands for: where its list ends, and that all of it is on the disk.
-use Rattle.std.specs.Prelude.{◌⊎◌, nat_le, if◌then◌else◌, ◌≡◌, ℕ, Bool, List, [], ◌∷◌, ◌++◌, length, Option, Ok}
+use Rattle.gw_base.specs.declared.kind.Kind.{Kind}
+use Rattle.std.specs.Prelude.{ℤ, ◌+◌, None, Some, ◌⊎◌, nat_le, if◌then◌else◌, ◌≡◌, ℕ, Bool, List, [], ◌∷◌, ◌++◌, length, Option, Ok}
 use Rattle.delivery_journal.specs.Disk.{LeavesThis, WhereTold}
 use Rattle.delivery_journal.specs.Kept.{KeptBody, kept, found, magic}
 
@@ -34,3 +35,10 @@ HoldsWithOrWithout bodies new image = (kept image ≡ Ok bodies) ⊎ (kept image
 abbrev pub Adds : KeptBody → Option (List ℕ) → Option (List ℕ) → Type 0
 Adds new before now = (bodies : List KeptBody) → WhereTold before (λ file. kept file ≡ Ok bodies)
     → WhereTold now (λ file. kept file ≡ Ok (bodies ++ new ∷ []))
+
+-- what is answered at a gate's place, by the bodies from there on: the first of them, and the place of the gate behind it; nothing where
+-- there is none
+abbrev pub Gives : List KeptBody → ℕ → Option (Kind × ℤ × ℕ) → List ℕ → Type 0
+Gives [] at answer read = answer ≡ None
+Gives (first ∷ rest) at answer read =
+    (answer ≡ Some (first.kind, first.moment, at + 14 + length first.body)) × (read ≡ first.body)

@@ -1,18 +1,20 @@
 //! A journal over a disk: it is opened, read body by body, and appended to.
-ghost use Rattle.std.specs.Prelude.{◌≡◌, ◌≢◌, ◌⊎◌, ◌+◌, ◌≤◌, ◌<◌, ℕ, List, true, false, length, take, drop, [], ◌∷◌, IfOk, IfErr, OnOk, IsErr, IsErrOf, Ok, Err, option_map};
+ghost use Rattle.std.specs.Prelude.{◌≡◌, ◌≢◌, ◌⊎◌, ◌+◌, ◌≤◌, ◌<◌, ℕ, List, true, false, length, take, drop, [], ◌∷◌, IfOk, IfErr, OnOk, IsErr, IsErrOf, Ok, Err, option_map, ◌++◌, None};
 ghost use Rattle.gw_base.specs.Count.{Counts};
 ghost use Rattle.gw_base.specs.Limits.{body_limit};
 ghost use Rattle.delivery_journal.specs.Disk.{WhereTold, LeavesThis, Changes, ReadsOnly, Survives};
-ghost use Rattle.delivery_journal.specs.Kept.{KeptBody, kept, found, magic};
+ghost use Rattle.delivery_journal.specs.Kept.{KeptBody, kept, found, magic, place_after};
 ghost use Rattle.std.specs.Str.{bytes_eq};
-ghost use Rattle.delivery_journal.specs.Standing.{StandsOn, Adds, HoldsWithOrWithout, new_file, opened_file};
+ghost use Rattle.delivery_journal.specs.Standing.{StandsOn, Adds, Gives, HoldsWithOrWithout, new_file, opened_file};
 
 use crate::append_fault::AppendFault;
+use crate::body_reading::{read_body, whole_at};
 use crate::disk::Disk;
+use crate::next_fault::NextFault;
 use crate::open_fault::OpenFault;
 use crate::reading::find_end;
 use crate::writing::{open_gate, write_record};
-use gw_base::{Failed, Kind, Moment};
+use gw_base::{Bytes, Failed, Kind, Moment};
 use std::marker::Model;
 
 // The most bytes that the file of a journal may have: 1 TiB.
@@ -63,6 +65,35 @@ impl Journal {
         }
         let end = find(disk, len)?;
         Ok(Journal { end, sound: true })
+    }
+
+    /// The body behind the gate at `at`, whose bytes take the place of those in `body`: its kind, its moment, and the place of the next
+    /// gate. None at the closed gate behind the list.
+    pub fn next<K: Disk>(
+        &self,
+        disk: &mut K,
+        at: u64,
+        body: &mut Bytes,
+    ) -> Result<Option<(Kind, Moment, u64)>, NextFault>
+        requires sound { self.now.is_sound ≡ true }
+        requires stands { StandsOn K.told K.may_leave self.now disk.old }
+        requires place { at ≤ self.now.end }
+        ensures body { IfOk result (λ answer. WhereTold (K.told disk.old) (λ file. (before rest : List KeptBody)
+            → kept file ≡ Ok (before ++ rest) → at ≡ place_after before → Gives rest at answer body.new)) }
+        ensures end { at ≡ self.now.end → result ≡ Ok None }
+        ensures stands { StandsOn K.told K.may_leave self.now disk.new }
+        ensures reads { ReadsOnly K.told K.may_leave K.clock K.left_since disk.old disk.new }
+        ensures counts { Counts (result ≡ Err NextFault.Disk) (K.faults disk.old) (K.faults disk.new) }
+    {
+        if at == self.end {
+            return Ok(None);
+        }
+        let header = match whole_at(disk, at, self.end)? {
+            Some(header) => header,
+            None => return Err(NextFault::Memory),
+        };
+        read_body(disk, at + 14, header.count, body)?;
+        Ok(Some((header.kind, header.moment, at + 14 + header.count)))
     }
 
     /// Appends a body of at most 16 MiB, with its kind and moment. When it answers Ok, every crash from then on leaves it.

@@ -2,11 +2,13 @@
 #![tactic(auto)]
 
 mod append_fault;
+mod body_reading;
 mod call;
 mod disk;
 mod header;
 mod journal;
 mod memory_disk;
+mod next_fault;
 mod open_fault;
 mod reading;
 mod writing;
@@ -16,4 +18,5 @@ pub use call::{Call, Op};
 pub use disk::Disk;
 pub use journal::Journal;
 pub use memory_disk::MemoryDisk;
+pub use next_fault::NextFault;
 pub use open_fault::OpenFault;
