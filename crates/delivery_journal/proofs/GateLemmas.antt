@@ -1,12 +1,11 @@
 -- What stands at the gates of a list.
-use Rattle.std.proofs.Common.{◌≡◌, ◌≢◌, ℕ, ◌+◌, ◌≤◌, ◌<◌, List, [], ◌∷◌, ◌++◌, length, take, drop, Option, Some, None, Result, Ok, Err, refl, sym, ◌∙◌, ap, subst, arith, append_assoc, length-append}
+use Rattle.std.proofs.Common.{◌≡◌, ◌≢◌, ℕ, ◌+◌, ◌≤◌, List, [], ◌∷◌, ◌++◌, length, take, drop, Some, None, Ok, refl, sym, ◌∙◌, ap, subst, arith, append_assoc, length-append}
 use Rattle.std.proofs.lemmas.List.{drop_at, append-nil, drop-drop}
 use Rattle.delivery_journal.specs.declared.header.Header.{Header}
-use Rattle.delivery_journal.specs.declared.open_fault.OpenFault.{OpenFault}
-use Rattle.delivery_journal.specs.Kept.{KeptBody, Found, magic, header_of, record_of, found, kept, size_of, place_after}
+use Rattle.delivery_journal.specs.Kept.{KeptBody, header_of, record_of, kept, size_of, place_after}
 use Rattle.delivery_journal.specs.Standing.{IsAtRest, Gives}
-use Rattle.delivery_journal.proofs.BlockLemmas.{IsBlock, IsBlocks, IsWhole, whole, body_length}
-use Rattle.delivery_journal.proofs.AppendLemmas.{FileParts, file_parts, kept_found}
+use Rattle.delivery_journal.proofs.BlockLemmas.{IsBlock, IsBlocks, whole, body_length}
+use Rattle.delivery_journal.proofs.AppendLemmas.{file_parts, kept_found}
 
 record AtGate (size : ℕ) (bytes tail : List ℕ) (first : KeptBody) : Type 0 where
   gate : ℕ

@@ -46,14 +46,18 @@ Changes Step None (Some new) = ⊥
 
 -- Of a disk at two moments: whatever a crash since the first may have left, in a call or between two, this holds of it.
 -- The last field says the same for a span that began before.
-pub record Survives {D : Type 0} (clock : D → ℕ) (left_since : D → ℕ → List ℕ → Type 0) (old new : D) (Holds : List ℕ → Type 0) : Type 0 where
+pub record Survives {D : Type 0} (clock : D → ℕ) (left_since : D → ℕ → List ℕ → Type 0) (old new : D)
+    (Holds : List ℕ → Type 0) : Type 0 where
   pub later : clock old ≤ clock new
   pub each : (image : List ℕ) → left_since new (clock old) image → Holds image
-  pub from_before : (since : ℕ) (image : List ℕ) → since ≤ clock old → left_since new since image → left_since old since image ⊎ Holds image
+  pub from_before : (since : ℕ) (image : List ℕ) → since ≤ clock old → left_since new since image
+      → left_since old since image ⊎ Holds image
 
--- Of a disk at two moments between which it was only read or brought onto the disk: it tells the same file, and a crash may leave, and
--- may have left since a reading of its clock at or before the first moment, no more than at the first.
-pub record ReadsOnly {D : Type 0} (told : D → Option (List ℕ)) (may_leave : D → List ℕ → Type 0) (clock : D → ℕ) (left_since : D → ℕ → List ℕ → Type 0) (old new : D) : Type 0 where
+-- Of a disk at two moments between which it was only read or brought onto the disk: it tells the same file, and a
+-- crash may leave, and may have left since a reading of its clock at or before the first moment, no more than at the
+-- first.
+pub record ReadsOnly {D : Type 0} (told : D → Option (List ℕ)) (may_leave : D → List ℕ → Type 0) (clock : D → ℕ)
+    (left_since : D → ℕ → List ℕ → Type 0) (old new : D) : Type 0 where
   pub same : told new ≡ told old
   pub images : NoMore (may_leave old) (may_leave new)
   pub later : clock old ≤ clock new

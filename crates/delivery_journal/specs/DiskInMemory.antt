@@ -12,8 +12,8 @@ pub record Done : Type 0 where
   pub call : Call
   pub bytes : List ℕ
 
--- the file as it reads, as it was when it was last brought onto the disk, and the ranges that were written since: each one's
--- place and length
+-- the file as it reads, as it was when it was last brought onto the disk, and the ranges that were written since: each
+-- one's place and length
 pub record Content : Type 0 where
   pub file : List ℕ
   pub on_disk : List ℕ

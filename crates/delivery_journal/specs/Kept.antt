@@ -1,6 +1,7 @@
--- What the bytes of a journal's file hold. A file is the 8 bytes `GWJRNL01`, and then records. A record is a gate, one byte, and
--- behind it a byte of the kind (1 a delivery of estimated timetables, 2 one of situations, 3 a feed), the moment in 8 bytes, the
--- body's length in 4, both with the greatest byte first, and the body. Gate 0 is closed and ends the list; any other is open.
+-- What the bytes of a journal's file hold. A file is the 8 bytes `GWJRNL01`, and then records. A record is a gate, one
+-- byte, and behind it a byte of the kind (1 a delivery of estimated timetables, 2 one of situations, 3 a feed), the
+-- moment in 8 bytes, the body's length in 4, both with the greatest byte first, and the body. Gate 0 is closed and
+-- ends the list; any other is open.
 use Rattle.std.specs.Prelude.{◌==◌, ◌&&◌, ◌+◌, ℕ, zero, suc, ℤ, pos, nat_le, if◌then◌else◌, List, [], ◌∷◌, length, take, drop, codes, slice_index, Option, Some, None, option_map, option_and_then, Result, Ok, Err}
 use Rattle.std.specs.Int.{w32, w64, from_be_bytes}
 use Rattle.std.specs.Option.{option_map_or}
@@ -38,7 +39,8 @@ length_of bytes = from_be_bytes w32 (take 4 (drop 9 bytes))
 abbrev pub named_header : List ℕ → Kind → Header
 named_header bytes kind = record { kind = kind; moment = pos (moment_of bytes); count = length_of bytes }
 
--- the header with which these bytes begin: none where no kind has that byte, or the moment or the length is out of range
+-- the header with which these bytes begin: none where no kind has that byte, or the moment or the length is out of
+-- range
 unfoldable pub header_of : List ℕ → Option Header
 header_of bytes =
     if nat_le (moment_of bytes) last_moment && nat_le (length_of bytes) body_limit
@@ -48,7 +50,8 @@ header_of bytes =
 abbrev pub body_behind : List ℕ → Header → Option KeptBody
 body_behind bytes header =
     if nat_le (13 + header.count) (length bytes)
-    then Some (record { kind = header.kind; moment = header.moment; body = take header.count (drop 13 bytes) }) else None
+    then Some (record { kind = header.kind; moment = header.moment; body = take header.count (drop 13 bytes) })
+    else None
 
 -- the record that stands behind an open gate, up to the file's end: none where it isn't whole
 unfoldable pub record_of : List ℕ → Option KeptBody
@@ -64,14 +67,15 @@ abbrev pub with_first : KeptBody → Result Found OpenFault → Result Found Ope
 with_first kept (Ok found) = Ok (record { bodies = kept ∷ found.bodies; end = found.end })
 with_first kept (Err fault) = Err fault
 
--- What is found from a gate's place `at` on, which stands so many bytes (`skip`) behind the first of these, up to the file's end. The
--- file is damaged at the first gate that isn't in it, or that is open with no whole record behind it.
+-- What is found from a gate's place `at` on, which stands so many bytes (`skip`) behind the first of these, up to the
+-- file's end. The file is damaged at the first gate that isn't in it, or that is open with no whole record behind it.
 abbrev pub found_from : ℕ → ℕ → List ℕ → Result Found OpenFault
 found_from skip at [] = Err (Damaged at)
 found_from (suc skip) at (byte ∷ bytes) = found_from skip at bytes
 found_from zero at (gate ∷ bytes) =
     if gate == 0 then Ok (record { bodies = []; end = at })
-    else option_map_or (λ (kept : KeptBody). with_first kept (found_from (13 + length kept.body) (at + 14 + length kept.body) bytes))
+    else option_map_or
+    (λ (kept : KeptBody). with_first kept (found_from (13 + length kept.body) (at + 14 + length kept.body) bytes))
     (record_of bytes) (Err (Damaged at))
 
 -- what is found in a file

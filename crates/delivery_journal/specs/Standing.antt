@@ -36,8 +36,8 @@ abbrev pub Adds : KeptBody → Option (List ℕ) → Option (List ℕ) → Type 
 Adds new before now = (bodies : List KeptBody) → WhereTold before (λ file. kept file ≡ Ok bodies)
     → WhereTold now (λ file. kept file ≡ Ok (bodies ++ new ∷ []))
 
--- what is answered at a gate's place, by the bodies from there on: the first of them, and the place of the gate behind it; nothing where
--- there is none
+-- what is answered at a gate's place, by the bodies from there on: the first of them, and the place of the gate behind
+-- it; nothing where there is none
 abbrev pub Gives : List KeptBody → ℕ → Option (Kind × ℤ × ℕ) → List ℕ → Type 0
 Gives [] at answer read = answer ≡ None
 Gives (first ∷ rest) at answer read =

@@ -7,7 +7,8 @@ use gw_base::Failed;
 pub enum AppendFault {
     /// The disk failed, and its count of faults rose. The journal isn't sound any more: it has to be opened again.
     Disk,
-    /// The file would have more bytes than a journal's file may have. Nothing was written. With the closed gate's place.
+    /// The file would have more bytes than a journal's file may have. Nothing was written. With the closed gate's
+    /// place.
     Full(u64),
 }
 

@@ -1,5 +1,5 @@
 //! The record of the calls of a disk in memory.
-ghost use Rattle.std.specs.Prelude.{◌≡◌, ◌≤◌, ◌<◌, ◌+◌, ℕ, length, IfOk, [], take, drop, slice_get, Some};
+ghost use Rattle.std.specs.Prelude.{◌≡◌, ◌≤◌, ◌<◌, ◌+◌, length, IfOk, []};
 ghost use Rattle.delivery_journal.specs.DiskInMemory.{written_count, recorded, has_room};
 
 use gw_base::Buf;

@@ -1,8 +1,8 @@
 //! A journal over a disk: it is opened, read body by body, and appended to.
-ghost use Rattle.std.specs.Prelude.{◌≡◌, ◌≢◌, ◌⊎◌, ◌+◌, ◌≤◌, ◌<◌, ℕ, List, true, false, length, take, drop, [], ◌∷◌, IfOk, IfErr, OnOk, IsErr, IsErrOf, Ok, Err, option_map, ◌++◌, None};
+ghost use Rattle.std.specs.Prelude.{◌≡◌, ◌≢◌, ◌⊎◌, ◌+◌, ◌≤◌, ◌<◌, ℕ, List, true, false, length, take, IfOk, IfErr, OnOk, IsErr, Ok, Err, option_map, ◌++◌, None};
 ghost use Rattle.gw_base.specs.Count.{Counts};
 ghost use Rattle.gw_base.specs.Limits.{body_limit};
-ghost use Rattle.delivery_journal.specs.Disk.{WhereTold, LeavesThis, Changes, ReadsOnly, Survives};
+ghost use Rattle.delivery_journal.specs.Disk.{WhereTold, LeavesThis, ReadsOnly, Survives};
 ghost use Rattle.delivery_journal.specs.Kept.{KeptBody, kept, found, magic, place_after};
 ghost use Rattle.std.specs.Str.{bytes_eq};
 ghost use Rattle.delivery_journal.specs.Standing.{StandsOn, Adds, Gives, HoldsWithOrWithout, new_file, opened_file};
@@ -20,7 +20,8 @@ use std::marker::Model;
 // The most bytes that the file of a journal may have: 1 TiB.
 const FILE_LIMIT: u64 = 1_099_511_627_776;
 
-/// A journal whose file lies on a disk. A contract sees the place of the closed gate behind its list, and whether it is sound.
+/// A journal whose file lies on a disk. A contract sees the place of the closed gate behind its list, and whether it
+/// is sound.
 #[derive(Debug, Drop)]
 pub struct Journal {
     end: u64,
@@ -36,8 +37,8 @@ impl Model for Journal {
 }
 
 impl Journal {
-    /// Opens the file on the disk, which it brings onto the disk first. A file of at most 9 bytes is made anew, and holds
-    /// nothing. Takes no memory.
+    /// Opens the file on the disk, which it brings onto the disk first. A file of at most 9 bytes is made anew, and
+    /// holds nothing. Takes no memory.
     pub fn open<K: Disk>(disk: &mut K) -> Result<Journal, OpenFault>
         ensures sound { IfOk result (λ journal. journal.is_sound ≡ true) }
         ensures stands { IfOk result (λ journal. StandsOn K.told K.may_leave journal disk.new) }
@@ -67,8 +68,8 @@ impl Journal {
         Ok(Journal { end, sound: true })
     }
 
-    /// The body behind the gate at `at`, whose bytes take the place of those in `body`: its kind, its moment, and the place of the next
-    /// gate. None at the closed gate behind the list.
+    /// The body behind the gate at `at`, whose bytes take the place of those in `body`: its kind, its moment, and the
+    /// place of the next gate. None at the closed gate behind the list.
     pub fn next<K: Disk>(
         &self,
         disk: &mut K,
@@ -96,9 +97,9 @@ impl Journal {
         Ok(Some((header.kind, header.moment, at + 14 + header.count)))
     }
 
-    /// Appends a body of at most 16 MiB, with its kind and moment. When it answers Ok, every crash from then on leaves it.
-    /// Full where the file would have more than 1 TiB, and then nothing was done. After a fault of the disk the journal isn't
-    /// sound any more, and is to be opened again. Takes no memory.
+    /// Appends a body of at most 16 MiB, with its kind and moment. When it answers Ok, every crash from then on leaves
+    /// it. Full where the file would have more than 1 TiB, and then nothing was done. After a fault of the disk the
+    /// journal isn't sound any more, and is to be opened again. Takes no memory.
     pub fn append<K: Disk>(
         &mut self,
         disk: &mut K,

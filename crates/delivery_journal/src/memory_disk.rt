@@ -1,5 +1,5 @@
 //! A disk in memory.
-ghost use Rattle.std.specs.Prelude.{◌≡◌, ◌≢◌, ◌<◌, ◌≤◌, ◌+◌, ◌∷◌, ◌++◌, [], true, false, not, if◌then◌else◌, length, take, drop, Ok, Some, None, IfOk, IfSome, OnOk, IsErr, vec_len, vec_capacity};
+ghost use Rattle.std.specs.Prelude.{◌≡◌, ◌≢◌, ◌<◌, ◌≤◌, ◌+◌, ◌∷◌, ◌++◌, [], true, false, not, if◌then◌else◌, length, Ok, Some, None, IfOk, IfSome, vec_len, vec_capacity};
 ghost use Rattle.gw_base.specs.Count.{Counts};
 ghost use Rattle.gw_base.specs.Memory.{fails_next, after_use, after_fault};
 ghost use Rattle.delivery_journal.specs.Disk.{with_bytes_at};
@@ -43,9 +43,10 @@ impl Uses {
     }
 }
 
-/// A disk in memory of a stated room, with the numbers of the calls that are to fail. It tells its file, and it keeps a
-/// record of all calls. A write that is to fail puts the first half of its bytes. A call that doesn't fit in the room that is left
-/// is a fault, and does nothing. A contract sees the file that it began with, the record, and the uses.
+/// A disk in memory of a stated room, with the numbers of the calls that are to fail. It tells its file, and it keeps
+/// a record of all calls. A write that is to fail puts the first half of its bytes. A call that doesn't fit in the
+/// room that is left is a fault, and does nothing. A contract sees the file that it began with, the record, and the
+/// uses.
 #[derive(Debug, Drop)]
 pub struct MemoryDisk {
     start: Bytes,

@@ -8,7 +8,8 @@ use std::alloc::AllocError;
 pub enum NextFault {
     /// The disk failed, and its count of faults rose.
     Disk,
-    /// Want of memory. It also comes from a disk that doesn't tell its file, where the file isn't any more as it was opened.
+    /// Want of memory. It also comes from a disk that doesn't tell its file, where the file isn't any more as it was
+    /// opened.
     Memory,
 }
 

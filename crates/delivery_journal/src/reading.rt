@@ -1,8 +1,8 @@
 //! What stands at a gate's place, read off a disk.
-ghost use Rattle.std.specs.Prelude.{◌≡◌, ◌≢◌, ◌+◌, ◌≤◌, ◌<◌, ℕ, List, length, drop, ◌∷◌, None, Some, IfOk, IfErr, IfSome, IsErr, MatchOption, Ok, Err};
+ghost use Rattle.std.specs.Prelude.{◌≡◌, ◌≢◌, ◌+◌, ◌≤◌, ◌<◌, List, length, drop, ◌∷◌, None, Some, IfOk, IfErr, IfSome, IsErr, MatchOption, Ok, Err};
 ghost use Rattle.gw_base.specs.Count.{Counts};
 ghost use Rattle.delivery_journal.specs.Disk.{WhereTold, ReadsOnly};
-ghost use Rattle.delivery_journal.specs.Kept.{KeptBody, Found, header_of, record_of, found_from};
+ghost use Rattle.delivery_journal.specs.Kept.{KeptBody, header_of, record_of, found_from};
 
 use crate::disk::Disk;
 use crate::header::{Header, read_header};

@@ -1,5 +1,5 @@
 //! The two steps in which a body is appended: all of it is written behind the closed gate, and then the gate is opened.
-ghost use Rattle.std.specs.Prelude.{◌≡◌, ◌+◌, ◌≤◌, ◌<◌, ℕ, List, option_map, length, take, [], ◌∷◌, ◌++◌, OnOk, IsErr};
+ghost use Rattle.std.specs.Prelude.{◌≡◌, ◌+◌, ◌≤◌, ◌<◌, option_map, length, take, [], ◌∷◌, ◌++◌, OnOk, IsErr};
 ghost use Rattle.gw_base.specs.Count.{Counts};
 ghost use Rattle.delivery_journal.specs.Disk.{WhereTold, LeavesThis, Survives, Torn, with_bytes_at};
 ghost use Rattle.delivery_journal.specs.HeaderBytes.{header_bytes};
@@ -8,8 +8,8 @@ use crate::disk::Disk;
 use crate::header::write_header;
 use gw_base::{Failed, Kind, Moment};
 
-// Writes a record without its gate, and a closed gate behind it, behind the closed gate at `end`, and brings all of it onto the
-// disk. A crash meanwhile leaves a file that is the same up to that gate.
+// Writes a record without its gate, and a closed gate behind it, behind the closed gate at `end`, and brings all of it
+// onto the disk. A crash meanwhile leaves a file that is the same up to that gate.
 pub fn write_record<K: Disk>(
     disk: &mut K,
     end: u64,
@@ -35,7 +35,8 @@ pub fn write_record<K: Disk>(
     disk.sync()
 }
 
-// Opens the gate at `end` by a write of its own, and brings it onto the disk. A crash meanwhile leaves any byte there, and all else.
+// Opens the gate at `end` by a write of its own, and brings it onto the disk. A crash meanwhile leaves any byte there,
+// and all else.
 pub fn open_gate<K: Disk>(disk: &mut K, end: u64) -> Result<(), Failed>
     requires inside { WhereTold (K.told disk.old) (λ file. end < length file) }
     ensures file { OnOk result (K.told disk.new

@@ -1,4 +1,4 @@
-use Rattle.std.proofs.Common.{◌≡◌, ◌-◌, ◌≤◌, ℕ, List, take, drop, length}
+use Rattle.std.proofs.Common.{◌≡◌, ◌-◌, ◌≤◌, take, drop, length}
 use Rattle.delivery_journal.specs.Disk.{WhereTold, ReadsOnly}
 use Rattle.delivery_journal.proofs.body_reading.read_body.Given as goal
 

@@ -1,8 +1,8 @@
-use Rattle.std.proofs.Common.{◌≡◌, ◌+◌, ◌≤◌, ◌<◌, ℕ, List, length, take, drop, Option, Some, refl, sym, ◌∙◌, ap, subst, arith}
+use Rattle.std.proofs.Common.{◌≡◌, ◌+◌, ◌≤◌, drop, Option, Some, sym, ◌∙◌, subst, arith}
 use Rattle.std.specs.Prelude.{IfSome}
 use Rattle.delivery_journal.specs.declared.header.Header.{Header}
-use Rattle.delivery_journal.specs.Kept.{KeptBody, header_of}
-use Rattle.delivery_journal.specs.Standing.{Standing, IsAtRest, Gives}
+use Rattle.delivery_journal.specs.Kept.{header_of}
+use Rattle.delivery_journal.specs.Standing.{Standing, IsAtRest}
 use Rattle.delivery_journal.proofs.RunLemmas.{reads_then, at_rest_reads}
 use Rattle.delivery_journal.proofs.AppendRuns.{gate_inside}
 use Rattle.delivery_journal.proofs.GateLemmas.{gives_end, gives_next}
