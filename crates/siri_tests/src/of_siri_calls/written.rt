@@ -12,8 +12,8 @@ use service_day::read_utc;
 use siri_calls::{Delivery, Item, read_delivery, write_delivery};
 use std::alloc::{AllocError, Global};
 use std::process::Abort;
-use timetable::Timetable;
 use test_folder::{paris, read_folder, window};
+use timetable::Timetable;
 
 // It differs from the sample folder in a trip whose ids, of its route and of a stop too, want escapes.
 const FOLDER: &[(&str, &[u8])] = &[
