@@ -6,8 +6,8 @@ use alert_map::{alert_entity, entity_body_len};
 use gw_base::{Bytes, List, Text};
 use journey_model::{Ref, Situation, ValidPeriod};
 use std::alloc::{AllocError, Global};
-use timetable::{RouteNo, Timetable};
 use test_folder::sample;
+use timetable::{RouteNo, Timetable};
 
 // The alert of the route R1 from 2024-05-01T00:00:00Z on: a technical problem with significant delays, `Late`.
 const ENTITY: &[u8] =

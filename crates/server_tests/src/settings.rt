@@ -3,8 +3,8 @@ use gateway_core::Setting;
 use service_day::{DayForm, Window, Zone, read_day};
 use std::alloc::Global;
 use std::process::Abort;
-use timetable::Timetable;
 use test_folder::{paris, sample};
+use timetable::Timetable;
 
 // The timetable over three days from 2024-05-01 on.
 fn over(table: Timetable, zone: Zone, keep: Option<u8>) -> Option<Setting> {

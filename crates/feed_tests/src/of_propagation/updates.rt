@@ -6,8 +6,8 @@ use service_day::{DayForm, read_day};
 use std::alloc::{AllocError, Global};
 use std::process::Abort;
 use std::test::Fail;
-use timetable::StopRow;
 use test_folder::{paris, sample, window};
+use timetable::StopRow;
 
 // An update of a case: its sequence, or 0 for none; its stop; its relation; the delays of its arrival and its
 // departure, and the time of its arrival.
