@@ -100,7 +100,7 @@ def row(folder, name, number, column, kind):
     lines = [f"{name} line {line}: {raw[:200].decode('utf-8', 'replace')}"]
     value = value_in(header, fields, column)
     if kind == "Unknown":
-        other = NAMES_OF[name, column]
+        other = NAMES_OF.get((name, column), name)
         lines.append(f"{column} is {value!r}, which {other} doesn't have")
     elif column:
         lines.append(f"{column} is {value!r}" + (f"; it has to be {COLUMN[FILES[name][0][column]]}" if kind == "BadField" else ""))

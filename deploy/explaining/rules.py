@@ -50,6 +50,7 @@ FOLDER = {
 }
 COLUMN = {
     "id": "an id of 1 to 200 bytes",
+    "parent": "the stop_id of another row, or nothing",
     "flag": "0 or 1",
     "exception": "1 or 2",
     "date": "a date YYYYMMDD",
