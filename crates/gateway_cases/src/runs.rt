@@ -140,6 +140,7 @@ fn add_mark(alloc: Global, mark: Mark, into: &mut String) -> Result<(), AllocErr
         Mark::Memory => into.push_str(" Memory"),
         Mark::ClockFault => into.push_str(" ClockFault"),
         Mark::Lost => into.push_str(" Lost"),
+        Mark::Unkept => into.push_str(" Unkept"),
         Mark::Refused(status) => {
             let text = format!(in alloc; " Refused {status}")?;
             into.push_str(text.as_str())

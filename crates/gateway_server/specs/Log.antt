@@ -52,6 +52,7 @@ is_taken (mark.Refused status) = false
 is_taken mark.Memory = false
 is_taken mark.ClockFault = false
 is_taken mark.Lost = false
+is_taken mark.Unkept = false
 
 -- what arrived by the end of a connection, after what arrived before: what its body gives where that was taken, and
 -- otherwise nothing more
@@ -103,3 +104,4 @@ is_clock_fault mark.Shown = false
 is_clock_fault (mark.Refused status) = false
 is_clock_fault mark.Memory = false
 is_clock_fault mark.Lost = false
+is_clock_fault mark.Unkept = false

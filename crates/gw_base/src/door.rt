@@ -24,6 +24,8 @@ pub enum Mark {
     ClockFault,
     /// A read failed; nothing was answered.
     Lost,
+    /// What would have been applied or accepted couldn't be kept first; nothing was changed.
+    Unkept,
 }
 
 /// One finished connection: its whole input, how it ended, its moment, and what was written.

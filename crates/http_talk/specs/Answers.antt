@@ -5,7 +5,7 @@ use Rattle.http_talk.specs.declared.answer.Answer.TheVariants.{Feed, Json, Refus
 use Rattle.http_talk.specs.Statuses.{Status, status_of}
 use Rattle.http_talk.specs.declared.refusal.Allow.TheVariants.{GetPost, Post}
 use Rattle.http_talk.specs.declared.refusal.Refusal.{Refusal}
-use Rattle.http_talk.specs.declared.refusal.Refusal.TheVariants.{Head, Cut, Length, NotFound, Method, NeedLength, TooLarge, TooManyFields, Clock, Memory, Body}
+use Rattle.http_talk.specs.declared.refusal.Refusal.TheVariants.{Head, Cut, Length, NotFound, Method, NeedLength, TooLarge, TooManyFields, Clock, Journal, JournalFull, Memory, Body}
 
 -- a line, which ends in CR LF
 abbrev pub line : List ℕ → List ℕ
@@ -35,6 +35,8 @@ allow_of NeedLength = []
 allow_of TooLarge = []
 allow_of TooManyFields = []
 allow_of Clock = []
+allow_of Journal = []
+allow_of JournalFull = []
 allow_of Memory = []
 allow_of (Body fault) = []
 

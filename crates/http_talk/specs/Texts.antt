@@ -8,7 +8,7 @@ use Rattle.http_talk.specs.Statuses.{status_of}
 use Rattle.http_talk.specs.declared.refusal.BodyFault.{BodyFault}
 use Rattle.http_talk.specs.declared.refusal.BodyFault.TheVariants.{NotJson, NotDelivery, Wire, MissingField, NotText, EntityTooLong, Differential, TooManyCalls}
 use Rattle.http_talk.specs.declared.refusal.Refusal.{Refusal}
-use Rattle.http_talk.specs.declared.refusal.Refusal.TheVariants.{Head, Cut, Length, NotFound, Method, NeedLength, TooLarge, TooManyFields, Clock, Memory, Body}
+use Rattle.http_talk.specs.declared.refusal.Refusal.TheVariants.{Head, Cut, Length, NotFound, Method, NeedLength, TooLarge, TooManyFields, Clock, Journal, JournalFull, Memory, Body}
 
 -- the name of a kind of break in protobuf's encoding
 abbrev pub kind_name : WireKind → List ℕ
@@ -40,6 +40,8 @@ refusal_words NeedLength = codes "NeedLength"
 refusal_words TooLarge = codes "TooLarge"
 refusal_words TooManyFields = codes "TooManyFields"
 refusal_words Clock = codes "Clock"
+refusal_words Journal = codes "Journal"
+refusal_words JournalFull = codes "JournalFull"
 refusal_words Memory = codes "Memory"
 refusal_words (Body fault) = fault_text fault
 

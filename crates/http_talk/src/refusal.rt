@@ -50,6 +50,10 @@ pub enum Refusal {
     TooManyFields,
     /// Status 500: the clock failed.
     Clock,
+    /// Status 500: the body couldn't be kept in the journal.
+    Journal,
+    /// Status 500: the journal has no room for the body.
+    JournalFull,
     /// Status 503: want of memory.
     Memory,
     /// Status 400: the body isn't taken.

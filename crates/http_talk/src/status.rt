@@ -30,7 +30,10 @@ impl Refusal {
             Refusal::NeedLength => (411, "Length Required"),
             Refusal::TooLarge => (413, "Content Too Large"),
             Refusal::TooManyFields => (431, "Request Header Fields Too Large"),
-            Refusal::Clock => (500, "Internal Server Error"),
+            Refusal::Clock | Refusal::Journal | Refusal::JournalFull => (
+                500,
+                "Internal Server Error",
+            ),
             Refusal::Memory => (503, "Service Unavailable"),
         };
         Status { code, reason }

@@ -61,6 +61,8 @@ fn refusal_words(refusal: &Refusal) -> ShortText
         Refusal::TooLarge => ShortText::of("TooLarge"),
         Refusal::TooManyFields => ShortText::of("TooManyFields"),
         Refusal::Clock => ShortText::of("Clock"),
+        Refusal::Journal => ShortText::of("Journal"),
+        Refusal::JournalFull => ShortText::of("JournalFull"),
         Refusal::Memory => ShortText::of("Memory"),
         Refusal::Body(fault) => body_fault_text(fault),
     }
