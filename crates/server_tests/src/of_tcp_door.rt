@@ -75,6 +75,65 @@ fn an_answer_comes_whole(rt: HostRuntime) -> Result<(), Fail> {
 }
 
 #[test]
+fn each_client_gets_its_own_answer(rt: HostRuntime) -> Result<(), Fail> {
+    let mut door = TcpDoor::new(&rt, rt.alloc(), "127.0.0.1:0", Limits::usual());
+    assert_eq!(rt; door.bind(), Ok(()));
+    for body in [b"first".as_slice(), b"the second", b""] {
+        let mut client = client(&rt, door.port())?;
+        client.write_all(GET)?;
+        let mut buf = [0u8; 1024];
+        let read = serve(&mut door, &mut buf, (HEAD, body), Mark::Shown);
+        assert_eq!(rt; read, Ok(GET.len()));
+        let answer = rest(rt.alloc(), &mut client)?;
+        assert!(rt; answer.starts_with(HEAD) && answer.ends_with(body));
+        assert_eq!(rt; answer.len(), HEAD.len() + body.len());
+    }
+    Ok(())
+}
+
+// Serves the next connection as `serve` does; its client sends more once its request was read, and once more when it
+// was answered.
+fn serve_late<D: Door>(
+    door: &mut D,
+    buf: &mut [u8],
+    client: &mut TcpStream,
+    body: &[u8],
+) -> io::Result<bool>
+    requires absent { (D.beside door.old).present ≡ false }
+    requires room { 0 < length buf.old }
+    ensures absent { (D.beside door.new).present ≡ false }
+{
+    if let Ok(true) = door.next() {
+        let read = door.read(buf).is_ok();
+        let sent = client.write_all(GET);
+        let written = put_all(door, HEAD).is_ok() && put_all(door, body).is_ok();
+        door.finish(Mark::Shown, None);
+        sent?;
+        client.write_all(GET)?;
+        return Ok(read && written);
+    }
+    Ok(false)
+}
+
+#[test]
+fn late_bytes_tear_no_answer(rt: HostRuntime) -> Result<(), Fail> {
+    let mut door = TcpDoor::new(&rt, rt.alloc(), "127.0.0.1:0", Limits::usual());
+    assert_eq!(rt; door.bind(), Ok(()));
+    let mut body = Vec::new(rt.alloc());
+    body.resize(1_000_000, b'b')?;
+    for _ in 0..3 {
+        let mut client = client(&rt, door.port())?;
+        client.write_all(GET)?;
+        let mut buf = [0u8; 43];
+        assert!(rt; serve_late(&mut door, &mut buf, &mut client, body.as_slice())?);
+        let answer = rest(rt.alloc(), &mut client)?;
+        assert!(rt; answer.starts_with(HEAD) && answer.ends_with(body.as_slice()));
+        assert_eq!(rt; answer.len(), HEAD.len() + body.len());
+    }
+    Ok(())
+}
+
+#[test]
 fn a_silent_client_is_left(rt: HostRuntime) -> Result<(), Fail> {
     let (short, usual) = (Duration::from_millis(500), Limits::usual());
     let rows = [

@@ -1,10 +1,11 @@
 //! The door of the network. It tells nothing of its connections but whether one is present.
-ghost use Rattle.std.specs.Prelude.{◌≡◌, ◌<◌, ◌≤◌, true, false, None, Ok, length, take, IsSome, IsOk, IsErr, IfOk, OnOk, OnErr};
+ghost use Rattle.std.specs.Prelude.{◌≡◌, ◌<◌, ◌≤◌, true, false, None, Ok, [], length, take, IsSome, IsOk, IsErr, IfOk, OnOk, OnErr};
 ghost use Rattle.gw_base.specs.Count.{Counts, Rose};
 ghost use Rattle.gw_base.specs.Told.{with_bytes};
 ghost use Rattle.gw_base.specs.Connections.{Arrives, NoneComes, Takes, Logs};
 ghost use Rattle.tcp_door.specs.DoorOfTcp.{told_of, beside_of, new_door};
 
+use crate::accepting::{Refused, kind_of};
 use crate::connection::{Connection, ROOM};
 use crate::limits::Limits;
 use gw_base::{Door, Failed, Mark, Moment, Sink};
@@ -12,11 +13,22 @@ use std::alloc::Global;
 use std::io::{self, ErrorKind, Read};
 use std::marker::Model;
 use std::net::{Net, OpenListener, TcpListener};
-use std::time::Clock;
+use std::time::{Clock, Duration, Instant};
+
+/// How many connections stay open for their clients once they are answered.
+const LEAVING: usize = 16;
+
+/// How often, and how many milliseconds each time, a door waits for room or descriptors of the machine before `next`
+/// fails.
+const WAITS: u32 = 100;
+
+const PAUSE: u64 = 100;
 
 /// A door of connections over TCP, one present at a time. What is written is gathered and leaves in large
-/// pieces, at the latest in `finish`, and bytes that can't leave are a fault then. A contract sees the port,
-/// whether a connection is present, and the count of faults.
+/// pieces, at the latest in `finish`, and bytes that can't leave are a fault then. A connection whose client hasn't
+/// ended stays open without being read or written, until 16 others were answered: a close would drop what the client
+/// hasn't got yet as soon as it sends one byte more. A contract sees the port, whether a connection is present, what is
+/// gathered, and the count of faults.
 #[derive(Drop)]
 pub struct TcpDoor<'a, R: Net + Clock> {
     rt: &'a R,
@@ -25,6 +37,7 @@ pub struct TcpDoor<'a, R: Net + Clock> {
     bound: Option<(R::Listener, u16)>,
     present: bool,
     connection: Option<Connection<'a, R>>,
+    leaving: Vec<R::Stream>,
     held: Vec<u8>,
     faults: u64,
 }
@@ -38,6 +51,7 @@ impl<'a, R: Net + Clock> Model for TcpDoor<'a, R> {
     ghost view = { λ d. record {
       port = option_map (λ b. b.1) d.bound;
       present = d.present;
+      held = d.held.items;
       faults = d.faults;
     } };
 }
@@ -55,6 +69,7 @@ impl<'a, R: Net + Clock> TcpDoor<'a, R> {
             bound: None,
             present: false,
             connection: None,
+            leaving: Vec::new(alloc),
             held: Vec::new(alloc),
             faults: 0,
         }
@@ -106,40 +121,56 @@ impl<'a, R: Net + Clock> TcpDoor<'a, R> {
         ensures faults { self.new.faults ≡ self.old.faults }
     {
         self.held.reserve(ROOM)?;
+        self.leaving.reserve(LEAVING)?;
         let listener = TcpListener::bind(self.rt, self.address)?;
         let port = listener.local_addr()?.port();
         self.bound = Some((listener, port));
         Ok(())
     }
 
-    // The next connection. A client that went away before is passed over.
-    fn accept(&self) -> io::Result<Connection<'a, R>> {
-        let Some((listener, _)) = &self.bound else {
-            return Err(io::Error::from(ErrorKind::NotConnected));
-        };
+    // The next connection. A client that went away before is passed over; for room or descriptors it waits a while.
+    fn accept(&mut self) -> io::Result<Connection<'a, R>>
+        ensures { self.new ≡ self.old }
+    {
+        let mut waits = 0;
         for _ in 0..u64::MAX {
-            match listener.accept() {
-                Ok((stream, _)) => return Connection::new(self.rt, stream, self.limits),
-                Err(fault) if is_of_client(fault.kind()) => {}
-                Err(fault) => return Err(fault),
+            let fault = match self.one() {
+                Ok(Some(connection)) => return Ok(connection),
+                Ok(None) => continue,
+                Err(fault) => fault,
+            };
+            match kind_of(&fault) {
+                Refused::Client => {}
+                Refused::Room if waits < WAITS => {
+                    waits += 1;
+                    self.leaving.clear();
+                    self.rt.sleep(Duration::from_millis(PAUSE));
+                }
+                _ => return Err(fault),
             }
         }
-        Err(io::Error::from(ErrorKind::NotConnected))
+        Err(no_connection())
     }
-}
 
-// Whether an error of `accept` tells of a client that went away, or of a signal.
-fn is_of_client(kind: ErrorKind) -> bool {
-    matches!(
-        kind,
-        ErrorKind::ConnectionAborted
-            | ErrorKind::ConnectionReset
-            | ErrorKind::HostUnreachable
-            | ErrorKind::NetworkUnreachable
-            | ErrorKind::NetworkDown
-            | ErrorKind::TimedOut
-            | ErrorKind::Interrupted
-    )
+    // The next stream as a connection, or None where its client is gone already.
+    fn one(&self) -> io::Result<Option<Connection<'a, R>>> {
+        let Some((listener, _)) = &self.bound else {
+            return Err(no_connection());
+        };
+        let (stream, _) = listener.accept()?;
+        let begun = Instant::now(self.rt)?;
+        Ok(Connection::new(self.rt, stream, self.limits, begun).ok())
+    }
+
+    // Leaves a stream open for its client; of more than 16 the first one is closed.
+    fn leave_open(&mut self, stream: R::Stream)
+        ensures { self.new ≡ self.old }
+    {
+        if LEAVING <= self.leaving.len() {
+            let _first = self.leaving.remove(0);
+        }
+        let _kept = self.leaving.push(stream);
+    }
 }
 
 fn no_connection() -> io::Error {
@@ -185,6 +216,8 @@ impl<'a, R: Net + Clock> Door for TcpDoor<'a, R> {
         ensures none { result ≡ Ok false → NoneComes (beside_of self.old) (beside_of self.new) }
         ensures failed { OnErr result (beside_of self.new ≡ beside_of self.old) }
         ensures counts { Counts (IsErr result) self.old.faults self.new.faults }
+        // Nothing is gathered for it yet.
+        ensures empty { OnOk result (self.new.held ≡ []) }
         // It never tells that none is to come.
         ensures always { IfOk result (λ comes. comes ≡ true) }
         ensures bound { OnOk result (IsSome self.new.port) }
@@ -231,9 +264,16 @@ impl<'a, R: Net + Clock> Door for TcpDoor<'a, R> {
         let Some(connection) = self.connection.take() else {
             return;
         };
-        let is_refused = matches!(mark, Mark::Refused(_) | Mark::Memory);
-        if connection.finish(self.held.as_slice(), is_refused).is_err() {
-            self.fault();
+        if mark == Mark::Lost {
+            return;
+        }
+        let is_unread = matches!(mark, Mark::Refused(_) | Mark::Memory | Mark::ClockFault);
+        match connection.finish(self.held.as_slice(), is_unread) {
+            Ok(Some(stream)) => self.leave_open(stream),
+            Ok(None) => {}
+            Err(_) => {
+                self.fault();
+            }
         }
     }
 }

@@ -4,6 +4,7 @@
 //! over any machine.
 #![tactic(auto)]
 
+mod accepting;
 mod clock;
 mod connection;
 mod door;
