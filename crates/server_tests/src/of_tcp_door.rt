@@ -1,12 +1,17 @@
 //! The door and the clock at work, each in one thread, with clients over the machine's own network.
 ghost use Rattle.std.specs.Prelude.{◌≡◌, ◌<◌, false, length};
 
-use gw_base::{Clock, Door, Failed, Mark, put_all};
+use crate::settings::setting;
+use gateway_core::Gateway;
+use gateway_server::serve_one;
+use gw_base::{Bytes, Clock, Door, Failed, Mark, put_all};
+use http_talk::HeadReader;
 use std::alloc::Global;
 use std::io::{self, ErrorKind, Read, Write};
 use std::net::{Ipv4Addr, SocketAddr, TcpStream};
+use std::process::Abort;
 use std::test::Fail;
-use std::time::{Duration, Instant};
+use std::time::{Duration, Instant, SystemTime, UNIX_EPOCH};
 use tcp_door::*;
 
 static GET: &[u8] = b"GET /gtfs-rt HTTP/1.1\r\nHost: localhost\r\n\r\n";
@@ -200,11 +205,55 @@ fn the_answer_of_a_refused_post_comes_whole(rt: HostRuntime) -> Result<(), Fail>
     Ok(())
 }
 
-#[test]
-fn the_clock_gives_a_moment_of_these_years(rt: HostRuntime) {
-    let mut clock = SystemClock::new(&rt);
-    match clock.now() {
-        Ok(moment) => assert!(rt; 1_767_225_600 < moment.secs()),
-        Err(Failed) => assert!(rt; false),
+// Serves the next connection over an empty gateway.
+fn serve_empty<D: Door, C: Clock>(rt: &impl Abort, alloc: Global, door: &mut D, clock: &mut C)
+    requires absent { (D.beside door.old).present ≡ false }
+    ensures absent { (D.beside door.new).present ≡ false }
+{
+    let mut gate = Gateway::start(alloc, setting(rt, alloc, None)).expect(rt, "memory");
+    let mut reader = HeadReader::make(alloc).expect(rt, "memory");
+    let mut body = Bytes::new(alloc);
+    if let Ok(true) = door.next() {
+        serve_one(alloc, &mut gate, &mut reader, &mut body, door, clock);
     }
+}
+
+/// The head of an answer with a feed of 15 bytes, which is its header alone.
+static EMPTY_FEED: &[u8] =
+    b"HTTP/1.1 200 OK\r\nContent-Type: application/x-protobuf\r\nContent-Length: 15\r\n\
+      Connection: close\r\n\r\n\x0a\x0d\x0a\x032.0\x10\x00\x18";
+
+#[test]
+fn an_empty_gateway_is_served(rt: HostRuntime) -> Result<(), Fail> {
+    let mut door = TcpDoor::new(&rt, rt.alloc(), "127.0.0.1:0", Limits::usual());
+    assert_eq!(rt; door.bind(), Ok(()));
+    let mut client = client(&rt, door.port())?;
+    client.write_all(GET)?;
+    serve_empty(&rt, rt.alloc(), &mut door, &mut SystemClock::new(&rt));
+    let answer = rest(rt.alloc(), &mut client)?;
+    assert!(rt; answer.starts_with(EMPTY_FEED));
+    // The moment has five bytes more.
+    assert_eq!(rt; answer.len(), EMPTY_FEED.len() + 5);
+    Ok(())
+}
+
+// The seconds since 1970 that the machine tells.
+fn seconds(rt: &HostRuntime) -> io::Result<u64> {
+    match SystemTime::now(rt)?.duration_since(UNIX_EPOCH) {
+        Ok(time) => Ok(time.as_secs()),
+        Err(_) => Err(io::Error::from(ErrorKind::InvalidData)),
+    }
+}
+
+#[test]
+fn the_clock_gives_the_machines_moment(rt: HostRuntime) -> Result<(), Fail> {
+    let before = seconds(&rt)?;
+    let moment = SystemClock::new(&rt).now();
+    let after = seconds(&rt)?;
+    assert!(rt;
+        moment.is_ok_and(|one| {
+            u64::try_from(one.secs()).is_ok_and(|secs| before <= secs && secs <= after)
+        })
+    );
+    Ok(())
 }

@@ -196,14 +196,21 @@ fn each_call_fails_alone(rt: HostRuntime) {
     let alloc = rt.alloc();
     assert_eq!(rt; run_with(&rt, alloc, &[], &[]), UNDISTURBED);
     let mut calls: u64 = 0;
+    let mut ended: usize = 0;
     for call in 1..40_u64 {
         let went = run_with(&rt, alloc, &[call], &[]);
         if went == UNDISTURBED {
             break;
         }
         assert!(rt; is_at_most(&went, 1), "call {call}");
+        // Where `next` fails no later connection is served.
+        if went.status == 74 {
+            assert_eq!(rt; went.served, ended);
+            ended = ended.saturating_add(1);
+        }
         calls = call;
     }
+    assert_eq!(rt; ended, 5);
     // Five calls of next, and of each connection at least a read and two writes.
     assert!(rt; calls >= 17 && calls < 39, "calls of the door");
     for call in 1..5_u64 {
