@@ -1,7 +1,9 @@
 //! What bytes mean as a feed of GTFS Realtime 2.0 in protobuf's encoding, by `specs/Tables.antt`, and the readers that
-//! find it: the quick one first; where it finds no feed, the finder of the one fault, by `specs/Faults.antt`. It
-//! stands on `wire_fields`; how messages are written is no part of it. Its point is `read_feed`: what the bytes mean,
-//! or exactly the fault of least place; `FeedReader` gives the same over any pieces.
+//! find it. There are three, since each is proved of what another isn't: the quick one of the feeds that it gives, but
+//! not that what it refuses has a fault; the finder of the one fault, by `specs/Faults.antt`; and the plain one of all
+//! bytes that mean a feed, which reads again where the quick one refuses and there is no fault. It stands on
+//! `wire_fields`; how messages are written is no part of it. Its point is `read_feed`: what the bytes mean, or exactly
+//! the fault of least place; `FeedReader` gives the same over any pieces.
 #![tactic(auto)]
 
 mod fault;
