@@ -7,6 +7,7 @@ from .deliveries import NotDelivery, read_delivery
 from .feeds import FeedFault, read_feed
 from .files import NotReadable, TooLong
 from .folder import FileMissing, FolderFault, read_folder
+from .journal import JournalFault
 from .made import made_line
 from .propagation import readings_of
 from .readings import Context
@@ -54,6 +55,8 @@ def ended(work):
     except ZoneRefused:
         return refused(65, "zone refused")
     except FurtherFault as fault:
+        return refused(65, str(fault))
+    except JournalFault as fault:
         return refused(65, str(fault))
     except NotReadable:
         return refused(74, "failed")

@@ -34,13 +34,14 @@ FEED, JSON, TEXT = "application/x-protobuf", "application/json", "text/plain; ch
 
 
 class Setting:
-    """What the words and the files of a server say: the timetable, the zone, its first window, the days that stay."""
+    """What the words and the files of a server say: the timetable, the zone, its first window, the days that stay, how
+    many connections it serves. With `keeps` its words may name a journal."""
 
-    def __init__(self, raw_words, files):
-        work = read_words(raw_words)
+    def __init__(self, raw_words, files, keeps=False):
+        work = read_words(raw_words, keeps)
         self.table = read_folder(files, work.gtfs)
         self.zone = read_zone(work, files)
-        self.first, self.days, self.keep = work.first, work.days, work.keep
+        self.first, self.days, self.keep, self.connections = work.first, work.days, work.keep, work.connections
 
     def context(self, first):
         return Context(self.table, self.zone, [first + timedelta(days=n) for n in range(self.days)])
@@ -77,8 +78,7 @@ def answered(setting, state, moment, data):
         request = read_request(data)
         if request.method == "GET":
             return shown(setting, state, moment, request.path), state
-        take = {"/siri/et": take_estimated, "/siri/sx": take_affecting, "/gtfs-rt": take_feed}[request.path]
-        return take(setting, state, moment, request.body)
+        return TAKES[request.path](setting, state, moment, request.body)
     except Refused as refused:
         return refusal(refused), state
     except (NotDelivery, FeedFault) as fault:
@@ -105,7 +105,7 @@ def server_run(raw_words, files, clock, inputs):
     def serve():
         setting = Setting(raw_words, files)
         state = started(setting)
-        for data in inputs[: read_words(raw_words).connections]:
+        for data in inputs[: setting.connections]:
             entry, state = logged(setting, state, clock(), data)
             log.append(entry)
         return Outcome(0)
@@ -116,9 +116,17 @@ def server_run(raw_words, files, clock, inputs):
 def logged(setting, state, moment, data):
     """A connection's entry, and what the server keeps then. Where the clock fails, nothing of the input is read."""
     if moment is None:
-        return Entry("ClockFault", None, refusal(Refused("H500 Clock"))), state
+        return clock_failed(), state
     answer, state = answered(setting, state, moment, data)
-    return Entry(mark_of(data, int(answer.split(b" ")[1])), moment, answer), state
+    return entry_of(data, moment, answer), state
+
+
+def clock_failed():
+    return Entry("ClockFault", None, refusal(Refused("H500 Clock")))
+
+
+def entry_of(data, moment, answer):
+    return Entry(mark_of(data, int(answer.split(b" ")[1])), moment, answer)
 
 
 def mark_of(data, status):
@@ -206,3 +214,6 @@ def take_feed(setting, state, moment, body):
     if calls > MOST_CALLS:
         raise Refused(f"H400 TooManyCalls {calls}")
     return report(reading.taken, reading.passed, reading.aside), replace(state, moment=moment, reading=reading)
+
+
+TAKES = {"/siri/et": take_estimated, "/siri/sx": take_affecting, "/gtfs-rt": take_feed}

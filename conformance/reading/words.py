@@ -40,6 +40,7 @@ class Work:
     keep: int = None
     listen: str = None
     connections: int = None
+    journal: str = None
     seed: int = None
     trips: int = None
     stops: int = None
@@ -68,8 +69,9 @@ def days_word(text, first):
     return days if days is not None and (LAST_DAY - first).days >= days - 1 else None
 
 
-def read_words(raw):
-    """The work that a list of words (bytes each) asks for; a word that isn't UTF-8 is as an empty one."""
+def read_words(raw, keeps=False):
+    """The work that a list of words (bytes each) asks for; a word that isn't UTF-8 is as an empty one. With `keeps` a
+    server's words may end with a journal."""
     words = [text_word(word) for word in raw]
     place = 0
 
@@ -118,6 +120,9 @@ def read_words(raw):
         work.listen = text()
         flag("--connections")
         work.connections = number(1, MOST_CONNECTIONS)
+        if keeps and place < len(words):
+            flag("--journal")
+            work.journal = text()
         if place < len(words):
             raise BadWord(place)
         return work
