@@ -1,9 +1,9 @@
 -- The calls of a disk in memory gone through again, and the files that a crash leaves.
-use Rattle.std.proofs.Common.{◌≡◌, inr, ℕ, ◌+◌, ◌*◌, ◌/◌, ◌%◌, ◌^◌, ◌≤◌, Bool, true, false, min, nat_le, List, [], ◌∷◌, ◌++◌, length, take, drop, map, replicate, refl, sym, ◌∙◌, ap, subst, arith, length-append, length-take, length-drop, take-append-drop}
+use Rattle.std.proofs.Common.{get_or, ◌≡◌, inr, ℕ, ◌+◌, ◌*◌, ◌/◌, ◌%◌, ◌^◌, ◌≤◌, ◌<◌, Bool, true, false, min, nat_le, List, [], ◌∷◌, ◌++◌, length, take, drop, map, replicate, refl, sym, ◌∙◌, ap, subst, arith, length-append, length-take, length-drop, take-append-drop}
 use Rattle.std.specs.Prelude.{◌==◌, if◌then◌else◌}
 use Rattle.std.specs.List.{fold}
 use Rattle.std.proofs.lemmas.Bool.Decides.{nat_tests}
-use Rattle.std.proofs.lemmas.List.{length-replicate, map_push}
+use Rattle.std.proofs.lemmas.List.{length-replicate, map_push, drop_more, drop_all}
 use Rattle.gw_base.specs.Count.{last_count}
 use Rattle.delivery_journal.specs.declared.call.Op.{Op}
 use Rattle.delivery_journal.specs.declared.call.Op.TheVariants.{Len, Read, Write, Sync}
@@ -134,3 +134,27 @@ count_push writes done =
   where
     by : (p : ℕ) → min (5 * p) last_count ≡ min (min p last_count * 5) last_count
     by p = omega arith
+
+-- ---- the loops
+
+front_call : (calls : List Call) (i : ℕ) (call : Call) → i < length calls → call ≡ get_or calls i call → drop i calls ≡ call ∷ drop (i + 1) calls
+front_call calls i call within is = drop_more calls i call within ∙ ap (λ (c : Call). c ∷ drop (i + 1) calls) (sym is)
+
+module _ (calls : List Call) (i : ℕ) (call : Call) (within : i < length calls) (is : call ≡ get_or calls i call) where
+  pub fold_more : {B : Type 0} (f : B → Done → B) (whole state next : B) (rest written behind : List ℕ)
+      → whole ≡ fold f state (done_calls (drop i calls) rest)
+      → written ≡ take (written_count call) rest → behind ≡ drop (written_count call) rest
+      → next ≡ f state (record { call = call; bytes = written })
+      → whole ≡ fold f next (done_calls (drop (i + 1) calls) behind)
+  fold_more f whole state next rest written behind so_far written_is behind_is next_is =
+      so_far
+      ∙ ap (λ (l : List Call). fold f state (done_calls l rest)) (front_call calls i call within is)
+      ∙ (λ k. fold f (f state (record { call = call; bytes = sym written_is k })) (done_calls (drop (i + 1) calls) (sym behind_is k)))
+      ∙ (λ k. fold f (sym next_is k) (done_calls (drop (i + 1) calls) behind))
+
+  pub total_front : (rest : List ℕ) → total_count (drop i calls) ≡ length rest → written_count call + total_count (drop (i + 1) calls) ≡ length rest
+  total_front rest total = ap total_count (sym (front_call calls i call within is)) ∙ total
+
+pub fold_done : {B : Type 0} (f : B → Done → B) (calls : List Call) (i : ℕ) (whole state : B) (rest : List ℕ) → length calls ≤ i
+    → whole ≡ fold f state (done_calls (drop i calls) rest) → whole ≡ state
+fold_done f calls i whole state rest past so_far = so_far ∙ ap (λ (l : List Call). fold f state (done_calls l rest)) (drop_all i calls past)

@@ -108,8 +108,10 @@ fn repeated(alloc: Global, count: usize, fill: u8) -> Result<Bytes, AllocError>
     ensures { IfOk result (λ bytes. bytes ≡ replicate count fill) }
 {
     let mut bytes = Bytes::new(alloc);
-    for _ in 0..count {
+    let mut done: usize = 0;
+    while done < count {
         bytes.push(fill)?;
+        done += 1;
     }
     Ok(bytes)
 }
