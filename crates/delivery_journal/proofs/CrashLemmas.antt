@@ -1,10 +1,9 @@
 -- The calls of a disk in memory gone through again, and the files that a crash leaves.
-use Rattle.std.proofs.Common.{get_or, ◌≡◌, inr, ℕ, ◌+◌, ◌*◌, ◌/◌, ◌%◌, ◌^◌, ◌≤◌, ◌<◌, Bool, true, false, min, nat_le, List, [], ◌∷◌, ◌++◌, length, take, drop, map, replicate, refl, sym, ◌∙◌, ap, subst, arith, length-append, length-take, length-drop, take-append-drop}
+use Rattle.std.proofs.Common.{get_or, ◌≡◌, inr, ℕ, ◌+◌, ◌/◌, ◌%◌, ◌≤◌, ◌<◌, Bool, true, false, nat_le, List, [], ◌∷◌, ◌++◌, length, take, drop, map, replicate, refl, sym, ◌∙◌, ap, subst, arith, length-take, length-drop, take-append-drop}
 use Rattle.std.specs.Prelude.{◌==◌, if◌then◌else◌}
 use Rattle.std.specs.List.{fold}
 use Rattle.std.proofs.lemmas.Bool.Decides.{nat_tests}
 use Rattle.std.proofs.lemmas.List.{length-replicate, map_push, drop_more, drop_all}
-use Rattle.gw_base.specs.Count.{last_count}
 use Rattle.delivery_journal.specs.declared.call.Op.{Op}
 use Rattle.delivery_journal.specs.declared.call.Op.TheVariants.{Len, Read, Write, Sync}
 use Rattle.delivery_journal.specs.declared.call.Call.{Call}
@@ -125,36 +124,33 @@ module _ (number fill : ℕ) (start : List ℕ) (dones : List Done) where
   image_left = inr (subst (λ (ranges : List (ℕ × ℕ)). IsTornBy (content_after start dones).on_disk ranges (crash_image number fill (unsynced dones) (content_after start dones).on_disk))
       (sym goes.ranges) (torn_image number fill (unsynced dones) (content_after start dones).on_disk))
 
--- ---- how many numbers there are
+-- ---- the loop that counts
 
-pub count_push : (writes : List Done) (done : Done) → image_count (writes ++ done ∷ []) ≡ min (image_count writes * 5) last_count
-count_push writes done =
-    let longer : length (writes ++ done ∷ []) ≡ length writes + 1 = length-append writes (done ∷ []) in
-    ap (λ (n : ℕ). min (5 ^ n) last_count) (longer ∙ omega arith) ∙ by (5 ^ length writes)
-  where
-    by : (p : ℕ) → min (5 * p) last_count ≡ min (min p last_count * 5) last_count
-    by p = omega arith
+-- a count is that of the writes so far, and the calls from number i on are left
+abbrev pub IsCounted : List Call → ℕ → ℕ → Type 0
+IsCounted calls i count = (bytes : List ℕ) → (writes : List Done) × (rest : List ℕ) × (count ≡ image_count writes)
+    × (unsynced (done_calls calls bytes) ≡ fold next_unsynced writes (done_calls (drop i calls) rest))
 
--- ---- the loops
+pub count_first : (calls : List Call) → IsCounted calls 0 1
+count_first calls bytes = ([], bytes, refl, refl)
 
-front_call : (calls : List Call) (i : ℕ) (call : Call) → i < length calls → call ≡ get_or calls i call → drop i calls ≡ call ∷ drop (i + 1) calls
-front_call calls i call within is = drop_more calls i call within ∙ ap (λ (c : Call). c ∷ drop (i + 1) calls) (sym is)
+pub count_more : (calls : List Call) (i : ℕ) (d : Call) → i < length calls → (count more : ℕ)
+    → ((writes : List Done) (bytes : List ℕ) → count ≡ image_count writes
+    → more ≡ image_count (next_unsynced writes (record { call = get_or calls i d; bytes = bytes })))
+    → IsCounted calls i count → IsCounted calls (i + 1) more
+count_more calls i d within count more next counted bytes =
+    let so_far = counted bytes in
+    let call = get_or calls i d in
+    let n = written_count call in (
+      next_unsynced so_far.0 (record { call = call; bytes = take n so_far.1 }),
+      drop n so_far.1,
+      next so_far.0 (take n so_far.1) so_far.2,
+      so_far.3 ∙ ap (λ (l : List Call). fold next_unsynced so_far.0 (done_calls l so_far.1)) (drop_more calls i d within),
+    )
 
-module _ (calls : List Call) (i : ℕ) (call : Call) (within : i < length calls) (is : call ≡ get_or calls i call) where
-  pub fold_more : {B : Type 0} (f : B → Done → B) (whole state next : B) (rest written behind : List ℕ)
-      → whole ≡ fold f state (done_calls (drop i calls) rest)
-      → written ≡ take (written_count call) rest → behind ≡ drop (written_count call) rest
-      → next ≡ f state (record { call = call; bytes = written })
-      → whole ≡ fold f next (done_calls (drop (i + 1) calls) behind)
-  fold_more f whole state next rest written behind so_far written_is behind_is next_is =
-      so_far
-      ∙ ap (λ (l : List Call). fold f state (done_calls l rest)) (front_call calls i call within is)
-      ∙ (λ k. fold f (f state (record { call = call; bytes = sym written_is k })) (done_calls (drop (i + 1) calls) (sym behind_is k)))
-      ∙ (λ k. fold f (sym next_is k) (done_calls (drop (i + 1) calls) behind))
-
-  pub total_front : (rest : List ℕ) → total_count (drop i calls) ≡ length rest → written_count call + total_count (drop (i + 1) calls) ≡ length rest
-  total_front rest total = ap total_count (sym (front_call calls i call within is)) ∙ total
-
-pub fold_done : {B : Type 0} (f : B → Done → B) (calls : List Call) (i : ℕ) (whole state : B) (rest : List ℕ) → length calls ≤ i
-    → whole ≡ fold f state (done_calls (drop i calls) rest) → whole ≡ state
-fold_done f calls i whole state rest past so_far = so_far ∙ ap (λ (l : List Call). fold f state (done_calls l rest)) (drop_all i calls past)
+pub count_last : (calls : List Call) (i count : ℕ) → length calls ≤ i → IsCounted calls i count → (bytes : List ℕ) → count ≡ image_count (unsynced (done_calls calls bytes))
+count_last calls i count past counted bytes =
+    let so_far = counted bytes in
+    let all : unsynced (done_calls calls bytes) ≡ so_far.0 =
+    so_far.3 ∙ ap (λ (l : List Call). fold next_unsynced so_far.0 (done_calls l so_far.1)) (drop_all i calls past) in
+    so_far.2 ∙ sym (ap image_count all)

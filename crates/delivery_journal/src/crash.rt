@@ -177,9 +177,9 @@ pub fn image_after(
 }
 
 // How many numbers of images there are after one call more.
-fn count_after(count: u64, call: Call) -> u64
+fn count_after(count: u64, call: &Call) -> u64
     ensures { (writes : List Done) → (bytes : List ℕ) → count ≡ image_count writes
-        → result ≡ image_count (next_unsynced writes (record { call = call; bytes = bytes })) }
+        → result ≡ image_count (next_unsynced writes (record { call = call.now; bytes = bytes })) }
 {
     match call.op {
         Op::Len | Op::Read => count,
@@ -200,7 +200,7 @@ pub fn count_images(calls: &[Call]) -> u64
 {
     let mut count: u64 = 1;
     for call in calls {
-        count = count_after(count, *call);
+        count = count_after(count, call);
     }
     count
 }

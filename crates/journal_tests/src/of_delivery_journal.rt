@@ -1,5 +1,5 @@
 //! A journal and the disk in memory: what the file holds byte by byte, and what of it is read again.
-ghost use Rattle.std.specs.Prelude.{◌≡◌, ◌→◌, true, IfOk, OnOk, length};
+ghost use Rattle.std.specs.Prelude.{◌≡◌, true};
 ghost use Rattle.delivery_journal.specs.Standing.{StandsOn};
 
 mod crashes;
@@ -24,13 +24,13 @@ fn gives<K: Disk>(alloc: Global, journal: &Journal, disk: &mut K, wanted: &[Row]
 {
     let mut at = 8u64;
     let mut body = Bytes::new(alloc);
-    for (kind, moment, bytes) in wanted {
+    for row in wanted {
         if at > journal.end() {
             return false;
         }
         match journal.next(disk, at, &mut body) {
-            Ok(Some((read, secs, next))) => {
-                if read != *kind || secs.secs() != *moment || body.as_slice() != *bytes {
+            Ok(Some((kind, moment, next))) => {
+                if kind != row.0 || moment.secs() != row.1 || body.as_slice() != row.2 {
                     return false;
                 }
                 at = next;
@@ -78,12 +78,12 @@ pub fn keep_all<K: Disk>(disk: &mut K, rows: &[Row]) -> Option<usize> {
     let Ok(mut journal) = Journal::open(disk) else {
         return None;
     };
-    let mut count = 0;
+    let mut count = 0usize;
     for row in rows {
         if !keep(&mut journal, disk, row) {
             return Some(count);
         }
-        count += 1;
+        count = count.saturating_add(1);
     }
     Some(count)
 }
