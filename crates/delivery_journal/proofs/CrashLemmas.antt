@@ -1,6 +1,6 @@
 -- The calls of a disk in memory gone through again, and the files that a crash leaves.
-use Rattle.std.proofs.Common.{get_or, ◌≡◌, inr, ℕ, ◌+◌, ◌/◌, ◌%◌, ◌≤◌, ◌<◌, Bool, true, false, nat_le, List, [], ◌∷◌, ◌++◌, length, take, drop, map, replicate, refl, sym, ◌∙◌, ap, subst, arith, length-take, length-drop, take-append-drop}
-use Rattle.std.specs.Prelude.{◌==◌, if◌then◌else◌}
+use Rattle.std.proofs.Common.{get_or, ◌≡◌, inr, ℕ, ◌+◌, ◌/◌, ◌%◌, ◌≤◌, ◌<◌, Bool, true, false, nat_le, List, [], ◌∷◌, ◌++◌, length, take, drop, map, replicate, Result, Ok, Err, refl, sym, ◌∙◌, ap, subst, arith, length-take, length-drop, take-append-drop}
+use Rattle.std.specs.Prelude.{◌==◌, if◌then◌else◌, IfOk}
 use Rattle.std.specs.List.{fold}
 use Rattle.std.proofs.lemmas.Bool.Decides.{nat_tests}
 use Rattle.std.proofs.lemmas.List.{length-replicate, map_push, drop_more, drop_all}
@@ -123,6 +123,20 @@ module _ (number fill : ℕ) (start : List ℕ) (dones : List Done) where
   pub image_left : IsImage (content_after start dones) (crash_image number fill (unsynced dones) (content_after start dones).on_disk)
   image_left = inr (subst (λ (ranges : List (ℕ × ℕ)). IsTornBy (content_after start dones).on_disk ranges (crash_image number fill (unsynced dones) (content_after start dones).on_disk))
       (sym goes.ranges) (torn_image number fill (unsynced dones) (content_after start dones).on_disk))
+
+-- the same of an answer
+pub image_answer : {E : Type 0} (number fill : ℕ) (start given : List ℕ) (dones : List Done) (answer : Result (List ℕ) E) → given ≡ start
+    → IfOk answer (λ image. image ≡ (fold (next_crash number fill) (record { file = given; image = given; left = number }) dones).image)
+    → IfOk answer (λ image. image ≡ crash_image number fill (unsynced dones) (content_after start dones).on_disk)
+image_answer number fill start given dones (Ok image) same is =
+    is ∙ (λ i. (fold (next_crash number fill) (record { file = same i; image = same i; left = number }) dones).image) ∙ image_is number fill start dones
+image_answer number fill start given dones (Err fault) same is = tt
+
+pub image_may : {E : Type 0} (number fill : ℕ) (start : List ℕ) (dones : List Done) (answer : Result (List ℕ) E)
+    → IfOk answer (λ image. image ≡ crash_image number fill (unsynced dones) (content_after start dones).on_disk)
+    → IfOk answer (λ image. IsImage (content_after start dones) image)
+image_may number fill start dones (Ok image) is = subst (λ (l : List ℕ). IsImage (content_after start dones) l) (sym is) (image_left number fill start dones)
+image_may number fill start dones (Err fault) is = tt
 
 -- ---- the loop that counts
 

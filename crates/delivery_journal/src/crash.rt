@@ -184,13 +184,7 @@ fn count_after(count: u64, call: &Call) -> u64
     match call.op {
         Op::Len | Op::Read => count,
         Op::Write => count.saturating_mul(5),
-        Op::Sync => {
-            if call.went {
-                1
-            } else {
-                count
-            }
-        }
+        Op::Sync => { if call.went { 1 } else { count } }
     }
 }
 

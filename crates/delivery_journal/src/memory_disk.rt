@@ -127,8 +127,7 @@ impl MemoryDisk {
             (content_now self.now).on_disk) }
         ensures may_be_left { IfOk result (λ image. IsImage (content_now self.now) image) }
     {
-        self.calls
-            .image(alloc, self.start.as_slice(), number, fill)
+        self.calls.image(alloc, self.start.as_slice(), number, fill)
     }
 
     /// How many numbers of images there are: 5 to the power of the count of the writes since the last sync that went
@@ -218,7 +217,7 @@ fn put_bytes(file: &mut Vec<u8>, at: usize, bytes: &[u8])
 impl Disk for MemoryDisk {
     ghost use Rattle.std.specs.Prelude.{◌≡◌, length};
     ghost use Rattle.delivery_journal.specs.CrashImages.{calls_of, bytes_of, unsynced, crash_image, image_count};
-ghost use Rattle.delivery_journal.specs.DiskInMemory.{content_now, IsImage, LeftSince};
+    ghost use Rattle.delivery_journal.specs.DiskInMemory.{content_now, IsImage, LeftSince};
     ghost use Rattle.delivery_journal.specs.ImageLaws.{reads_as_left, is_left_now, only_left_now};
 
     ghost told = { λ d. Some (content_now d).file };

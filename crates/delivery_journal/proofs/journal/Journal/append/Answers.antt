@@ -91,7 +91,7 @@ pub returns-clause-bytes : goal.returns-clause-bytes
 returns-clause-bytes g c =
     let new : KeptBody = record { kind = c.args.kind; moment = c.args.moment; body = c.args.body.now } in
     let inside : WhereTold (g.K.Disk.told c.args.disk.now) (λ (file : List ℕ). c.self.inside.end < length file) = λ file is.
-        gate_inside (g.K.Disk.may_leave c.args.disk.now) c.self.inside.end file (subst (λ (s : Standing). IsAtRest (g.K.Disk.may_leave c.args.disk.now) s.end file) (sym c.self.view_is) (c.requires.stands file is)) in
+    gate_inside (g.K.Disk.may_leave c.args.disk.now) c.self.inside.end file (subst (λ (s : Standing). IsAtRest (g.K.Disk.may_leave c.args.disk.now) s.end file) (sym c.self.view_is) (c.requires.stands file is)) in
     c.in_ok-open_gate.ensures.file
     ∙ ap (option_map (λ (f : List ℕ). with_bytes_at f c.self.inside.end (1 ∷ []))) c.in_ok-write_record.ensures.file
     ∙ told_before (g.K.Disk.told c.args.disk.now) c.self.inside.end 1 (header_bytes c.args.kind c.args.moment (length c.args.body.now) ++ c.args.body.now ++ 0 ∷ []) inside
