@@ -2,6 +2,7 @@ mod AppendLemmas
 mod AppendRuns
 mod BlockLemmas
 mod CallLemmas
+mod CrashLemmas
 mod DiskLemmas
 mod FileLemmas
 mod GateLemmas

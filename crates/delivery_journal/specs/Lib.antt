@@ -1,3 +1,5 @@
+pub mod CrashImages
+pub mod CrashSteps
 pub mod Disk
 pub mod DiskInMemory
 pub mod HeaderBytes

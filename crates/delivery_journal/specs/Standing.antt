@@ -1,7 +1,8 @@
 -- What a journal stands for: where its list ends, and that all of it is on the disk.
 use Rattle.gw_base.specs.declared.kind.Kind.{Kind}
 use Rattle.std.specs.Prelude.{ℤ, ◌+◌, None, Some, ◌⊎◌, nat_le, if◌then◌else◌, ◌≡◌, ℕ, Bool, List, [], ◌∷◌, ◌++◌, length, Option, Ok}
-use Rattle.delivery_journal.specs.Disk.{LeavesThis, WhereTold}
+use Rattle.delivery_journal.specs.Disk.{LeavesThis, WhereTold, with_bytes_at}
+use Rattle.delivery_journal.specs.HeaderBytes.{header_bytes}
 use Rattle.delivery_journal.specs.Kept.{KeptBody, kept, found, magic}
 
 -- a journal: the place of the closed gate behind its list, and whether it may be used
@@ -26,6 +27,12 @@ new_file = magic ++ 0 ∷ []
 -- the file after a journal was opened: one of at most 9 bytes is made anew
 abbrev pub opened_file : List ℕ → List ℕ
 opened_file file = if nat_le (length file) 9 then new_file else file
+
+-- the file after a body was appended at the closed gate's place: what stood before that, an open gate, the body's header,
+-- the body, and a closed gate; what stood behind these stays
+abbrev pub appended_file : ℕ → KeptBody → List ℕ → List ℕ
+appended_file end new file =
+    with_bytes_at file end (1 ∷ (header_bytes new.kind new.moment (length new.body) ++ new.body ++ 0 ∷ []))
 
 -- a file that a crash may have left holds these bodies, or these and the new one behind them
 abbrev pub HoldsWithOrWithout : List KeptBody → KeptBody → List ℕ → Type 0

@@ -1,8 +1,12 @@
 //! The record of the calls of a disk in memory.
 ghost use Rattle.std.specs.Prelude.{◌≡◌, ◌≤◌, ◌<◌, ◌+◌, length, IfOk, []};
+ghost use Rattle.std.specs.List.{fold};
 ghost use Rattle.delivery_journal.specs.DiskInMemory.{written_count, recorded, has_room};
+ghost use Rattle.delivery_journal.specs.CrashImages.{calls_of, bytes_of, unsynced, image_count};
+ghost use Rattle.delivery_journal.specs.CrashSteps.{next_crash};
 
-use gw_base::Buf;
+use crate::crash::{count_images, image_after};
+use gw_base::{Buf, Bytes};
 use std::alloc::{AllocError, Global};
 use std::marker::Model;
 
@@ -31,6 +35,18 @@ pub struct Call {
     pub count: u64,
     /// Whether it went well.
     pub went: bool,
+}
+
+impl Call {
+    // How many bytes it was to write.
+    pub(crate) fn written(&self) -> usize
+        ensures { result ≡ written_count self.now }
+    {
+        match self.op {
+            Op::Write => self.count as usize,
+            Op::Len | Op::Read | Op::Sync => 0,
+        }
+    }
 }
 
 // The calls so far, with the bytes of all writes, one after the other. Its memory is taken when it is made.
@@ -89,12 +105,44 @@ impl Record {
     }
 
     // The calls, in order.
-    pub fn calls(&self) -> &[Call] {
+    pub fn calls(&self) -> &[Call]
+        ensures { result.now ≡ calls_of self.now.done }
+    {
         self.calls.as_slice()
     }
 
     // The bytes of all writes, one after the other.
-    pub fn bytes(&self) -> &[u8] {
+    pub fn bytes(&self) -> &[u8]
+        ensures { result.now ≡ bytes_of self.now.done }
+    {
         self.bytes.as_slice()
+    }
+
+    // How many numbers of images there are.
+    pub fn image_count(&self) -> u64
+        ensures { result ≡ image_count (unsynced self.now.done) }
+    {
+        count_images(self.calls.as_slice())
+    }
+
+    // The file that a crash leaves, by a number, on a disk that began with this file.
+    pub fn image(
+        &self,
+        alloc: Global,
+        start: &[u8],
+        number: u64,
+        fill: u8,
+    ) -> Result<Bytes, AllocError>
+        ensures { IfOk result (λ image. image ≡ (fold (next_crash number fill)
+            (record { file = start.now; image = start.now; left = number }) self.now.done).image) }
+    {
+        image_after(
+            alloc,
+            start,
+            self.calls.as_slice(),
+            self.bytes.as_slice(),
+            number,
+            fill,
+        )
     }
 }

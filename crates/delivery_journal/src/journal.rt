@@ -5,7 +5,7 @@ ghost use Rattle.gw_base.specs.Limits.{body_limit};
 ghost use Rattle.delivery_journal.specs.Disk.{WhereTold, LeavesThis, ReadsOnly, Survives};
 ghost use Rattle.delivery_journal.specs.Kept.{KeptBody, kept, found, magic, place_after};
 ghost use Rattle.std.specs.Str.{bytes_eq};
-ghost use Rattle.delivery_journal.specs.Standing.{StandsOn, Adds, Gives, HoldsWithOrWithout, new_file, opened_file};
+ghost use Rattle.delivery_journal.specs.Standing.{StandsOn, Adds, Gives, HoldsWithOrWithout, new_file, opened_file, appended_file};
 
 use crate::append_fault::AppendFault;
 use crate::body_reading::{read_body, whole_at};
@@ -130,6 +130,10 @@ impl Journal {
 
         ensures unsound { result ≡ Err AppendFault.Disk → self.new.is_sound ≡ false }
         ensures counts { Counts (result ≡ Err AppendFault.Disk) (K.faults disk.old) (K.faults disk.new) }
+
+        // The file, byte by byte.
+        ensures bytes { OnOk result (K.told disk.new ≡ option_map (appended_file self.old.end
+            (record { kind = kind; moment = moment; body = body.now })) (K.told disk.old)) }
     {
         let _secs = moment.secs();
         if self.end > FILE_LIMIT - 15 - body.len() as u64 {

@@ -4,6 +4,7 @@
 mod append_fault;
 mod body_reading;
 mod call;
+mod crash;
 mod disk;
 mod header;
 mod journal;

@@ -3,6 +3,7 @@ ghost use Rattle.std.specs.Prelude.{◌≡◌, ◌≢◌, ◌<◌, ◌≤◌, �
 ghost use Rattle.gw_base.specs.Count.{Counts};
 ghost use Rattle.gw_base.specs.Memory.{fails_next, after_use, after_fault};
 ghost use Rattle.delivery_journal.specs.Disk.{with_bytes_at};
+ghost use Rattle.delivery_journal.specs.CrashImages.{calls_of, bytes_of, unsynced, crash_image, image_count};
 ghost use Rattle.delivery_journal.specs.DiskInMemory.{content_now, IsImage, LeftSince, written_count, recorded, has_room, IsNoted};
 
 use crate::call::{Call, Op, Record};
@@ -103,6 +104,39 @@ impl MemoryDisk {
     {
         self.file.as_slice()
     }
+
+    /// The calls so far, in order, but for those for which there was no room.
+    pub fn calls(&self) -> &[Call]
+        ensures same { result.now ≡ calls_of self.now.calls.done }
+    {
+        self.calls.calls()
+    }
+
+    /// The bytes that the writes were to put, one after the other.
+    pub fn bytes_to_write(&self) -> &[u8]
+        ensures same { result.now ≡ bytes_of self.now.calls.done }
+    {
+        self.calls.bytes()
+    }
+
+    /// The file that a crash now leaves, by a number. Its digits to the base 5 say, from the lowest on, what of each
+    /// write since the last sync that went well is on the disk: nothing (0), all (1), its first half (2), or `fill` in
+    /// the place of each of its bytes (3) or of those of its first half (4). The numbers repeat past `image_count`.
+    pub fn image(&self, alloc: Global, number: u64, fill: u8) -> Result<Bytes, AllocError>
+        ensures image { IfOk result (λ image. image ≡ crash_image number fill (unsynced self.now.calls.done)
+            (content_now self.now).on_disk) }
+        ensures may_be_left { IfOk result (λ image. IsImage (content_now self.now) image) }
+    {
+        self.calls.image(alloc, self.start.as_slice(), number, fill)
+    }
+
+    /// How many numbers of images there are: 5 to the power of the count of the writes since the last sync that went
+    /// well, and at most the last value of a u64.
+    pub fn image_count(&self) -> u64
+        ensures value { result ≡ image_count (unsynced self.now.calls.done) }
+    {
+        self.calls.image_count()
+    }
 }
 
 // Notes a call, if there is room for it, and answers whether it goes well.
@@ -182,6 +216,7 @@ fn put_bytes(file: &mut Vec<u8>, at: usize, bytes: &[u8])
 
 impl Disk for MemoryDisk {
     ghost use Rattle.std.specs.Prelude.{◌≡◌, length};
+    ghost use Rattle.delivery_journal.specs.CrashImages.{calls_of, bytes_of, unsynced, crash_image, image_count};
     ghost use Rattle.delivery_journal.specs.DiskInMemory.{content_now, IsImage, LeftSince};
     ghost use Rattle.delivery_journal.specs.ImageLaws.{reads_as_left, is_left_now, only_left_now};
 

@@ -1,11 +1,12 @@
 use Rattle.std.proofs.Common.{◌≡◌, inl, ◌+◌, ◌<◌, ℕ, List, [], ◌∷◌, ◌++◌, length, take, Some, sym, ◌∙◌, ap, subst}
 use Rattle.std.specs.Prelude.{option_map}
 use Rattle.gw_base.specs.Moments.{IsMoment}
-use Rattle.delivery_journal.specs.Disk.{Torn, with_bytes_at}
+use Rattle.delivery_journal.specs.Disk.{Torn, WhereTold, with_bytes_at}
 use Rattle.delivery_journal.specs.HeaderBytes.{header_bytes}
-use Rattle.delivery_journal.specs.Kept.{kept}
-use Rattle.delivery_journal.specs.Standing.{Standing, IsAtRest, HoldsWithOrWithout}
+use Rattle.delivery_journal.specs.Kept.{KeptBody, kept}
+use Rattle.delivery_journal.specs.Standing.{Standing, IsAtRest, HoldsWithOrWithout, appended_file}
 use Rattle.delivery_journal.proofs.RunLemmas.{reads_none, survives_reads, survives_wider, survives_then}
+use Rattle.delivery_journal.proofs.WriteLemmas.{told_before}
 use Rattle.delivery_journal.proofs.AppendLemmas.{map_some}
 use Rattle.delivery_journal.proofs.AppendRuns.{gate_inside, holds_shut, written_inside, holds_torn, opened_holds, opened_kept}
 use Rattle.delivery_journal.proofs.journal.Journal.append.Goals as goal
@@ -85,3 +86,13 @@ returns-clause-stands g c ok now told =
       holds = opened_holds (g.K.Disk.may_leave c.args.disk.now) c.self.inside.end file at_rest c.args.kind c.args.moment c.args.body.now in_range c.requires.short now now_is;
       on_disk = c.in_ok-open_gate.ensures.on_disk now told;
     }
+
+pub returns-clause-bytes : goal.returns-clause-bytes
+returns-clause-bytes g c =
+    let new : KeptBody = record { kind = c.args.kind; moment = c.args.moment; body = c.args.body.now } in
+    let inside : WhereTold (g.K.Disk.told c.args.disk.now) (λ (file : List ℕ). c.self.inside.end < length file) = λ file is.
+    gate_inside (g.K.Disk.may_leave c.args.disk.now) c.self.inside.end file (subst (λ (s : Standing). IsAtRest (g.K.Disk.may_leave c.args.disk.now) s.end file) (sym c.self.view_is) (c.requires.stands file is)) in
+    c.in_ok-open_gate.ensures.file
+    ∙ ap (option_map (λ (f : List ℕ). with_bytes_at f c.self.inside.end (1 ∷ []))) c.in_ok-write_record.ensures.file
+    ∙ told_before (g.K.Disk.told c.args.disk.now) c.self.inside.end 1 (header_bytes c.args.kind c.args.moment (length c.args.body.now) ++ c.args.body.now ++ 0 ∷ []) inside
+    ∙ ap (λ (s : Standing). option_map (appended_file s.end new) (g.K.Disk.told c.args.disk.now)) c.self.view_is
