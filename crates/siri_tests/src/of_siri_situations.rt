@@ -4,8 +4,8 @@ use siri_calls::DeliveryFault;
 use siri_situations::{Item, SituationDelivery, read_situations};
 use std::alloc::Global;
 use std::process::Abort;
-use timetable::RouteNo;
 use test_folder::{paris, sample, window};
+use timetable::RouteNo;
 
 // A situation with a reference that is known and one that isn't, and a situation without any.
 const DELIVERY: &str = concat!(

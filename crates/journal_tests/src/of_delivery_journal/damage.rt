@@ -41,12 +41,42 @@ static CHANGES: [Change; 38] = [
     (28, b"\x04", 0, Err(OpenFault::Damaged(27))),
     (48, b"\xff", 0, Err(OpenFault::Damaged(47))),
     // A moment is at most the last second of 9998.
-    (10, b"\x00\x00\x00\x3a\xfe\x13\x0e\x00", 0, Err(OpenFault::Damaged(8))),
-    (29, b"\x00\x00\x00\x3a\xfe\x13\x0e\x00", 0, Err(OpenFault::Damaged(27))),
-    (49, b"\x00\x00\x00\x3a\xfe\x13\x0e\x00", 0, Err(OpenFault::Damaged(47))),
-    (10, b"\x80\x00\x00\x00\x00\x00\x00\x00", 0, Err(OpenFault::Damaged(8))),
-    (29, b"\xff\xff\xff\xff\xff\xff\xff\xff", 0, Err(OpenFault::Damaged(27))),
-    (49, b"\x7f\xff\xff\xff\xff\xff\xff\xff", 0, Err(OpenFault::Damaged(47))),
+    (
+        10,
+        b"\x00\x00\x00\x3a\xfe\x13\x0e\x00",
+        0,
+        Err(OpenFault::Damaged(8)),
+    ),
+    (
+        29,
+        b"\x00\x00\x00\x3a\xfe\x13\x0e\x00",
+        0,
+        Err(OpenFault::Damaged(27)),
+    ),
+    (
+        49,
+        b"\x00\x00\x00\x3a\xfe\x13\x0e\x00",
+        0,
+        Err(OpenFault::Damaged(47)),
+    ),
+    (
+        10,
+        b"\x80\x00\x00\x00\x00\x00\x00\x00",
+        0,
+        Err(OpenFault::Damaged(8)),
+    ),
+    (
+        29,
+        b"\xff\xff\xff\xff\xff\xff\xff\xff",
+        0,
+        Err(OpenFault::Damaged(27)),
+    ),
+    (
+        49,
+        b"\x7f\xff\xff\xff\xff\xff\xff\xff",
+        0,
+        Err(OpenFault::Damaged(47)),
+    ),
     // A body ends inside the file.
     (18, b"\x00\x00\x00\x2e", 0, Err(OpenFault::Damaged(8))),
     (37, b"\x00\x00\x00\x1b", 0, Err(OpenFault::Damaged(27))),
@@ -66,12 +96,32 @@ static CHANGES: [Change; 38] = [
     // Behind the closed gate anything stands.
     (67, b"garbage", 3, Ok(66)),
     (67, b"\x01\x01\x00", 3, Ok(66)),
-    (67, b"\x00\x00\x00\x00\x00\x00\x00\x00\x00\x00\x00\x00\x00\x00\x00\x00", 3, Ok(66)),
+    (
+        67,
+        b"\x00\x00\x00\x00\x00\x00\x00\x00\x00\x00\x00\x00\x00\x00\x00\x00",
+        3,
+        Ok(66),
+    ),
     (66, b"\x00\x01", 3, Ok(66)),
     // An open gate at the end begins a record.
-    (66, b"\x02\x01\x00\x00\x00\x00\x00\x00\x00\x00\x00\x00\x00\x00", 0, Err(OpenFault::Damaged(80))),
-    (66, b"\x02\x01\x00\x00\x00\x00\x00\x00\x00\x00\x00\x00\x00\x01\x00", 0, Err(OpenFault::Damaged(81))),
-    (66, b"\x02\x01\x00\x00\x00\x00\x00\x00\x00\x00\x00\x00\x00\x01", 0, Err(OpenFault::Damaged(66))),
+    (
+        66,
+        b"\x02\x01\x00\x00\x00\x00\x00\x00\x00\x00\x00\x00\x00\x00",
+        0,
+        Err(OpenFault::Damaged(80)),
+    ),
+    (
+        66,
+        b"\x02\x01\x00\x00\x00\x00\x00\x00\x00\x00\x00\x00\x00\x01\x00",
+        0,
+        Err(OpenFault::Damaged(81)),
+    ),
+    (
+        66,
+        b"\x02\x01\x00\x00\x00\x00\x00\x00\x00\x00\x00\x00\x00\x01",
+        0,
+        Err(OpenFault::Damaged(66)),
+    ),
 ];
 
 // The file with the bytes at their place, over what stands there and past its end.
