@@ -1,7 +1,5 @@
 -- What is answered to a posted body.
-use Rattle.std.proofs.Common.{◌≡◌, ◌∷◌, ℕ, ℤ, true, List, Option, Some, None, Result, Ok, Err, ap, arith, refl, subst, sym}
-use Rattle.std.specs.Prelude.{OnErr}
-use Rattle.gw_base.specs.Count.{Counts}
+use Rattle.std.proofs.Common.{◌≡◌, ◌∷◌, ℕ, ℤ, true, List, Option, Some, None, Result, Ok, Err, ap, refl, subst, sym}
 use Rattle.gw_base.specs.Told.{PutsUnless}
 use Rattle.gw_base.specs.declared.door.Mark.{Mark}
 use Rattle.gw_base.specs.declared.kind.Kind.{Kind}
@@ -58,11 +56,3 @@ pub takes_bare : (gate now : Kept) (arrivals : List Arrival) (moment : ℤ) (of 
     → Takes gate arrivals moment of bytes answer now → TakesFirst keeps_none (bare gate) arrivals moment of bytes (unless_refused answer) (bare now)
 takes_bare gate now arrivals moment of bytes (Ok accepted) takes = (refl, refl, takes)
 takes_bare gate now arrivals moment of bytes (Err why) takes = takes
-
-pub leaves_bare : (gate now : Kept) (answer : Result Accepted BodyRefusal) → OnErr answer (now ≡ gate) → IsLeft (bare gate) (unless_refused answer) (bare now)
-leaves_bare gate now (Ok accepted) same = refl
-leaves_bare gate now (Err why) same = ap bare same
-
-pub never_unkept : (answer : Result Accepted BodyRefusal) → Counts (IsUnkept (unless_refused answer)) 0 0
-never_unkept (Ok accepted) = record { cause = λ failed. absurd failed; never_falls = omega arith }
-never_unkept (Err why) = record { cause = λ failed. absurd failed; never_falls = omega arith }

@@ -1,5 +1,5 @@
 -- By what the connection asks for.
-use Rattle.std.proofs.Common.{◌≡◌, ◌∙◌, ◌×◌, ℕ, ℤ, List, Option, subst, sym}
+use Rattle.std.proofs.Common.{◌≡◌, ◌∙◌, ℕ, ℤ, List, Option, subst, sym}
 use Rattle.gw_base.specs.Connections.{Connections}
 use Rattle.gw_base.specs.Count.{Rose}
 use Rattle.gw_base.specs.declared.door.Mark.TheVariants as mark

@@ -12,9 +12,9 @@ returns-in-Feed-clause-shows g c = λ arrivals.
     Stands k arrivals
     → PutsShown (Rose (g.S.Sink.faults c.args.sink.now) (g.S.Sink.faults c.put_feed.new.sink)) k.setting arrivals c.args.moment c.args.what
     (g.S.Sink.told c.args.sink.now) (g.S.Sink.told c.put_feed.new.sink))
-    c.gateway.ensures.lends
+    c.gateway-gate.ensures.lends
     (λ stands.
-    feed (served c.args.moment c.gateway.result.now) c.in-Feed.is
+    feed (served c.args.moment c.gateway-gate.result.now) c.in-Feed.is
     (c.serves_what_arrived_law.ensures.rebuilt arrivals stands, c.serves_what_arrived_law.ensures.gives arrivals stands)
     (c.put_feed.ensures.front arrivals stands))
 
@@ -25,5 +25,5 @@ returns-in-Timetable-clause-shows g c = λ arrivals.
     Stands k arrivals
     → PutsShown (Rose (g.S.Sink.faults c.args.sink.now) (g.S.Sink.faults c.put_siri.new.sink)) k.setting arrivals c.args.moment c.args.what
     (g.S.Sink.told c.args.sink.now) (g.S.Sink.told c.put_siri.new.sink))
-    c.gateway.ensures.lends
-    (λ stands. text c.gateway.result.now.text c.in-Timetable.is stands.text_is c.put_siri.ensures.front)
+    c.gateway-gate.ensures.lends
+    (λ stands. text c.gateway-gate.result.now.text c.in-Timetable.is stands.text_is c.put_siri.ensures.front)

@@ -1,5 +1,5 @@
 -- No connection yet, one more, and the end.
-use Rattle.std.proofs.Common.{◌≡◌, ◌≤◌, ◌∙◌, ◌+◌, ◌-◌, Bool, true, false, ℕ, inl, inr, Result, Ok, Err, ap, arith, refl, subst}
+use Rattle.std.proofs.Common.{◌≡◌, ◌≤◌, ◌∙◌, ◌+◌, ◌-◌, Bool, true, false, ℕ, inl, inr, Result, Ok, Err, ap, arith, refl, subst, sym}
 use Rattle.gw_base.specs.Changes.{change}
 use Rattle.gw_base.specs.Count.{Rose}
 use Rattle.gw_base.specs.declared.sink.Failed.{Failed}
@@ -109,16 +109,16 @@ loop-left-preserved g c = record {
     kept_after rose = rose-after (g.H.HoldsGateway.faults c.args.beside.now) (g.H.HoldsGateway.faults c.loop-left.beside) (g.H.HoldsGateway.faults c.serve_one_with.new.beside) c.loop-left.invariant.keeping rose
 
 -- nothing more can be taken
-pub returns-in-then-clause-serves : goal.returns-in-then-clause-serves
-returns-in-then-clause-serves g c = λ told tells past stands. (
+pub returns-then-not-is_sound-clause-serves : goal.returns-then-not-is_sound-clause-serves
+returns-then-not-is_sound-clause-serves g c = λ told tells past stands. (
   c.args.connections - c.loop-left.left,
   at_most c.args.connections c.loop-left.left,
   c.loop-left.invariant.serves told tells past stands,
-  inr (inr UNSOUND),
+  inr (inr (sym c.is_sound.ensures.value ∙ c.if-not-is_sound.true)),
 )
 
-pub returns-in-then-clause-causes : goal.returns-in-then-clause-causes
-returns-in-then-clause-causes g c = λ told left tells ends past stands logged log.
+pub returns-then-not-is_sound-clause-causes : goal.returns-then-not-is_sound-clause-causes
+returns-then-not-is_sound-clause-causes g c = λ told left tells ends past stands logged log.
     counts_end (Rose (g.H.HoldsGateway.faults c.args.beside.now) (g.H.HoldsGateway.faults c.loop-left.beside)) g.H.HoldsGateway.room (g.H.HoldsGateway.held c.args.host.now).gate.setting past told left (g.D.Sink.told c.loop-left.door) (g.D.Sink.beside c.loop-left.door) (g.D.Sink.beside c.loop-left.door) (g.H.HoldsGateway.held c.loop-left.host) logged 0
     (g.D.Sink.faults c.args.door.now) (g.D.Sink.faults c.loop-left.door) (g.D.Sink.faults c.loop-left.door) (g.C.Clock.faults c.args.clock.now) (g.C.Clock.faults c.loop-left.clock)
     (c.loop-left.invariant.counted told tells past stands) refl ends log
