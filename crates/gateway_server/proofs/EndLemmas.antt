@@ -263,24 +263,6 @@ serves_at P Q U room before past told clock old mid new bytes output last moment
       stands = says.stands;
     }
 
--- and one for which the clock failed
-pub serves_without : (P Q U : Type 0) (room : Room) (held : Held) (past : Past) (told : Connections) (clock : Change (List ℤ)) (old mid new : Beside) (before output last : Option (List ℕ))
-    → (P → Q) → StandsFor held past → held.is_sound ≡ true → old.told ≡ Some told → mid ≡ old → before ≡ Some [] → PutsUnless P before output (refused_with refusal.Clock)
-    → Logs mid new output mark.ClockFault None → last ≡ option_map (λ _. []) output → AsksClock clock None → ServesAfter Q U room held past told clock last new held
-serves_without P Q U room held past told clock old mid new before output last wider stood sound tells same fresh puts logs cleared asks =
-    let front : (written : List ℕ) × (output ≡ Some written) × IsFront P written (refused_with refusal.Clock) = front_of P before output (refused_with refusal.Clock) fresh puts in
-    let logged : IsLogged told new (record { input = told.input; mark = mark.ClockFault; moment = None; output = front.0 }) =
-    has_logged mid new output front.0 mark.ClockFault None told (ap (λ (b : Beside). b.told) same ∙ tells) front.1 logs in record {
-      entry = record { input = told.input; mark = mark.ClockFault; moment = None; output = front.0 };
-      logged = logged;
-      unwritten = cleared ∙ ap (option_map (λ _. [])) front.1;
-      asked = asks;
-      lawful = (stood.sound ∙ sound, no_clock refl refl (front_wider P Q front.0 (refused_with refusal.Clock) wider front.2));
-      arrived = past;
-      leaves = leaves_all room held.gate.setting past (record { input = told.input; mark = mark.ClockFault; moment = None; output = front.0 }) refl refl (stood.sound ∙ sound);
-      stands = stood;
-    }
-
 -- ---- what was asked
 
 pub asked_of : (Stands : Kind → List ℕ → Type 0) (output : Option (List ℕ)) (beside : Beside) (told : Connections) (asked one : Asked) → IsFresh output beside told

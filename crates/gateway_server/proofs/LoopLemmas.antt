@@ -14,7 +14,7 @@ use Rattle.gateway_core.specs.Arrivals.{Arrival}
 use Rattle.gateway_core.specs.Standing.{Kept, Stands}
 use Rattle.gateway_core.specs.declared.setting.Setting.{Setting}
 use Rattle.gateway_server.specs.Holding.{Held, Room, bare, keeps_none}
-use Rattle.gateway_server.specs.Log.{IsCausedLog, IsCausedLogBy, IsLawful, IsLawfulLog, IsLogBy, moments_given, with_moment}
+use Rattle.gateway_server.specs.Log.{IsCausedLogBy, IsLawful, IsLawfulLog, IsLogBy, Leaves, moments_given, with_moment}
 use Rattle.gateway_server.specs.Past.{IsLawfulAfter, LeavesPast, Past, StandsFor}
 use Rattle.gateway_server.specs.Serving.{AsksClock, CountsCauses, CountsCausesAfter, IsEnd, IsFresh, Serves, ServesAfter, ServesAll, ServesAllAfter, Tells}
 use Rattle.gateway_server.proofs.EndLemmas.{after_wider, lawful_wider}
@@ -181,7 +181,7 @@ log_bare P setting before (entry ∷ later) now (lawful, after, leaves, rest) =
 
 causes_bare : (setting : Setting) (before : Past) (entries : List Entry) (causes : List Bool) (now : Past)
     → IsCausedLogBy (λ (P : Type 0). IsLawfulAfter P (Rose 0 0) keeps_none setting) (LeavesPast keeps_none setting) before entries causes now
-    → IsCausedLog setting before.arrivals entries causes now.arrivals
+    → IsCausedLogBy (λ (P : Type 0). IsLawful P setting) (Leaves setting) before.arrivals entries causes now.arrivals
 causes_bare setting before [] [] now is = ap (λ (p : Past). p.arrivals) is
 causes_bare setting before [] (cause ∷ causes) now is = absurd is
 causes_bare setting before (entry ∷ later) [] now is = absurd is

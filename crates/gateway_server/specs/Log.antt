@@ -122,10 +122,6 @@ IsCausedLogBy {P} Lawful LeavesThis before (entry ∷ later) (cause ∷ causes) 
     Lawful (cause ≡ true) before entry
     × (after : P) × LeavesThis before entry after × IsCausedLogBy Lawful LeavesThis after later causes now
 
-abbrev pub IsCausedLog : Setting → List Arrival → List Entry → List Bool → List Arrival → Type 0
-IsCausedLog setting before entries causes now =
-    IsCausedLogBy (λ Cause. IsLawful Cause setting) (Leaves setting) before entries causes now
-
 -- the clock failed for a connection
 abbrev pub is_clock_fault : Mark → Bool
 is_clock_fault mark.ClockFault = true

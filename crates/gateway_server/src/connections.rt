@@ -18,12 +18,12 @@ use gw_base::{Bytes, Clock, Door, Failed};
 use http_talk::HeadReader;
 use std::alloc::Global;
 
-/// Serves connections over what holds a gateway, until none is to come, so many were served or nothing more can be taken;
-/// Failed is a fault of the door in `next`, which ends it. Where the door tells its connections, each has its entry in
-/// the log, which is lawful after what there was before it; so a connection for which keeping its body failed is the
-/// last one. The entries that are lost or cut short are, with that fault of the door, no more than the faults that the
-/// door counted, and those for which the clock failed no more than the clock counted. `posted` holds at most 16,777,216
-/// bytes. `serve` is this over a gateway by itself.
+/// Serves connections over what holds a gateway, until none is to come, so many were served or nothing more can be
+/// taken; Failed is a fault of the door in `next`, which ends it. Where the door tells its connections, each has its
+/// entry in the log, which is lawful after what there was before it; so a connection for which keeping its body failed
+/// is the last one. The entries that are lost or cut short are, with that fault of the door, no more than the faults
+/// that the door counted, and those for which the clock failed no more than the clock counted. `posted` holds at most
+/// 16,777,216 bytes. `serve` is this over a gateway by itself.
 pub fn serve_with<K, H: HoldsGateway<K>, D: Door, C: Clock>(
     alloc: Global,
     host: &mut H,
@@ -40,16 +40,17 @@ pub fn serve_with<K, H: HoldsGateway<K>, D: Door, C: Clock>(
     ensures serves { (told : Connections) → Tells (D.told door.old) (D.beside door.old) told
         → (past : Past) → StandsFor (H.held host.old) past
         → (count : ℕ) × (count ≤ connections)
-        × ServesAllAfter (Rose (D.faults door.old) (D.faults door.new)) (Rose (H.faults beside.old) (H.faults beside.new))
-        H.room (H.held host.old) past told (change C.told C.faults clock.old clock.new) (D.told door.new)
-        (D.beside door.new) (H.held host.new) count
+        × ServesAllAfter (Rose (D.faults door.old) (D.faults door.new))
+        (Rose (H.faults beside.old) (H.faults beside.new)) H.room (H.held host.old) past told
+        (change C.told C.faults clock.old clock.new) (D.told door.new) (D.beside door.new) (H.held host.new) count
         × OnOk result ((count ≡ connections) ⊎ (IsEnd (D.beside door.new) ⊎ ((H.held host.new).is_sound ≡ false))) }
     ensures causes { (told left : Connections) → Tells (D.told door.old) (D.beside door.old) told
         → (D.beside door.new).told ≡ Some left
         → (past : Past) → StandsFor (H.held host.old) past
         → (logged : List entries.Entry) → left.log ≡ told.log ++ logged
-        → CountsCausesAfter (Rose (H.faults beside.old) (H.faults beside.new)) H.room (H.held host.old).gate.setting past
-        logged (failures result) (D.faults door.old) (D.faults door.new) (C.faults clock.old) (C.faults clock.new) }
+        → CountsCausesAfter (Rose (H.faults beside.old) (H.faults beside.new)) H.room
+        (H.held host.old).gate.setting past logged (failures result) (D.faults door.old) (D.faults door.new)
+        (C.faults clock.old) (C.faults clock.new) }
     ensures small { H.Body.taken posted.new ≤ body_limit }
     ensures absent { (D.beside door.new).present ≡ false }
     ensures setting { (H.held host.new).gate.setting ≡ (H.held host.old).gate.setting }
@@ -109,7 +110,14 @@ pub fn serve<D: Door, C: Clock>(
 {
     let mut posted = PostedBody::with_buffer(emptied(std::mem::replace(body, Bytes::new(alloc))));
     let end = serve_with(
-        alloc, gate, &mut (), reader, &mut posted, door, clock, connections,
+        alloc,
+        gate,
+        &mut (),
+        reader,
+        &mut posted,
+        door,
+        clock,
+        connections,
     );
     *body = posted.into_buffer(alloc);
     end

@@ -42,10 +42,10 @@ pub trait HoldsGateway<K> {
     fn is_sound(&self) -> bool
         ensures value { result ≡ (held self.now).is_sound };
 
-    /// Takes a body of a kind that was posted at a moment, has at most 16,777,216 bytes and came whole. Where it is kept
-    /// before, it isn't taken unless that is done: Err with Full exactly where there is no room for it, and with Unkept
-    /// only where the count of faults rose, after which nothing more is taken. A gateway that didn't take a body is as
-    /// before.
+    /// Takes a body of a kind that was posted at a moment, has at most 16,777,216 bytes and came whole. Where it is
+    /// kept before, it isn't taken unless that is done: Err with Full exactly where there is no room for it, and with
+    /// Unkept only where the count of faults rose, after which nothing more is taken. A gateway that didn't take a body
+    /// is as before.
     fn take(
         &mut self,
         alloc: Global,

@@ -1,16 +1,11 @@
 -- By what the connection asks for.
-use Rattle.std.proofs.Common.{◌≡◌, ◌∙◌, ℕ, ℤ, List, Option, subst, sym}
-use Rattle.gw_base.specs.Connections.{Connections}
+use Rattle.std.proofs.Common.{◌∙◌, ℕ, List, subst, sym}
 use Rattle.gw_base.specs.Count.{Rose}
 use Rattle.gw_base.specs.declared.door.Mark.TheVariants as mark
-use Rattle.gw_base.specs.declared.kind.Kind.{Kind}
 use Rattle.gw_base.proofs.CountLemmas.{rose-after}
 use Rattle.door_talk.specs.Requests.{AsksFor, IsPosted}
-use Rattle.door_talk.specs.declared.asked.Asked.{Asked}
 use Rattle.door_talk.specs.declared.asked.Asked.TheVariants as asked
 use Rattle.gateway_core.specs.Standing.{Kept}
-use Rattle.gateway_server.specs.Past.{Past, StandsFor}
-use Rattle.gateway_server.specs.Serving.{IsFresh}
 use Rattle.gateway_server.specs.Steps.{Answers}
 use Rattle.gateway_server.proofs.EndLemmas.{answers_lost, answers_no_room, answers_refused, answers_shown, answers_taken, answers_wider, asked_of}
 use Rattle.gateway_server.proofs.connection.answer.Goals as goal

@@ -1,8 +1,8 @@
--- With a moment, and without.
+-- With a moment.
 use Rattle.gw_base.specs.Changes.{change}
 use Rattle.gw_base.specs.Count.{Rose}
 use Rattle.gw_base.proofs.CountLemmas.{rose-before}
-use Rattle.gateway_server.proofs.EndLemmas.{serves_at, serves_without}
+use Rattle.gateway_server.proofs.EndLemmas.{serves_at}
 use Rattle.gateway_server.proofs.connection.serve_one_with.Goals as goal
 
 pub returns-in-Ok-clause-serves : goal.returns-in-Ok-clause-serves

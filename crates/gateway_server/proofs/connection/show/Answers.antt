@@ -1,5 +1,5 @@
 -- The feed, or the SIRI text.
-use Rattle.std.proofs.Common.{ℕ, List, subst}
+use Rattle.std.proofs.Common.{subst}
 use Rattle.gw_base.specs.Count.{Rose}
 use Rattle.gateway_core.specs.Standing.{Kept, Stands, served}
 use Rattle.gateway_server.specs.Steps.{PutsShown, feed, text}

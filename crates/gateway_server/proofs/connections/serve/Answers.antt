@@ -1,5 +1,4 @@
 -- What is served over a gateway by itself.
-use Rattle.std.proofs.Common.{◌∙◌, sym}
 use Rattle.gw_base.specs.Changes.{change}
 use Rattle.gw_base.specs.Count.{Rose}
 use Rattle.gateway_server.proofs.LoopLemmas.{bare_past, counts_bare, end_bare, serves_all_bare, stands_bare}
