@@ -12,12 +12,13 @@ use Rattle.gw_base.specs.Count.{Rose, last_count}
 use Rattle.gw_base.specs.declared.door.Entry.{Entry}
 use Rattle.gw_base.specs.declared.door.Mark.{Mark}
 use Rattle.gateway_core.specs.Arrivals.{Arrival, Given, feed, journeys, situations}
-use Rattle.gateway_core.specs.Standing.{Kept, Stands}
 use Rattle.gateway_core.specs.declared.setting.Setting.{Setting}
 use Rattle.gateway_server.specs.Answers.{IsAnswered, body_refused, feed_shown, mark_of, refused, taken, text_shown}
-use Rattle.gateway_server.specs.Log.{AreCounted, IsCausedLog, IsLawful, Leaves, answered, is_clock_fault, lost, no_clock, no_memory}
-use Rattle.gateway_server.specs.Serving.{AsksClock, CountsCauses, IsFresh, Serves, Tells}
-use Rattle.gateway_server.proofs.EndLemmas.{lawful_wider}
+use Rattle.gateway_server.specs.Holding.{Held, Room}
+use Rattle.gateway_server.specs.Log.{AreCounted, IsCausedLogBy, IsLawfulBy, answered, full, is_clock_fault, lost, no_clock, no_memory, unkept}
+use Rattle.gateway_server.specs.Past.{IsLawfulAfter, LeavesPast, Past, StandsFor}
+use Rattle.gateway_server.specs.Serving.{AsksClock, CountsCausesAfter, IsFresh, ServesAfter, Tells}
+use Rattle.gateway_server.proofs.EndLemmas.{after_wider}
 use Rattle.gateway_server.proofs.LoopLemmas.{arrives_fresh}
 
 -- ---- counts
@@ -84,11 +85,14 @@ rose_where before now e = by (nat_lt before now) refl e
 -- ---- a connection
 
 -- an entry whose clock failed has no moment
-no_moment : (P : Type 0) (setting : Setting) (arrivals : List Arrival) (entry : Entry) → IsLawful P setting arrivals entry → is_clock_fault entry.mark ≡ true → entry.moment ≡ None
-no_moment P setting arrivals entry (no_clock is none front) e = none
-no_moment P setting arrivals entry (lost moment is some empty cause) e = absurd (true≢false (sym e ∙ ap is_clock_fault is))
-no_moment P setting arrivals entry (no_memory moment is some posted front) e = absurd (true≢false (sym e ∙ ap is_clock_fault is))
-no_moment P setting arrivals entry (answered moment bytes some says front) e = absurd (true≢false (sym e ∙ other entry.input moment entry.mark bytes says))
+no_moment : (P U : Type 0) (is_full : List ℕ → Bool) (setting : Setting) (arrivals : List Arrival) (entry : Entry) → IsLawfulBy P U is_full setting arrivals entry
+    → is_clock_fault entry.mark ≡ true → entry.moment ≡ None
+no_moment P U is_full setting arrivals entry (no_clock is none front) e = none
+no_moment P U is_full setting arrivals entry (lost moment is some empty cause) e = absurd (true≢false (sym e ∙ ap is_clock_fault is))
+no_moment P U is_full setting arrivals entry (no_memory moment is some posted front) e = absurd (true≢false (sym e ∙ ap is_clock_fault is))
+no_moment P U is_full setting arrivals entry (unkept moment of body is some asks can cause front) e = absurd (true≢false (sym e ∙ ap is_clock_fault is))
+no_moment P U is_full setting arrivals entry (full moment of body is some asks can no_room front) e = absurd (true≢false (sym e ∙ ap is_clock_fault is))
+no_moment P U is_full setting arrivals entry (answered moment bytes some says room front) e = absurd (true≢false (sym e ∙ other entry.input moment entry.mark bytes says))
   where
     of_given : (given : Given) → is_clock_fault (mark_of given) ≡ false
     of_given (journeys records) = refl
@@ -108,40 +112,50 @@ clock_rose before now b c None asks is = asks.1
 clock_rose before now b c (Some moment) asks is = absurd (none-some moment (sym is))
 
 -- an entry more
-log_more : (setting : Setting) (before : List Arrival) (entries : List Entry) (causes : List Bool) (mid : List Arrival) (entry : Entry) (cause : Bool) (now : List Arrival)
-    → IsCausedLog setting before entries causes mid → IsLawful (cause ≡ true) setting mid entry → Leaves setting mid entry now
-    → IsCausedLog setting before (entries ++ entry ∷ []) (causes ++ cause ∷ []) now
-log_more setting before [] [] mid entry cause now is lawful leaves =
-    subst (λ (start : List Arrival). IsLawful (cause ≡ true) setting start entry × (after : List Arrival) × Leaves setting start entry after × (now ≡ after)) is (lawful, now, leaves, refl)
-log_more setting before [] (first ∷ causes) mid entry cause now is lawful leaves = absurd is
-log_more setting before (first ∷ later) [] mid entry cause now is lawful leaves = absurd is
-log_more setting before (first ∷ later) (one ∷ causes) mid entry cause now (law, after, left, rest) lawful leaves =
-    (law, after, left, log_more setting after later causes mid entry cause now rest lawful leaves)
+log_more : {T : Type 0} (Lawful : Type 0 → T → Entry → Type 0) (LeavesThis : T → Entry → T → Type 0) (before : T) (entries : List Entry) (causes : List Bool) (mid : T) (entry : Entry) (cause : Bool) (now : T)
+    → IsCausedLogBy Lawful LeavesThis before entries causes mid → Lawful (cause ≡ true) mid entry → LeavesThis mid entry now
+    → IsCausedLogBy Lawful LeavesThis before (entries ++ entry ∷ []) (causes ++ cause ∷ []) now
+log_more {T} Lawful LeavesThis before [] [] mid entry cause now is lawful leaves =
+    subst (λ (start : T). Lawful (cause ≡ true) start entry × (after : T) × LeavesThis start entry after × (now ≡ after)) is (lawful, now, leaves, refl)
+log_more {T} Lawful LeavesThis before [] (first ∷ causes) mid entry cause now is lawful leaves = absurd is
+log_more {T} Lawful LeavesThis before (first ∷ later) [] mid entry cause now is lawful leaves = absurd is
+log_more {T} Lawful LeavesThis before (first ∷ later) (one ∷ causes) mid entry cause now (law, after, left, rest) lawful leaves =
+    (law, after, left, log_more Lawful LeavesThis after later causes mid entry cause now rest lawful leaves)
+
+-- a cause of keeping may be a wider one in all entries
+caused_wider : (U V : Type 0) (room : Room) (setting : Setting) (before : Past) (entries : List Entry) (causes : List Bool) (now : Past) → (U → V)
+    → IsCausedLogBy (λ (P : Type 0). IsLawfulAfter P U room setting) (LeavesPast room setting) before entries causes now
+    → IsCausedLogBy (λ (P : Type 0). IsLawfulAfter P V room setting) (LeavesPast room setting) before entries causes now
+caused_wider U V room setting before [] [] now also is = is
+caused_wider U V room setting before [] (cause ∷ causes) now also is = absurd is
+caused_wider U V room setting before (entry ∷ later) [] now also is = absurd is
+caused_wider U V room setting before (entry ∷ later) (cause ∷ causes) now also (lawful, after, leaves, rest) =
+    (after_wider (cause ≡ true) (cause ≡ true) U V room setting before entry (λ so. so) also lawful, after, leaves, caused_wider U V room setting after later causes now also rest)
 
 -- ---- the loop
 
 -- the connections so far, and their causes
-pub record CountsSoFar (setting : Setting) (arrivals : List Arrival) (told : Connections) (output : Option (List ℕ)) (beside : Beside) (now : Kept) (door_before door_now clock_before clock_now : ℕ) : Type 0 where
+pub record CountsSoFar (U : Type 0) (room : Room) (setting : Setting) (past : Past) (told : Connections) (output : Option (List ℕ)) (beside : Beside) (now : Held) (door_before door_now clock_before clock_now : ℕ) : Type 0 where
   pub entries : List Entry
   pub left : Connections
   pub tells : Tells output beside left
   pub log : left.log ≡ told.log ++ entries
   pub causes : List Bool
-  pub arrived : List Arrival
-  pub lawful : IsCausedLog setting arrivals entries causes arrived
+  pub arrived : Past
+  pub lawful : IsCausedLogBy (λ (P : Type 0). IsLawfulAfter P U room setting) (LeavesPast room setting) past entries causes arrived
   pub door : AreCounted (count_by (λ cause. cause) causes) door_before door_now
   pub clock : AreCounted (count_by (λ entry. is_clock_fault entry.mark) entries) clock_before clock_now
-  pub stands : Stands now arrived
+  pub stands : StandsFor now arrived
 
-pub counts_none : (gate : Kept) (arrivals : List Arrival) (told : Connections) (output : Option (List ℕ)) (beside : Beside) (door clock : ℕ)
-    → Tells output beside told → Stands gate arrivals → CountsSoFar gate.setting arrivals told output beside gate door door clock clock
-counts_none gate arrivals told output beside door clock tells stands = record {
+pub counts_none : (U : Type 0) (room : Room) (held : Held) (past : Past) (told : Connections) (output : Option (List ℕ)) (beside : Beside) (door clock : ℕ)
+    → Tells output beside told → StandsFor held past → CountsSoFar U room held.gate.setting past told output beside held door door clock clock
+counts_none U room held past told output beside door clock tells stands = record {
   entries = [];
   left = told;
   tells = tells;
   log = sym (append-nil told.log);
   causes = [];
-  arrived = arrivals;
+  arrived = past;
   lawful = refl;
   door = counted_none door;
   clock = counted_none clock;
@@ -149,16 +163,16 @@ counts_none gate arrivals told output beside door clock tells stands = record {
 }
 
 -- one connection more
-pub counts_more : (setting : Setting) (mid now : Kept) (arrivals : List Arrival) (told : Connections) (between later : Option (List ℤ)) (da db dc dd ca cb cc : ℕ) (old came new : Beside) (held output last : Option (List ℕ))
-    → (so_far : CountsSoFar setting arrivals told held old mid da db ca cb)
-    → mid.setting ≡ setting → db ≤ dc → dc ≤ dd → cb ≤ cc → Arrives old came → output ≡ option_map (λ _. []) held
-    → ((one : Connections) → IsFresh output came one → (before : List Arrival) → Stands mid before
-    → Serves (Rose dc dd) mid before one (record { before = between; now = later; faults_before = cb; faults_now = cc }) last new now)
-    → CountsSoFar setting arrivals told last new now da dd ca cc
-counts_more setting mid now arrivals told between later da db dc dd ca cb cc old came new held output last so_far same le more calm arrives fresh serves =
+pub counts_more : (U V W : Type 0) (room : Room) (setting : Setting) (mid now : Held) (past : Past) (told : Connections) (between later : Option (List ℤ)) (da db dc dd ca cb cc : ℕ) (old came new : Beside) (before output last : Option (List ℕ))
+    → (so_far : CountsSoFar U room setting past told before old mid da db ca cb) → (U → W) → (V → W)
+    → mid.gate.setting ≡ setting → db ≤ dc → dc ≤ dd → cb ≤ cc → Arrives old came → output ≡ option_map (λ _. []) before
+    → ((one : Connections) → IsFresh output came one → (between_past : Past) → StandsFor mid between_past
+    → ServesAfter (Rose dc dd) V room mid between_past one (record { before = between; now = later; faults_before = cb; faults_now = cc }) last new now)
+    → CountsSoFar W room setting past told last new now da dd ca cc
+counts_more U V W room setting mid now past told between later da db dc dd ca cb cc old came new before output last so_far kept_wider kept_also same le more calm arrives fresh serves =
     let next : (input : List ℕ) × (rest : List (List ℕ)) × (so_far.left.coming ≡ input ∷ rest) × IsFresh output came (record { coming = rest; input = input; unread = input; log = so_far.left.log }) =
     arrives_fresh old came output so_far.left so_far.tells.tells arrives (fresh ∙ ap (option_map (λ _. [])) so_far.tells.written.1) in
-    let one : Serves (Rose dc dd) mid so_far.arrived (record { coming = next.1; input = next.0; unread = next.0; log = so_far.left.log }) (record { before = between; now = later; faults_before = cb; faults_now = cc }) last new now =
+    let one : ServesAfter (Rose dc dd) V room mid so_far.arrived (record { coming = next.1; input = next.0; unread = next.0; log = so_far.left.log }) (record { before = between; now = later; faults_before = cb; faults_now = cc }) last new now =
     serves (record { coming = next.1; input = next.0; unread = next.0; log = so_far.left.log }) next.3 so_far.arrived so_far.stands in record {
       entries = so_far.entries ++ one.entry ∷ [];
       left = record { coming = next.1; input = []; unread = []; log = so_far.left.log ++ one.entry ∷ [] };
@@ -166,26 +180,28 @@ counts_more setting mid now arrivals told between later da db dc dd ca cb cc old
       log = ap (λ (log : List Entry). log ++ one.entry ∷ []) so_far.log ∙ append_assoc told.log so_far.entries (one.entry ∷ []);
       causes = so_far.causes ++ rises dc dd ∷ [];
       arrived = one.arrived;
-      lawful = log_more setting arrivals so_far.entries so_far.causes so_far.arrived one.entry (rises dc dd) one.arrived so_far.lawful
-          (subst (λ (s : Setting). IsLawful (rises dc dd ≡ true) s so_far.arrived one.entry) same (lawful_wider (Rose dc dd) (rises dc dd ≡ true) mid.setting so_far.arrived one.entry (risen dc dd) one.lawful))
-          (subst (λ (s : Setting). Leaves s so_far.arrived one.entry one.arrived) same one.leaves);
+      lawful = log_more (λ (P : Type 0). IsLawfulAfter P W room setting) (LeavesPast room setting) past so_far.entries so_far.causes so_far.arrived one.entry (rises dc dd) one.arrived
+          (caused_wider U W room setting past so_far.entries so_far.causes so_far.arrived kept_wider so_far.lawful)
+          (subst (λ (s : Setting). IsLawfulAfter (rises dc dd ≡ true) W room s so_far.arrived one.entry) same (after_wider (Rose dc dd) (rises dc dd ≡ true) V W room mid.gate.setting so_far.arrived one.entry (risen dc dd) kept_also one.lawful))
+          (subst (λ (s : Setting). LeavesPast room s so_far.arrived one.entry one.arrived) same one.leaves);
       door = subst (λ (n : ℕ). AreCounted n da dd) (sym (count_more (λ (cause : Bool). cause) so_far.causes (rises dc dd)))
           (counted_if (rises dc dd) (count_by (λ (cause : Bool). cause) so_far.causes) da dc dd (counted_on (count_by (λ (cause : Bool). cause) so_far.causes) da db dc le so_far.door) (rose_where dc dd) more);
       clock = subst (λ (n : ℕ). AreCounted n ca cc) (sym (count_more (λ (entry : Entry). is_clock_fault entry.mark) so_far.entries one.entry))
           (counted_if (is_clock_fault one.entry.mark) (count_by (λ (entry : Entry). is_clock_fault entry.mark) so_far.entries) ca cb cc so_far.clock
-          (λ e. clock_rose between later cb cc one.entry.moment one.asked (no_moment (Rose dc dd) mid.setting so_far.arrived one.entry one.lawful e)) calm);
+          (λ e. clock_rose between later cb cc one.entry.moment one.asked
+          (no_moment (Rose dc dd) V (λ (body : List ℕ). room.is_full so_far.arrived.end (length body)) mid.gate.setting so_far.arrived.arrivals one.entry one.lawful.1 e)) calm);
       stands = one.stands;
     }
 
 -- the end, with a fault of the door or without
-pub counts_end : (setting : Setting) (arrivals : List Arrival) (told left : Connections) (output : Option (List ℕ)) (beside after : Beside) (now : Kept) (entries : List Entry) (further da db dc ca cb : ℕ)
-    → CountsSoFar setting arrivals told output beside now da db ca cb → after ≡ beside → after.told ≡ Some left → left.log ≡ told.log ++ entries
+pub counts_end : (U : Type 0) (room : Room) (setting : Setting) (past : Past) (told left : Connections) (output : Option (List ℕ)) (beside after : Beside) (now : Held) (entries : List Entry) (further da db dc ca cb : ℕ)
+    → CountsSoFar U room setting past told output beside now da db ca cb → after ≡ beside → after.told ≡ Some left → left.log ≡ told.log ++ entries
     → ((many : ℕ) → AreCounted many da db → AreCounted (many + further) da dc)
-    → CountsCauses setting arrivals entries further da dc ca cb
-counts_end setting arrivals told left output beside after now entries further da db dc ca cb so_far stays tells log counted = record {
+    → CountsCausesAfter U room setting past entries further da dc ca cb
+counts_end U room setting past told left output beside after now entries further da db dc ca cb so_far stays tells log counted = record {
   causes = so_far.causes;
   arrived = so_far.arrived;
-  lawful = subst (λ (all : List Entry). IsCausedLog setting arrivals all so_far.causes so_far.arrived) same so_far.lawful;
+  lawful = subst (λ (all : List Entry). IsCausedLogBy (λ (P : Type 0). IsLawfulAfter P U room setting) (LeavesPast room setting) past all so_far.causes so_far.arrived) same so_far.lawful;
   door = counted (count_by (λ (cause : Bool). cause) so_far.causes) so_far.door;
   clock = subst (λ (all : List Entry). AreCounted (count_by (λ (entry : Entry). is_clock_fault entry.mark) all) ca cb) same so_far.clock;
 }

@@ -45,7 +45,7 @@ use Rattle.gateway_core.specs.declared.take.body.BodyRefusal.{BodyRefusal}
 use Rattle.gateway_core.specs.declared.take.body.BodyRefusal.TheVariants as because
 use Rattle.gateway_server.specs.Bodies.{RefusesBody, fault_of}
 use Rattle.gateway_server.specs.Completeness.{EndsWith, IsSoundDelivery, IsSoundFeed, IsSoundSituations, IsUndisturbed, WantsMemory, none_aside}
-use Rattle.gateway_server.specs.Log.{IsFront, IsLawful, IsPosted, answered, lost, no_clock, no_memory}
+use Rattle.gateway_server.specs.Log.{IsFront, IsLawful, IsPosted, answered, full, lost, no_clock, no_memory, unkept}
 use Rattle.gateway_server.proofs.RoomLeft.{all_fit, all_pass, alike_journeys, alike_numbers, own_journey, own_number, report_of}
 
 -- ---- an input asks for one thing
@@ -116,7 +116,9 @@ undisturbed Cause setting arrivals entry moment calm timed (no_clock is none fro
 undisturbed Cause setting arrivals entry moment calm timed (lost at is some empty cause) = absurd (calm cause)
 undisturbed Cause setting arrivals entry moment calm timed (no_memory at is some posted front) =
     inr (posted, (is, whole Cause entry.output (refused_with refusal.Memory) calm front))
-undisturbed Cause setting arrivals entry moment calm timed (answered at bytes some says front) =
+undisturbed Cause setting arrivals entry moment calm timed (unkept at of body is some asks can cause front) = absurd cause
+undisturbed Cause setting arrivals entry moment calm timed (full at of body is some asks can is_full front) = absurd (true≢false (sym is_full))
+undisturbed Cause setting arrivals entry moment calm timed (answered at bytes some says room front) =
     inl (subst (λ (output : List ℕ). IsAnswered setting arrivals entry.input moment entry.mark output) (sym (whole Cause entry.output bytes calm front))
     (subst (λ (m : ℤ). IsAnswered setting arrivals entry.input m entry.mark bytes) (same_Some at moment (sym some ∙ timed)) says))
 

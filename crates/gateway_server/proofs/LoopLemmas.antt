@@ -1,41 +1,45 @@
 -- One connection more.
-use Rattle.std.proofs.Common.{◌≡◌, ◌∙◌, ◌≤◌, ◌<◌, ◌+◌, ◌++◌, ◌∷◌, [], ℕ, ℤ, List, Option, Some, None, length, map, ap, sym, refl, subst, append_assoc, length-append, append-nil, arith}
+use Rattle.std.proofs.Common.{◌≡◌, ◌∙◌, ◌≤◌, ◌<◌, ◌+◌, ◌++◌, ◌∷◌, ◌⊎◌, [], ℕ, ℤ, Bool, true, false, List, Option, Some, None, Result, Ok, Err, inl, inr, length, map, ap, sym, refl, subst, append_assoc, length-append, append-nil, arith}
+use Rattle.std.proofs.lemmas.Bool.{true≢false}
 use Rattle.std.proofs.lemmas.Grind.{flat_map-append}
 use Rattle.std.proofs.lemmas.List.{map-append}
-use Rattle.std.specs.Prelude.{IfSome, MatchOption, option_map}
+use Rattle.std.specs.Prelude.{IfSome, MatchOption, OnOk, option_map}
 use Rattle.gw_base.specs.Changes.{Change}
 use Rattle.gw_base.specs.Connections.{Arrives, Beside, Connections, NoneComes}
 use Rattle.gw_base.specs.Count.{Rose}
 use Rattle.gw_base.specs.declared.door.Entry.{Entry}
+use Rattle.gw_base.specs.declared.sink.Failed.{Failed}
 use Rattle.gw_base.proofs.CountLemmas.{rose-after}
 use Rattle.gateway_core.specs.Arrivals.{Arrival}
 use Rattle.gateway_core.specs.Standing.{Kept, Stands}
 use Rattle.gateway_core.specs.declared.setting.Setting.{Setting}
-use Rattle.gateway_server.specs.Log.{IsLawful, IsLawfulLog, Leaves, moments_given, with_moment}
-use Rattle.gateway_server.specs.Serving.{AsksClock, IsEnd, IsFresh, Serves, ServesAll, Tells}
-use Rattle.gateway_server.proofs.EndLemmas.{lawful_wider}
+use Rattle.gateway_server.specs.Holding.{Held, Room, bare, keeps_none}
+use Rattle.gateway_server.specs.Log.{IsCausedLogBy, IsLawful, IsLawfulLog, IsLogBy, Leaves, moments_given, with_moment}
+use Rattle.gateway_server.specs.Past.{IsLawfulAfter, LeavesPast, Past, StandsFor}
+use Rattle.gateway_server.specs.Serving.{AsksClock, CountsCauses, CountsCausesAfter, IsEnd, IsFresh, Serves, ServesAfter, ServesAll, ServesAllAfter, Tells}
+use Rattle.gateway_server.proofs.EndLemmas.{after_wider, lawful_wider}
 
--- the cause may be a wider one
-log_wider : (P Q : Type 0) (setting : Setting) (before : List Arrival) (entries : List Entry) (now : List Arrival) → (P → Q)
-    → IsLawfulLog P setting before entries now → IsLawfulLog Q setting before entries now
-log_wider P Q setting before [] now wider is = is
-log_wider P Q setting before (entry ∷ later) now wider (lawful, after, leaves, rest) =
-    (lawful_wider P Q setting before entry wider lawful, after, leaves, log_wider P Q setting after later now wider rest)
+-- the causes may be wider ones
+log_wider : (P Q U V : Type 0) (room : Room) (setting : Setting) (before : Past) (entries : List Entry) (now : Past) → (P → Q) → (U → V)
+    → IsLogBy (IsLawfulAfter P U room setting) (LeavesPast room setting) before entries now → IsLogBy (IsLawfulAfter Q V room setting) (LeavesPast room setting) before entries now
+log_wider P Q U V room setting before [] now wider also is = is
+log_wider P Q U V room setting before (entry ∷ later) now wider also (lawful, after, leaves, rest) =
+    (after_wider P Q U V room setting before entry wider also lawful, after, leaves, log_wider P Q U V room setting after later now wider also rest)
 
 -- an entry more
-log_more : (P : Type 0) (setting : Setting) (before : List Arrival) (entries : List Entry) (mid : List Arrival) (entry : Entry) (now : List Arrival)
-    → IsLawfulLog P setting before entries mid → IsLawful P setting mid entry → Leaves setting mid entry now
-    → IsLawfulLog P setting before (entries ++ entry ∷ []) now
-log_more P setting before [] mid entry now is lawful leaves =
-    subst (λ (start : List Arrival). IsLawful P setting start entry × (after : List Arrival) × Leaves setting start entry after × (now ≡ after)) is (lawful, now, leaves, refl)
-log_more P setting before (first ∷ later) mid entry now (law, after, left, rest) lawful leaves =
-    (law, after, left, log_more P setting after later mid entry now rest lawful leaves)
+log_more : {T : Type 0} (Lawful : T → Entry → Type 0) (LeavesThis : T → Entry → T → Type 0) (before : T) (entries : List Entry) (mid : T) (entry : Entry) (now : T)
+    → IsLogBy Lawful LeavesThis before entries mid → Lawful mid entry → LeavesThis mid entry now
+    → IsLogBy Lawful LeavesThis before (entries ++ entry ∷ []) now
+log_more {T} Lawful LeavesThis before [] mid entry now is lawful leaves =
+    subst (λ (start : T). Lawful start entry × (after : T) × LeavesThis start entry after × (now ≡ after)) is (lawful, now, leaves, refl)
+log_more {T} Lawful LeavesThis before (first ∷ later) mid entry now (law, after, left, rest) lawful leaves =
+    (law, after, left, log_more Lawful LeavesThis after later mid entry now rest lawful leaves)
 
 -- before the first connection
-pub serves_none : (P : Type 0) (gate : Kept) (arrivals : List Arrival) (told : Connections) (moments : Option (List ℤ)) (before now : ℕ) (output : Option (List ℕ)) (beside : Beside)
-    → Tells output beside told → Stands gate arrivals
-    → ServesAll P gate arrivals told (record { before = moments; now = moments; faults_before = before; faults_now = now }) output beside gate 0
-serves_none P gate arrivals told moments before now output beside tells stands = record {
+pub serves_none : (P U : Type 0) (room : Room) (held : Held) (past : Past) (told : Connections) (moments : Option (List ℤ)) (before now : ℕ) (output : Option (List ℕ)) (beside : Beside)
+    → Tells output beside told → StandsFor held past
+    → ServesAllAfter P U room held past told (record { before = moments; now = moments; faults_before = before; faults_now = now }) output beside held 0
+serves_none P U room held past told moments before now output beside tells stands = record {
   entries = [];
   left = told;
   tells = tells;
@@ -44,7 +48,7 @@ serves_none P gate arrivals told moments before now output beside tells stands =
   count_is = refl;
   moments = same moments;
   timed = λ less. absurd (none less);
-  arrived = arrivals;
+  arrived = past;
   lawful = refl;
   stands = stands;
 }
@@ -57,10 +61,10 @@ serves_none P gate arrivals told moments before now output beside tells stands =
     same (Some list) = refl
 
 -- a fault or an end that comes after
-pub serves_end : (P Q : Type 0) (gate now : Kept) (arrivals : List Arrival) (told : Connections) (clock : Change (List ℤ)) (output last : Option (List ℕ)) (beside after : Beside) (count : ℕ)
-    → (P → Q) → last ≡ output → after ≡ beside → ServesAll P gate arrivals told clock output beside now count
-    → ServesAll Q gate arrivals told clock last after now count
-serves_end P Q gate now arrivals told clock output last beside after count wider same stays so_far = record {
+pub serves_end : (P Q U : Type 0) (room : Room) (held now : Held) (past : Past) (told : Connections) (clock : Change (List ℤ)) (output last : Option (List ℕ)) (beside after : Beside) (count : ℕ)
+    → (P → Q) → last ≡ output → after ≡ beside → ServesAllAfter P U room held past told clock output beside now count
+    → ServesAllAfter Q U room held past told clock last after now count
+serves_end P Q U room held now past told clock output last beside after count wider same stays so_far = record {
   entries = so_far.entries;
   left = so_far.left;
   tells = record { tells = ap (λ (b : Beside). b.told) stays ∙ so_far.tells.tells; written = (so_far.tells.written.0, same ∙ so_far.tells.written.1) };
@@ -70,14 +74,13 @@ serves_end P Q gate now arrivals told clock output last beside after count wider
   moments = so_far.moments;
   timed = so_far.timed;
   arrived = so_far.arrived;
-  lawful = log_wider P Q gate.setting arrivals so_far.entries so_far.arrived wider so_far.lawful;
+  lawful = log_wider P Q U U room held.gate.setting past so_far.entries so_far.arrived wider (λ cause. cause) so_far.lawful;
   stands = so_far.stands;
 }
 
 -- no connection is to come after those that were served
-pub is_end : (P : Type 0) (gate now : Kept) (arrivals : List Arrival) (told : Connections) (clock : Change (List ℤ)) (output : Option (List ℕ)) (beside after : Beside) (count : ℕ)
-    → NoneComes beside after → ServesAll P gate arrivals told clock output beside now count → IsEnd after
-is_end P gate now arrivals told clock output beside after count none so_far =
+pub is_end : (beside after : Beside) → NoneComes beside after → IsEnd after
+is_end beside after none =
     subst (λ (b : Beside). IfSome b.told (λ told. told.coming ≡ [])) (sym none.0) none.1
 
 -- the connection that came is fresh
@@ -112,16 +115,16 @@ timed_more mid now fa fb fc many given None le so_far asks less = rose-after fa 
 timed_more mid now fa fb fc many given (Some moment) le so_far asks less = subst (Rose fa) (sym asks.1) (so_far (omega arith))
 
 -- one connection more
-pub serves_more : (P Q R : Type 0) (gate mid now : Kept) (arrivals : List Arrival) (told : Connections) (moments between later : Option (List ℤ)) (fa fb fc : ℕ) (old came new : Beside) (count : ℕ) (held output last : Option (List ℕ))
-    → (so_far : ServesAll P gate arrivals told (record { before = moments; now = between; faults_before = fa; faults_now = fb }) held old mid count)
-    → (P → R) → (Q → R) → mid.setting ≡ gate.setting → fa ≤ fb → Arrives old came → output ≡ option_map (λ _. []) held
-    → ((one : Connections) → IsFresh output came one → (before : List Arrival) → Stands mid before
-    → Serves Q mid before one (record { before = between; now = later; faults_before = fb; faults_now = fc }) last new now)
-    → ServesAll R gate arrivals told (record { before = moments; now = later; faults_before = fa; faults_now = fc }) last new now (count + 1)
-serves_more P Q R gate mid now arrivals told moments between later fa fb fc old came new count held output last so_far wider also setting calm arrives fresh serves =
+pub serves_more : (P Q R U V W : Type 0) (room : Room) (held mid now : Held) (past : Past) (told : Connections) (moments between later : Option (List ℤ)) (fa fb fc : ℕ) (old came new : Beside) (count : ℕ) (before output last : Option (List ℕ))
+    → (so_far : ServesAllAfter P U room held past told (record { before = moments; now = between; faults_before = fa; faults_now = fb }) before old mid count)
+    → (P → R) → (Q → R) → (U → W) → (V → W) → mid.gate.setting ≡ held.gate.setting → fa ≤ fb → Arrives old came → output ≡ option_map (λ _. []) before
+    → ((one : Connections) → IsFresh output came one → (between_past : Past) → StandsFor mid between_past
+    → ServesAfter Q V room mid between_past one (record { before = between; now = later; faults_before = fb; faults_now = fc }) last new now)
+    → ServesAllAfter R W room held past told (record { before = moments; now = later; faults_before = fa; faults_now = fc }) last new now (count + 1)
+serves_more P Q R U V W room held mid now past told moments between later fa fb fc old came new count before output last so_far wider also kept_wider kept_also setting calm arrives fresh serves =
     let next : (input : List ℕ) × (rest : List (List ℕ)) × (so_far.left.coming ≡ input ∷ rest) × IsFresh output came (record { coming = rest; input = input; unread = input; log = so_far.left.log }) =
     arrives_fresh old came output so_far.left so_far.tells.tells arrives (fresh ∙ ap (option_map (λ _. [])) so_far.tells.written.1) in
-    let one : Serves Q mid so_far.arrived (record { coming = next.1; input = next.0; unread = next.0; log = so_far.left.log }) (record { before = between; now = later; faults_before = fb; faults_now = fc }) last new now =
+    let one : ServesAfter Q V room mid so_far.arrived (record { coming = next.1; input = next.0; unread = next.0; log = so_far.left.log }) (record { before = between; now = later; faults_before = fb; faults_now = fc }) last new now =
     serves (record { coming = next.1; input = next.0; unread = next.0; log = so_far.left.log }) next.3 so_far.arrived so_far.stands in record {
       entries = so_far.entries ++ one.entry ∷ [];
       left = record { coming = next.1; input = []; unread = []; log = so_far.left.log ++ one.entry ∷ [] };
@@ -136,10 +139,10 @@ serves_more P Q R gate mid now arrivals told moments between later fa fb fc old 
       timed = λ less. timed_more between later fa fb fc (length so_far.entries) (length (moments_given so_far.entries)) one.entry.moment calm so_far.timed one.asked
           (fewer so_far.entries one.entry less);
       arrived = one.arrived;
-      lawful = log_more R gate.setting arrivals so_far.entries so_far.arrived one.entry one.arrived
-          (log_wider P R gate.setting arrivals so_far.entries so_far.arrived wider so_far.lawful)
-          (subst (λ (s : Setting). IsLawful R s so_far.arrived one.entry) setting (lawful_wider Q R mid.setting so_far.arrived one.entry also one.lawful))
-          (subst (λ (s : Setting). Leaves s so_far.arrived one.entry one.arrived) setting one.leaves);
+      lawful = log_more (IsLawfulAfter R W room held.gate.setting) (LeavesPast room held.gate.setting) past so_far.entries so_far.arrived one.entry one.arrived
+          (log_wider P R U W room held.gate.setting past so_far.entries so_far.arrived wider kept_wider so_far.lawful)
+          (subst (λ (s : Setting). IsLawfulAfter R W room s so_far.arrived one.entry) setting (after_wider Q R V W room mid.gate.setting so_far.arrived one.entry also kept_also one.lawful))
+          (subst (λ (s : Setting). LeavesPast room s so_far.arrived one.entry one.arrived) setting one.leaves);
       stands = one.stands;
     }
   where
@@ -152,3 +155,82 @@ serves_more P Q R gate mid now arrivals told moments between later fa fb fc old 
         → length (moments_given entries) + length (with_moment entry.moment) < length entries + 1
     fewer entries entry less =
         omega (arith, less, ap length (given_more entries entry), length-append (moments_given entries) (with_moment entry.moment), length-append entries (entry ∷ []))
+
+-- ---- a gateway by itself
+
+-- what a gateway stands for that keeps no bodies
+abbrev pub bare_past : List Arrival → Past
+bare_past arrivals = record { arrivals = arrivals; end = 0; is_sound = true }
+
+pub stands_bare : (gate : Kept) (arrivals : List Arrival) → Stands gate arrivals → StandsFor (bare gate) (bare_past arrivals)
+stands_bare gate arrivals stands = record { stands = stands; sound = refl; end = λ _. refl }
+
+-- nothing is kept, so keeping it never fails
+none_rose : Rose 0 0 → ⊥
+none_rose (inl less) = omega arith
+none_rose (inr last) = omega arith
+
+lawful_bare : (P : Type 0) (setting : Setting) (past : Past) (entry : Entry) → IsLawfulAfter P (Rose 0 0) keeps_none setting past entry → IsLawful P setting past.arrivals entry
+lawful_bare P setting past entry (sound, lawful) = lawful_wider P P (Rose 0 0) ⊥ (λ (body : List ℕ). false) setting past.arrivals entry (λ cause. cause) none_rose lawful
+
+log_bare : (P : Type 0) (setting : Setting) (before : Past) (entries : List Entry) (now : Past)
+    → IsLogBy (IsLawfulAfter P (Rose 0 0) keeps_none setting) (LeavesPast keeps_none setting) before entries now → IsLawfulLog P setting before.arrivals entries now.arrivals
+log_bare P setting before [] now is = ap (λ (p : Past). p.arrivals) is
+log_bare P setting before (entry ∷ later) now (lawful, after, leaves, rest) =
+    (lawful_bare P setting before entry lawful, after.arrivals, leaves.arrived, log_bare P setting after later now rest)
+
+causes_bare : (setting : Setting) (before : Past) (entries : List Entry) (causes : List Bool) (now : Past)
+    → IsCausedLogBy (λ (P : Type 0). IsLawfulAfter P (Rose 0 0) keeps_none setting) (LeavesPast keeps_none setting) before entries causes now
+    → IsCausedLogBy (λ (P : Type 0). IsLawful P setting) (Leaves setting) before.arrivals entries causes now.arrivals
+causes_bare setting before [] [] now is = ap (λ (p : Past). p.arrivals) is
+causes_bare setting before [] (cause ∷ causes) now is = absurd is
+causes_bare setting before (entry ∷ later) [] now is = absurd is
+causes_bare setting before (entry ∷ later) (cause ∷ causes) now (lawful, after, leaves, rest) =
+    (lawful_bare (cause ≡ true) setting before entry lawful, after.arrivals, leaves.arrived, causes_bare setting after later causes now rest)
+
+pub serves_bare : (P : Type 0) (gate now : Kept) (arrivals : List Arrival) (told : Connections) (clock : Change (List ℤ)) (output : Option (List ℕ)) (beside : Beside)
+    → ServesAfter P (Rose 0 0) keeps_none (bare gate) (bare_past arrivals) told clock output beside (bare now) → Serves P gate arrivals told clock output beside now
+serves_bare P gate now arrivals told clock output beside is = record {
+  entry = is.entry;
+  logged = is.logged;
+  unwritten = is.unwritten;
+  asked = is.asked;
+  lawful = lawful_bare P gate.setting (bare_past arrivals) is.entry is.lawful;
+  arrived = is.arrived.arrivals;
+  leaves = is.leaves.arrived;
+  stands = is.stands.stands;
+}
+
+pub serves_all_bare : (P : Type 0) (gate now : Kept) (arrivals : List Arrival) (told : Connections) (clock : Change (List ℤ)) (output : Option (List ℕ)) (beside : Beside) (count : ℕ)
+    → ServesAllAfter P (Rose 0 0) keeps_none (bare gate) (bare_past arrivals) told clock output beside (bare now) count → ServesAll P gate arrivals told clock output beside now count
+serves_all_bare P gate now arrivals told clock output beside count is = record {
+  entries = is.entries;
+  left = is.left;
+  tells = is.tells;
+  log = is.log;
+  inputs = is.inputs;
+  count_is = is.count_is;
+  moments = is.moments;
+  timed = is.timed;
+  arrived = is.arrived.arrivals;
+  lawful = log_bare P gate.setting (bare_past arrivals) is.entries is.arrived is.lawful;
+  stands = is.stands.stands;
+}
+
+pub counts_bare : (setting : Setting) (arrivals : List Arrival) (entries : List Entry) (further da db ca cb : ℕ)
+    → CountsCausesAfter (Rose 0 0) keeps_none setting (bare_past arrivals) entries further da db ca cb → CountsCauses setting arrivals entries further da db ca cb
+counts_bare setting arrivals entries further da db ca cb is = record {
+  causes = is.causes;
+  arrived = is.arrived.arrivals;
+  lawful = causes_bare setting (bare_past arrivals) entries is.causes is.arrived is.lawful;
+  door = is.door;
+  clock = is.clock;
+}
+
+-- where a server over it came to its end
+pub end_bare : (result : Result (Unit {0}) Failed) (count most : ℕ) (beside : Beside) → OnOk result ((count ≡ most) ⊎ (IsEnd beside ⊎ (true ≡ false)))
+    → OnOk result ((count ≡ most) ⊎ IsEnd beside)
+end_bare (Ok done) count most beside (inl is) = inl is
+end_bare (Ok done) count most beside (inr (inl is)) = inr is
+end_bare (Ok done) count most beside (inr (inr is)) = absurd (true≢false is)
+end_bare (Err fault) count most beside is = tt

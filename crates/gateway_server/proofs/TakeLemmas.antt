@@ -1,5 +1,5 @@
 -- What is answered to a posted body.
-use Rattle.std.proofs.Common.{◌≡◌, ◌∷◌, ℕ, ℤ, List, Option, Some, None, Ok, Err, ap, refl, subst, sym}
+use Rattle.std.proofs.Common.{◌≡◌, ◌∷◌, ℕ, ℤ, true, List, Option, Some, None, Result, Ok, Err, ap, refl, subst, sym}
 use Rattle.gw_base.specs.Told.{PutsUnless}
 use Rattle.gw_base.specs.declared.door.Mark.{Mark}
 use Rattle.gw_base.specs.declared.kind.Kind.{Kind}
@@ -14,8 +14,11 @@ use Rattle.gateway_core.specs.declared.accepted.Accepted.{Accepted}
 use Rattle.gateway_core.specs.declared.setting.Setting.{Setting}
 use Rattle.gateway_core.specs.declared.take.body.BodyRefusal.{BodyRefusal}
 use Rattle.gateway_server.specs.Answers.{answer_of, mark_of, refused_with}
-use Rattle.gateway_server.specs.Bodies.{fault_of, refusal_of, refused_mark, taken_mark}
-use Rattle.gateway_server.specs.Steps.{PutsTaken, no_memory, refused, taken}
+use Rattle.gateway_server.specs.Bodies.{fault_of, mark_for, refusal_for, refusal_of, refused_mark, taken_mark}
+use Rattle.gateway_server.specs.Holding.{Held, IsLeft, IsUnkept, Room, TakesFirst, bare, keeps_none, unless_refused}
+use Rattle.gateway_server.specs.Steps.{PutsTaken, full, no_memory, refused, taken, unkept}
+use Rattle.gateway_server.specs.declared.not_taken.NotTaken.{NotTaken}
+use Rattle.gateway_server.specs.declared.not_taken.NotTaken.TheVariants as not_taken
 
 -- the mark is that of its kind
 brought_mark : (setting : Setting) (arrivals : List Arrival) (moment : ℤ) (of : Kind) (bytes : List ℕ) (report : Report) (given : Given)
@@ -24,20 +27,32 @@ brought_mark setting arrivals moment of bytes report (journeys records) brings =
 brought_mark setting arrivals moment of bytes report (situations all) brings = ap taken_mark brings.0
 brought_mark setting arrivals moment of bytes report (feed one) brings = ap taken_mark brings.0
 
-module _ (P : Type 0) (kept : Kept) (arrivals : List Arrival) (moment : ℤ) (of : Kind) (bytes : List ℕ) (before now : Option (List ℕ)) (after : Kept) where
-  pub puts_taken : (accepted : Accepted) → Takes kept arrivals moment of bytes (Ok accepted) after → (text : List ℕ) → text ≡ report_json accepted.report
-      → PutsUnless P before now (answer_of answer.Json text) → PutsTaken P kept arrivals moment of bytes (taken_mark of) before now after
-  puts_taken accepted takes text is puts =
-      taken accepted.report takes.0 takes.1 (brought_mark kept.setting arrivals moment of bytes accepted.report takes.0 takes.1)
-      (subst (λ (t : List ℕ). PutsUnless P before now (answer_of answer.Json t)) is puts) takes.2.stands
+module _ (P U : Type 0) (room : Room) (held : Held) (arrivals : List Arrival) (moment : ℤ) (of : Kind) (bytes : List ℕ) (before now : Option (List ℕ)) (after : Held) where
+  pub puts_taken : (accepted : Accepted) → TakesFirst room held arrivals moment of bytes (Ok accepted) after → after.is_sound ≡ true
+      → (text : List ℕ) → text ≡ report_json accepted.report
+      → PutsUnless P before now (answer_of answer.Json text) → PutsTaken P U room held arrivals moment of bytes (taken_mark of) before now after
+  puts_taken accepted (fits, end, takes) sound text is puts =
+      taken accepted.report takes.0 takes.1 fits (brought_mark held.gate.setting arrivals moment of bytes accepted.report takes.0 takes.1)
+      (subst (λ (t : List ℕ). PutsUnless P before now (answer_of answer.Json t)) is puts) takes.2.stands end sound
 
-  puts_fault : (why : BodyRefusal) (fault : Option BodyFault) → fault_of why ≡ fault → Refuses (schedule_at kept.setting (moment ∷ moments_of arrivals)) of bytes why
-      → PutsUnless P before now (refused_with (refusal_of fault)) → after ≡ kept → PutsTaken P kept arrivals moment of bytes (refused_mark fault) before now after
+  puts_fault : (why : BodyRefusal) (fault : Option BodyFault) → fault_of why ≡ fault → Refuses (schedule_at held.gate.setting (moment ∷ moments_of arrivals)) of bytes why
+      → PutsUnless P before now (refused_with (refusal_of fault)) → after ≡ held → PutsTaken P U room held arrivals moment of bytes (refused_mark fault) before now after
   puts_fault why None is refuses puts same = no_memory refl puts same
   puts_fault why (Some fault) is refuses puts same = refused fault (why, refuses, is) refl puts same
 
-  pub puts_refused : (why : BodyRefusal) (ends : Mark) → ends ≡ refused_mark (fault_of why)
-      → Takes kept arrivals moment of bytes (Err why) after → PutsUnless P before now (refused_with (refusal_of (fault_of why))) → after ≡ kept
-      → PutsTaken P kept arrivals moment of bytes ends before now after
-  puts_refused why ends is refuses puts same =
-      subst (λ (m : Mark). PutsTaken P kept arrivals moment of bytes m before now after) (sym is) (puts_fault why (fault_of why) refl refuses puts same)
+  puts_not : (why : NotTaken) → TakesFirst room held arrivals moment of bytes (Err why) after → IsLeft held (Err why) after → (IsUnkept (Err why) → U)
+      → PutsUnless P before now (refused_with (refusal_for why)) → PutsTaken P U room held arrivals moment of bytes (mark_for why) before now after
+  puts_not (not_taken.Refused why) takes left cause puts = puts_fault why (fault_of why) refl takes puts left
+  puts_not not_taken.Unkept takes left cause puts = unkept takes (cause tt) refl puts left.0 left.1
+  puts_not not_taken.Full takes left cause puts = full takes.1 takes.0 refl puts left
+
+  pub puts_not_taken : (why : NotTaken) (ends : Mark) → ends ≡ mark_for why → TakesFirst room held arrivals moment of bytes (Err why) after → IsLeft held (Err why) after
+      → (IsUnkept (Err why) → U) → PutsUnless P before now (refused_with (refusal_for why)) → PutsTaken P U room held arrivals moment of bytes ends before now after
+  puts_not_taken why ends is takes left cause puts =
+      subst (λ (m : Mark). PutsTaken P U room held arrivals moment of bytes m before now after) (sym is) (puts_not why takes left cause puts)
+
+-- a gateway by itself
+pub takes_bare : (gate now : Kept) (arrivals : List Arrival) (moment : ℤ) (of : Kind) (bytes : List ℕ) (answer : Result Accepted BodyRefusal)
+    → Takes gate arrivals moment of bytes answer now → TakesFirst keeps_none (bare gate) arrivals moment of bytes (unless_refused answer) (bare now)
+takes_bare gate now arrivals moment of bytes (Ok accepted) takes = (refl, refl, takes)
+takes_bare gate now arrivals moment of bytes (Err why) takes = takes

@@ -10,6 +10,8 @@ use Rattle.journey_model.specs.Schedules.{Schedule}
 use Rattle.gateway_core.specs.Bodies.{Refuses}
 use Rattle.gateway_core.specs.declared.take.body.BodyRefusal.{BodyRefusal}
 use Rattle.gateway_core.specs.declared.take.body.BodyRefusal.TheVariants as why
+use Rattle.gateway_server.specs.declared.not_taken.NotTaken.{NotTaken}
+use Rattle.gateway_server.specs.declared.not_taken.NotTaken.TheVariants as not_taken
 use Rattle.http_talk.specs.declared.refusal.Refusal.{Refusal}
 use Rattle.http_talk.specs.declared.refusal.Refusal.TheVariants as refusal
 use Rattle.http_talk.specs.declared.refusal.BodyFault.{BodyFault}
@@ -45,6 +47,17 @@ refusal_of (Some fault) = refusal.Body fault
 abbrev pub refused_mark : Option BodyFault → Mark
 refused_mark None = mark.Memory
 refused_mark (Some fault) = mark.Refused 400
+
+-- the same of a body that isn't taken, for that or as it isn't kept
+abbrev pub refusal_for : NotTaken → Refusal
+refusal_for (not_taken.Refused why) = refusal_of (fault_of why)
+refusal_for not_taken.Unkept = refusal.Journal
+refusal_for not_taken.Full = refusal.JournalFull
+
+abbrev pub mark_for : NotTaken → Mark
+mark_for (not_taken.Refused why) = refused_mark (fault_of why)
+mark_for not_taken.Unkept = mark.Unkept
+mark_for not_taken.Full = mark.Refused 500
 
 -- the mark of a connection whose body of a kind is taken
 abbrev pub taken_mark : Kind → Mark

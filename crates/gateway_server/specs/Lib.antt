@@ -1,7 +1,9 @@
 pub mod Answers
 pub mod Bodies
 pub mod Completeness
+pub mod Holding
 pub mod Log
+pub mod Past
 pub mod Posted
 pub mod Serving
 pub mod Steps

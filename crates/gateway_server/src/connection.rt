@@ -10,13 +10,15 @@ ghost use Rattle.gateway_core.specs.Arrivals.{Arrival};
 ghost use Rattle.gateway_core.specs.Standing.{Stands};
 ghost use Rattle.gateway_server.specs.Answers.{refused_with};
 ghost use Rattle.gateway_server.specs.Bodies as bodies;
-ghost use Rattle.gateway_server.specs.Posted.{PostedStands, came};
-ghost use Rattle.gateway_server.specs.Serving.{IsFresh, Serves};
+ghost use Rattle.gateway_server.specs.Past.{Past, StandsFor};
+ghost use Rattle.gateway_server.specs.Serving.{IsFresh, Serves, ServesAfter};
 ghost use Rattle.gateway_server.specs.Steps.{Answers, PutsShown, PutsTaken};
 
 use crate::answers::{put_answer, put_feed, put_refusal, put_siri};
-use crate::posted_body::PostedBody;
-use crate::take::{fault_of, take_posted};
+use crate::holds_gateway::HoldsGateway;
+use crate::not_taken::NotTaken;
+use crate::posted_body::{PostedBody, emptied};
+use crate::take::fault_of;
 use door_talk::{Asked, read_request};
 use gateway_core::{BodyRefusal, Gateway, serves_what_arrived_law};
 use gw_base::{Bytes, Clock, Door, Failed, Kind, Mark, Moment, Sink};
@@ -24,13 +26,14 @@ use http_talk::{Answer, HeadReader, Refusal, Resource};
 use std::alloc::Global;
 
 // Answers a GET.
-fn show<S: Sink>(sink: &mut S, gate: &Gateway, what: Resource, moment: Moment)
-    ensures shows { (arrivals : List Arrival) → Stands gate.now arrivals
-        → PutsShown (Rose (S.faults sink.old) (S.faults sink.new)) gate.now.setting arrivals moment what
+fn show<K, H: HoldsGateway<K>, S: Sink>(sink: &mut S, host: &H, what: Resource, moment: Moment)
+    ensures shows { (arrivals : List Arrival) → Stands (H.held host.now).gate arrivals
+        → PutsShown (Rose (S.faults sink.old) (S.faults sink.new)) (H.held host.now).gate.setting arrivals moment what
         (S.told sink.old) (S.told sink.new) }
     ensures counts { S.faults sink.old ≤ S.faults sink.new }
     ensures others { S.beside sink.new ≡ S.beside sink.old }
 {
+    let gate = host.gateway();
     match what {
         Resource::Feed => {
             serves_what_arrived_law(gate, moment);
@@ -70,76 +73,145 @@ fn refuse<S: Sink>(sink: &mut S, why: BodyRefusal) -> Mark
     }
 }
 
-// Takes a body that was posted and came whole, and answers with the report on it or its refusal.
-fn take<S: Sink>(
-    alloc: Global,
-    gate: &mut Gateway,
-    kind: Kind,
-    posted: PostedBody,
-    moment: Moment,
-    buffer: &mut Bytes,
-    sink: &mut S,
-) -> Mark
-    requires stands { (bytes : List ℕ) × PostedStands gate.old posted moment kind bytes }
-    ensures takes { (arrivals : List Arrival) → Stands gate.old arrivals
-        → (bytes : List ℕ) → PostedStands gate.old posted moment kind bytes
-        → PutsTaken (Rose (S.faults sink.old) (S.faults sink.new)) gate.old arrivals moment kind bytes result
-        (S.told sink.old) (S.told sink.new) gate.new }
-    ensures setting { gate.new.setting ≡ gate.old.setting }
-    ensures held { length buffer.new ≤ came posted }
+// Answers a body that isn't taken.
+fn turn_away<S: Sink>(sink: &mut S, why: NotTaken) -> Mark
+    ensures puts { PutsUnless (Rose (S.faults sink.old) (S.faults sink.new)) (S.told sink.old) (S.told sink.new)
+        (refused_with (bodies.refusal_for why)) }
+    ensures mark { result ≡ bodies.mark_for why }
     ensures counts { S.faults sink.old ≤ S.faults sink.new }
     ensures others { S.beside sink.new ≡ S.beside sink.old }
 {
-    match take_posted(alloc, gate, posted, moment, buffer) {
+    match why {
+        NotTaken::Refused(why) => refuse(sink, why),
+        NotTaken::Unkept => {
+            put_refusal(sink, Refusal::Journal);
+            Mark::Unkept
+        }
+        NotTaken::Full => {
+            put_refusal(sink, Refusal::JournalFull);
+            Mark::Refused(500)
+        }
+    }
+}
+
+// Takes a body that was posted and came whole, and answers with the report on it or with why it isn't taken.
+fn take<K, H: HoldsGateway<K>, S: Sink>(
+    alloc: Global,
+    host: &mut H,
+    beside: &mut K,
+    kind: Kind,
+    posted: &mut H::Body,
+    moment: Moment,
+    sink: &mut S,
+) -> Mark
+    requires stands { (bytes : List ℕ) × H.Body.stands (H.held host.old).gate posted.old moment kind bytes }
+    requires small { H.Body.taken posted.old ≤ body_limit }
+    requires sound { (H.held host.old).is_sound ≡ true }
+    requires ready { H.is_ready host.old beside.old }
+    ensures takes { (arrivals : List Arrival) → Stands (H.held host.old).gate arrivals
+        → (bytes : List ℕ) → H.Body.stands (H.held host.old).gate posted.old moment kind bytes
+        → PutsTaken (Rose (S.faults sink.old) (S.faults sink.new)) (Rose (H.faults beside.old) (H.faults beside.new))
+        H.room (H.held host.old) arrivals moment kind bytes result (S.told sink.old) (S.told sink.new)
+        (H.held host.new) }
+    ensures setting { (H.held host.new).gate.setting ≡ (H.held host.old).gate.setting }
+    ensures small { H.Body.taken posted.new ≤ H.Body.taken posted.old }
+    ensures ready { (H.held host.new).is_sound ≡ true → H.is_ready host.new beside.new }
+    ensures keeping { H.faults beside.old ≤ H.faults beside.new }
+    ensures counts { S.faults sink.old ≤ S.faults sink.new }
+    ensures others { S.beside sink.new ≡ S.beside sink.old }
+{
+    match host.take(alloc, beside, posted, kind, moment) {
         Ok(accepted) => {
             put_answer(sink, &Answer::Json, accepted.text.as_slice());
             taken_mark(kind)
         }
-        Err(why) => refuse(sink, why),
+        Err(why) => turn_away(sink, why),
     }
 }
 
 // Reads the request of the present connection, does what it asks for at that moment, and answers. The mark is what the
 // connection is to be finished with.
-fn answer<D: Door>(
+fn answer<K, H: HoldsGateway<K>, D: Door>(
     alloc: Global,
-    gate: &mut Gateway,
+    host: &mut H,
+    beside: &mut K,
     reader: &mut HeadReader,
-    body: &mut Bytes,
+    posted: &mut H::Body,
     door: &mut D,
     moment: Moment,
 ) -> Mark
     requires present { (D.beside door.old).present ≡ true }
+    requires small { H.Body.taken posted.old ≤ body_limit }
+    requires sound { (H.held host.old).is_sound ≡ true }
+    requires ready { H.is_ready host.old beside.old }
     ensures answers { (told : Connections) → IsFresh (D.told door.old) (D.beside door.old) told
-        → (arrivals : List Arrival) → Stands gate.old arrivals
-        → Answers (Rose (D.faults door.old) (D.faults door.new)) gate.old.setting arrivals told.input moment result
-        (D.told door.new) gate.new }
+        → (past : Past) → StandsFor (H.held host.old) past
+        → Answers (Rose (D.faults door.old) (D.faults door.new)) (Rose (H.faults beside.old) (H.faults beside.new))
+        H.room (H.held host.old).gate.setting past told.input moment result (D.told door.new) (H.held host.new) }
     ensures reads { (bytes : List ℕ) × HasRead (D.beside door.old) (D.beside door.new) bytes × IsWithin bytes }
-    ensures held { length body.old ≤ body_limit → length body.new ≤ body_limit }
-    ensures setting { gate.new.setting ≡ gate.old.setting }
+    ensures small { H.Body.taken posted.new ≤ body_limit }
+    ensures setting { (H.held host.new).gate.setting ≡ (H.held host.old).gate.setting }
+    ensures ready { (H.held host.new).is_sound ≡ true → H.is_ready host.new beside.new }
+    ensures keeping { H.faults beside.old ≤ H.faults beside.new }
     ensures counts { D.faults door.old ≤ D.faults door.new }
 {
-    let mut posted = PostedBody::with_buffer(std::mem::replace(body, Bytes::new(alloc)));
-    match read_request(alloc, reader, &*gate, moment, &mut posted, door) {
+    match read_request(alloc, reader, host.gateway(), moment, posted, door) {
         Asked::Get(what) => {
-            *body = posted.into_buffer(alloc);
-            show(door, gate, what, moment);
+            show(door, &*host, what, moment);
             Mark::Shown
         }
-        Asked::Post(kind) => take(alloc, gate, kind, posted, moment, body, door),
+        Asked::Post(kind) => take(alloc, host, beside, kind, posted, moment, door),
         Asked::Refused(why) => {
-            *body = posted.into_buffer(alloc);
             put_refusal(door, why);
             Mark::Refused(why.status().code)
         }
         Asked::NoRoom => {
-            *body = posted.into_buffer(alloc);
             put_refusal(door, Refusal::Memory);
             Mark::Memory
         }
-        Asked::Lost => {
-            *body = posted.into_buffer(alloc);
-            Mark::Lost
+        Asked::Lost => Mark::Lost,
+    }
+}
+
+/// Serves the present connection over what holds a gateway and can take more: the clock is asked once, the request is
+/// read, what is posted is taken and what is asked for is answered, and the connection is finished, whatever fails
+/// (RFC 9112). Where the door tells its connections, the log has one entry more, which is lawful after what there was
+/// before. `posted` holds at most 16,777,216 bytes. `serve_one` is this over a gateway by itself.
+pub fn serve_one_with<K, H: HoldsGateway<K>, D: Door, C: Clock>(
+    alloc: Global,
+    host: &mut H,
+    beside: &mut K,
+    reader: &mut HeadReader,
+    posted: &mut H::Body,
+    door: &mut D,
+    clock: &mut C,
+)
+    requires present { (D.beside door.old).present ≡ true }
+    requires small { H.Body.taken posted.old ≤ body_limit }
+    requires sound { (H.held host.old).is_sound ≡ true }
+    requires ready { H.is_ready host.old beside.old }
+    ensures serves { (told : Connections) → IsFresh (D.told door.old) (D.beside door.old) told
+        → (past : Past) → StandsFor (H.held host.old) past
+        → ServesAfter (Rose (D.faults door.old) (D.faults door.new)) (Rose (H.faults beside.old) (H.faults beside.new))
+        H.room (H.held host.old) past told (change C.told C.faults clock.old clock.new) (D.told door.new)
+        (D.beside door.new) (H.held host.new) }
+    ensures small { H.Body.taken posted.new ≤ body_limit }
+    ensures ended { (D.beside door.new).present ≡ false }
+    ensures setting { (H.held host.new).gate.setting ≡ (H.held host.old).gate.setting }
+    ensures ready { (H.held host.new).is_sound ≡ true → H.is_ready host.new beside.new }
+    ensures keeping { H.faults beside.old ≤ H.faults beside.new }
+    ensures counts { D.faults door.old ≤ D.faults door.new }
+    ensures clock { C.faults clock.old ≤ C.faults clock.new }
+{
+    match clock.now() {
+        Ok(moment) => {
+            let mark = answer(alloc, host, beside, reader, posted, door, moment);
+            H::let_go(alloc, posted);
+            door.finish(mark, Some(moment));
+        }
+        Err(Failed) => {
+            put_refusal(door, Refusal::Clock);
+            door.finish(Mark::ClockFault, None);
         }
     }
 }
@@ -167,14 +239,7 @@ pub fn serve_one<D: Door, C: Clock>(
     ensures counts { D.faults door.old ≤ D.faults door.new }
     ensures clock { C.faults clock.old ≤ C.faults clock.new }
 {
-    match clock.now() {
-        Ok(moment) => {
-            let mark = answer(alloc, gate, reader, body, door, moment);
-            door.finish(mark, Some(moment));
-        }
-        Err(Failed) => {
-            put_refusal(door, Refusal::Clock);
-            door.finish(Mark::ClockFault, None);
-        }
-    }
+    let mut posted = PostedBody::with_buffer(emptied(std::mem::replace(body, Bytes::new(alloc))));
+    serve_one_with(alloc, gate, &mut (), reader, &mut posted, door, clock);
+    *body = posted.into_buffer(alloc);
 }

@@ -1,4 +1,5 @@
-//! What a gateway does with a posted body. The definitions are those of `specs/Bodies.antt`.
+//! What a gateway by itself does with a posted body. The definitions are those of `specs/Bodies.antt` and
+//! `specs/Holding.antt`.
 ghost use Rattle.std.specs.Prelude.{◌≡◌, ◌≤◌, ℕ, List, length, IfOk, OnErr};
 ghost use Rattle.gw_base.specs.declared.kind.Kind as kinds;
 ghost use Rattle.gateway_core.specs.Arrivals.{Arrival};
@@ -6,12 +7,15 @@ ghost use Rattle.gateway_core.specs.Bodies.{Takes};
 ghost use Rattle.gateway_core.specs.Standing.{Stands};
 ghost use Rattle.gateway_core.specs.Taking.{report_json};
 ghost use Rattle.gateway_server.specs.Bodies as spec;
+ghost use Rattle.gateway_server.specs.Holding.{unless_refused};
 ghost use Rattle.gateway_server.specs.Posted.{PostedStands, came};
 
+use crate::holds_gateway::HoldsGateway;
+use crate::not_taken::NotTaken;
 use crate::posted_body::{PostedBody, emptied};
 use feed_messages::FeedFault;
 use gateway_core::{Accepted, Body, BodyRefusal, Gateway};
-use gw_base::{Bytes, Moment};
+use gw_base::{Bytes, Kind, Moment};
 use http_talk::BodyFault;
 use std::alloc::Global;
 
@@ -42,8 +46,8 @@ pub fn fault_of(why: &BodyRefusal) -> Option<BodyFault>
     }
 }
 
-/// Hands what was posted and came whole to the gateway, and leaves the buffer.
-pub fn take_posted(
+// Hands what was posted and came whole to the gateway, and leaves the buffer.
+fn take_posted(
     alloc: Global,
     gate: &mut Gateway,
     posted: PostedBody,
@@ -75,5 +79,59 @@ pub fn take_posted(
             *buffer = emptied(bytes);
             gate.take(alloc, Body::Feed(feed), moment)
         }
+    }
+}
+
+// An answer to a body, which keeps none before it is taken.
+fn unless_refused(answer: Result<Accepted, BodyRefusal>) -> Result<Accepted, NotTaken>
+    ensures { result ≡ unless_refused answer }
+{
+    match answer {
+        Ok(accepted) => Ok(accepted),
+        Err(why) => Err(NotTaken::Refused(why)),
+    }
+}
+
+/// A gateway by itself: a delivery is held whole, a feed is read on the way, and no body is kept.
+impl HoldsGateway<()> for Gateway {
+    ghost use Rattle.std.specs.Prelude.{⊤};
+    ghost use Rattle.gateway_server.specs.Holding.{bare, keeps_none};
+
+    type Body = PostedBody;
+
+    ghost held = { bare };
+
+    ghost room = { keeps_none };
+
+    ghost is_ready = { λ _ _. ⊤ };
+
+    ghost faults = { λ _. 0 };
+
+    fn gateway(&self) -> &Gateway {
+        self
+    }
+
+    fn is_sound(&self) -> bool {
+        true
+    }
+
+    fn take(
+        &mut self,
+        alloc: Global,
+        _beside: &mut (),
+        posted: &mut PostedBody,
+        _kind: Kind,
+        moment: Moment,
+    ) -> Result<Accepted, NotTaken> {
+        let whole = std::mem::replace(posted, PostedBody::Nothing);
+        let mut buffer = Bytes::new(alloc);
+        let answer = take_posted(alloc, self, whole, moment, &mut buffer);
+        *posted = PostedBody::with_buffer(buffer);
+        unless_refused(answer)
+    }
+
+    fn let_go(alloc: Global, posted: &mut PostedBody) {
+        let buffer = std::mem::replace(posted, PostedBody::Nothing).into_buffer(alloc);
+        *posted = PostedBody::with_buffer(buffer);
     }
 }

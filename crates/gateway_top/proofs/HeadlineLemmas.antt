@@ -9,7 +9,7 @@ use Rattle.gateway_core.specs.Arrivals.{Arrival, Given, feed, journeys, situatio
 use Rattle.gateway_core.specs.Standing.{Kept}
 use Rattle.gateway_core.specs.declared.setting.Setting.{Setting}
 use Rattle.gateway_server.specs.Answers.{IsAnswered, body_refused, feed_shown, mark_of, refused, taken, text_shown}
-use Rattle.gateway_server.specs.Log.{IsFront, IsLawful, IsLawfulLog, answered, lost, no_clock, no_memory}
+use Rattle.gateway_server.specs.Log.{IsFront, IsLawful, IsLawfulLog, answered, full, lost, no_clock, no_memory, unkept}
 use Rattle.gateway_server.specs.Serving.{IsEnd, ServesAll, Tells}
 use Rattle.gw_base.specs.Answers.{UnlessFree}
 use Rattle.gateway_top.specs.Exits.{is_free, status_of}
@@ -55,7 +55,9 @@ entry_shows : (Cause : Type 0) (setting : Setting) (arrivals : List Arrival) (en
 entry_shows Cause setting arrivals entry (no_clock ends at front) shown = absurd cc
 entry_shows Cause setting arrivals entry (lost moment ends at output cause) shown = absurd cc
 entry_shows Cause setting arrivals entry (no_memory moment ends at posted front) shown = absurd cc
-entry_shows Cause setting arrivals entry (answered moment bytes at is front) shown = answer_shows Cause setting arrivals entry moment bytes at is front shown
+entry_shows Cause setting arrivals entry (unkept moment of body ends at asked would cause front) shown = absurd cause
+entry_shows Cause setting arrivals entry (full moment of body ends at asked would no_room front) shown = absurd cc
+entry_shows Cause setting arrivals entry (answered moment bytes at is fits front) shown = answer_shows Cause setting arrivals entry moment bytes at is front shown
 
 -- each entry of a lawful log is lawful after what arrived of the entries before it
 log_shows : (Cause : Type 0) (setting : Setting) (before now : List Arrival) (earlier : List Entry) (entry : Entry) (later : List Entry)

@@ -1,16 +1,11 @@
--- With a moment, and without.
+-- What is served over a gateway by itself.
 use Rattle.gw_base.specs.Changes.{change}
 use Rattle.gw_base.specs.Count.{Rose}
-use Rattle.gw_base.proofs.CountLemmas.{rose-before}
-use Rattle.gateway_server.proofs.EndLemmas.{serves_at}
+use Rattle.gateway_server.proofs.LoopLemmas.{bare_past, serves_bare, stands_bare}
 use Rattle.gateway_server.proofs.connection.serve_one.Goals as goal
 
-pub returns-in-Ok-clause-serves : goal.returns-in-Ok-clause-serves
-returns-in-Ok-clause-serves g c = λ told fresh arrivals stands.
-    serves_at (Rose (g.D.Sink.faults c.args.door.now) (g.D.Sink.faults c.answer-mark.new.door)) (Rose (g.D.Sink.faults c.args.door.now) (g.D.Sink.faults c.finish.new.self))
-    c.args.gate.now arrivals told (change g.C.Clock.told g.C.Clock.faults c.args.clock.now c.now.new.self)
-    (g.D.Sink.beside c.args.door.now) (g.D.Sink.beside c.answer-mark.new.door) (g.D.Sink.beside c.finish.new.self) c.answer-mark.ensures.reads.0
-    (g.D.Sink.told c.answer-mark.new.door) (g.D.Sink.told c.finish.new.self) c.in-Ok.moment c.answer-mark.result c.answer-mark.new.gate
-    (λ rose. rose-before (g.D.Sink.faults c.args.door.now) (g.D.Sink.faults c.answer-mark.new.door) (g.D.Sink.faults c.finish.new.self) rose c.finish.ensures.counts.never_falls)
-    fresh.tells c.answer-mark.ensures.reads.1 (c.answer-mark.ensures.answers told fresh arrivals stands) c.finish.ensures.logged c.finish.ensures.fresh
-    (c.in-Ok.ensures.given, c.in-Ok.ensures.calm)
+pub returns-clause-serves : goal.returns-clause-serves
+returns-clause-serves g c = λ told fresh arrivals stands.
+    serves_bare (Rose (g.D.Sink.faults c.args.door.now) (g.D.Sink.faults c.serve_one_with.new.door)) c.args.gate.now c.serve_one_with.new.host arrivals told
+    (change g.C.Clock.told g.C.Clock.faults c.args.clock.now c.serve_one_with.new.clock) (g.D.Sink.told c.serve_one_with.new.door) (g.D.Sink.beside c.serve_one_with.new.door)
+    (c.serve_one_with.ensures.serves told fresh (bare_past arrivals) (stands_bare c.args.gate.now arrivals stands))
