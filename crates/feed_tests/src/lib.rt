@@ -1,9 +1,10 @@
-//! The public calls of the crates that read and write GTFS Realtime and of those that turn it into SIRI and back, as
-//! their callers call them. It stands on `test_folder` and on the crates that it calls; it stands apart from those,
-//! since the tests of a crate are proved with its whole text. Its point is that each call answers a first good case
-//! with something, which its contract alone would let it refuse for want of memory.
+//! The public calls of the crates that read and write GTFS Realtime and of those that turn it into SIRI and back, each
+//! once on its happy path, as their callers call them. What they answer else is data: `feed_cases` has it. It stands
+//! apart from the crates that it calls, since the tests of a crate are proved with its whole text.
 #![tactic(auto)]
 
+#[cfg(test)]
+mod late;
 #[cfg(test)]
 mod of_alert_map;
 #[cfg(test)]

@@ -1,206 +1,113 @@
-//! The written bytes of worked examples, and what is read from bytes.
-mod pieces;
-mod reading;
-mod writing;
+//! A feed that is read whole, plainly and by pieces, and its entity that is written again.
+ghost use Rattle.std.specs.Prelude.{◌≡◌, ◌+◌, ◌<◌, ◌≤◌, length, IfOk};
 
-use feed_messages::*;
-use gw_base::{
-    Alert, Entity, Event, Moment, Period, Text, Translation, TripDescriptor, TripUpdate,
-};
-use std::alloc::Global;
+use crate::late::{late_bytes, late_feed};
+use feed_messages::{FeedReader, entity_bytes, plain_feed};
+use gw_base::{Bytes, Feed, List};
+use std::alloc::{AllocError, Global};
 use std::process::Abort;
 use std::test::Fail;
 
-#[test]
-fn a_header_is_written(rt: HostRuntime) -> Result<(), Fail> {
-    let moment = Moment::new(1_714_543_200).ok_or("a moment")?;
-    let at_six = b"\x0a\x0d\x0a\x032.0\x10\x00\x18\xe0\xb4\xc7\xb1\x06";
-    assert_eq!(rt; header_bytes(moment).as_slice(), at_six.as_slice());
-    let first = Moment::new(0).ok_or("a moment")?;
-    let at_zero = b"\x0a\x09\x0a\x032.0\x10\x00\x18\x00";
-    assert_eq!(rt; header_bytes(first).as_slice(), at_zero.as_slice());
-    let last = Moment::new(253_370_764_799).ok_or("a moment")?;
-    assert_eq!(rt; header_bytes(last).as_slice().len(), 16);
-    Ok(())
-}
+// The most bytes that a reader takes.
+const MOST: usize = 16_777_216;
 
-/// A header and the entity of a cancelled journey.
-static EXAMPLE: [u8; 56] =
-    *b"\x0a\x0d\x0a\x032.0\x10\x00\x18\xe0\xb4\xc7\xb1\x06\x12\x27\x0a\x0b20240501:T1\x1a\x18\x0a\x10\x0a\x02T1\x1a\
-        \x0820240501\x20\x03\x20\xe0\xb4\xc7\xb1\x06";
+// What a feed says: its timestamp and the bytes of its entities.
+type Said = (Option<u64>, Bytes);
 
-#[test]
-fn a_feed_is_read(rt: HostRuntime) -> Result<(), Fail> {
-    let feed = plain_feed(rt.alloc(), &EXAMPLE)?;
-    assert_eq!(rt; feed.version.as_str(), "2.0");
-    assert_eq!(rt; feed.incrementality, 0);
-    assert_eq!(rt; feed.timestamp, Some(1_714_543_200));
-    assert_eq!(rt; feed.entities.len(), 1);
+// What a feed says that is read.
+fn of_feed(alloc: Global, feed: &Feed) -> Option<Said> {
+    let mut entities = List::new(alloc);
     for entity in feed.entities.as_slice() {
-        is_cancelled(&rt, entity);
+        let bytes = entity_bytes(alloc, entity).ok()?;
+        entities.extend(bytes.as_slice()).ok()?;
     }
-    Ok(())
+    Some((feed.timestamp, entities))
 }
 
-/// The entity of the example.
-fn is_cancelled(rt: &impl Abort, entity: &Entity) {
-    assert_eq!(rt; entity.id.as_str(), "20240501:T1");
-    assert!(rt; !entity.deleted);
-    assert!(rt; entity.alert.is_none());
-    assert!(rt; entity.trip_update.is_some());
-    if let Some(update) = &entity.trip_update {
-        is_cancelled_trip(rt, &update.trip);
-        assert!(rt; update.updates.is_empty());
-        assert_eq!(rt; update.timestamp, Some(1_714_543_200));
-    }
-}
-
-/// The trip of the example.
-fn is_cancelled_trip(rt: &impl Abort, trip: &TripDescriptor) {
-    assert_eq!(rt; text_of(&trip.trip_id), Some("T1"));
-    assert_eq!(rt; text_of(&trip.start_date), Some("20240501"));
-    assert_eq!(rt; text_of(&trip.route_id), None);
-    assert_eq!(rt; trip.relation, 3);
-}
-
-/// A text that may be missing.
-fn text_of(text: &Option<Text>) -> Option<&str> {
-    match text {
-        Some(text) => Some(text.as_str()),
-        None => None,
-    }
-}
-
-/// The bytes are a feed of version 2.0 without entities, with these fields of the header.
-fn is_header(
-    rt: &impl Abort,
+// Takes all of a piece, and adds the bytes of the entities that end in it.
+fn take_piece(
     alloc: Global,
-    bytes: &[u8],
-    incrementality: i32,
-    timestamp: Option<u64>,
-) {
-    let feed = plain_feed(alloc, bytes).ok();
-    assert!(rt; feed.is_some(), "{bytes:?}");
-    if let Some(feed) = feed {
-        assert_eq!(rt; feed.version.as_str(), "2.0", "{bytes:?}");
-        assert_eq!(rt; feed.incrementality, incrementality, "{bytes:?}");
-        assert_eq!(rt; feed.timestamp, timestamp, "{bytes:?}");
-        assert!(rt; feed.entities.is_empty(), "{bytes:?}");
-    }
-}
-
-#[test]
-fn headers_are_read(rt: HostRuntime) {
-    let cases: [(&[u8], i32, Option<u64>); 7] = [
-        // the header alone
-        (&EXAMPLE[..15], 0, Some(1_714_543_200)),
-        // of two versions the last
-        (b"\x0a\x08\x0a\x011\x0a\x032.0", 0, None),
-        // two bodies are one header
-        (b"\x0a\x05\x0a\x032.0\x0a\x02\x18\x05", 0, Some(5)),
-        (b"\x0a\x02\x18\x05\x0a\x05\x0a\x032.0", 0, Some(5)),
-        // an unknown field is skipped, and one of another wire type
-        (b"\x08\x07\x98\x06\x01\x0a\x07\x0a\x032.0\x1a\x00", 0, None),
-        // numbers of enums that aren't defined
-        (b"\x0a\x07\x0a\x032.0\x10\x07", 7, None),
-        (
-            b"\x0a\x10\x0a\x032.0\x10\xff\xff\xff\xff\xff\xff\xff\xff\xff\x01",
-            -1,
-            None,
-        ),
-    ];
-    for (bytes, incrementality, timestamp) in cases {
-        is_header(&rt, rt.alloc(), bytes, incrementality, timestamp);
-    }
-}
-
-/// How many entities the feed has.
-fn count(alloc: Global, bytes: &[u8]) -> Result<usize, PlainFault> {
-    Ok(plain_feed(alloc, bytes)?.entities.len())
-}
-
-#[test]
-fn other_bytes_are_no_feed(rt: HostRuntime) {
-    let cases: [&[u8]; 8] = [
-        // no header, and one without a version
-        b"",
-        b"\x0a\x00",
-        // a version that isn't UTF-8, and one that is replaced by another
-        b"\x0a\x05\x0a\x032.\xff",
-        b"\x0a\x08\x0a\x01\xff\x0a\x032.0",
-        // an entity without an id, and a trip update without a trip
-        b"\x0a\x05\x0a\x032.0\x12\x00",
-        b"\x0a\x05\x0a\x032.0\x12\x05\x0a\x01a\x1a\x00",
-        // a broken field, and two bodies that are fields only where they are joined
-        b"\x0a\x05\x0a\x032.",
-        b"\x0a\x01\x0a\x0a\x01\x00",
-    ];
-    for bytes in cases {
-        assert_eq!(rt;
-            count(rt.alloc(), bytes),
-            Err(PlainFault::Meaningless),
-            "{bytes:?}"
-        );
-    }
-}
-
-/// An entity with a stop at which the trip is 60 seconds early, and one with an alert.
-static TWO_ENTITIES: [u8; 58] =
-    *b"\x0a\x05\x0a\x032.0\x12\x1a\x0a\x01a\x1a\x15\x0a\x00\x12\x11\x08\x05\x12\x0b\x08\xc4\xff\xff\xff\xff\xff\xff\
-        \xff\xff\x01\x28\x09\x12\x15\x0a\x01b\x10\x01\x2a\x0e\x0a\x02\x08\x09\x52\x08\x0a\x06\x0a\x04late";
-
-#[test]
-fn stops_and_alerts_are_read(rt: HostRuntime) -> Result<(), Fail> {
-    let feed = plain_feed(rt.alloc(), &TWO_ENTITIES)?;
-    assert_eq!(rt; feed.entities.len(), 2);
-    for entity in feed.entities.as_slice() {
-        if let Some(update) = &entity.trip_update {
-            is_early(&rt, entity, update);
-        }
-        if let Some(alert) = &entity.alert {
-            is_late(&rt, entity, alert.get());
+    reader: &mut FeedReader,
+    piece: &[u8],
+    entities: &mut Bytes,
+) -> Result<(), AllocError>
+    requires few { reader.old.taken + length piece.now ≤ 16777216 }
+    ensures taken { IfOk result (λ _. reader.new.taken ≡ reader.old.taken + length piece.now) }
+{
+    let mut rest = piece;
+    while !rest.is_empty() {
+        let (used, given) = reader.feed(rest)?;
+        let (_, after) = rest.split_at(used);
+        rest = after;
+        if let Some((_, entity)) = given {
+            entities.extend(entity_bytes(alloc, &entity)?.as_slice())?;
         }
     }
     Ok(())
 }
 
-/// The first entity.
-fn is_early(rt: &impl Abort, entity: &Entity, update: &TripUpdate) {
-    assert_eq!(rt; entity.id.as_str(), "a");
-    assert!(rt; !entity.deleted);
-    assert_eq!(rt; update.updates.len(), 1);
-    for stop in update.updates.as_slice() {
-        let early = Event {
-            delay: Some(-60),
-            time: None,
-        };
-        assert_eq!(rt; stop.sequence, Some(5));
-        assert_eq!(rt; stop.arrival, Some(early));
-        assert_eq!(rt; stop.departure, None);
-        assert_eq!(rt; stop.relation, 9);
+// What the bytes say by two pieces.
+fn by_two(alloc: Global, bytes: &[u8], cut: usize) -> Option<Said> {
+    if bytes.len() > MOST || cut > bytes.len() {
+        return None;
+    }
+    let (first, second) = bytes.split_at(cut);
+    let mut reader = FeedReader::make(alloc);
+    let mut entities = List::new(alloc);
+    take_piece(alloc, &mut reader, first, &mut entities).ok()?;
+    take_piece(alloc, &mut reader, second, &mut entities).ok()?;
+    let head = reader.finish().ok()?;
+    Some((head.timestamp, entities))
+}
+
+// That is said by the late feed.
+fn is_late(rt: &impl Abort, said: Option<Said>) {
+    let (timestamp, entities) = said.expect(rt, "a feed");
+    let (_, entity) = late_bytes().split_at(15);
+    assert_eq!(rt; timestamp, Some(1_714_543_200));
+    assert_eq!(rt; entities.as_slice(), entity);
+}
+
+#[test]
+fn a_feed_is_read_and_written(rt: HostRuntime) {
+    let alloc = rt.alloc();
+    let feed = late_feed(alloc).expect(&rt, "a feed");
+    is_late(&rt, of_feed(alloc, &feed));
+    let plain = plain_feed(alloc, late_bytes()).ok().expect(&rt, "a feed");
+    is_late(&rt, of_feed(alloc, &plain));
+}
+
+#[test]
+fn a_feed_cut_anywhere_is_read(rt: HostRuntime) {
+    let bytes = late_bytes();
+    for cut in 0..=bytes.len() {
+        is_late(&rt, by_two(rt.alloc(), bytes, cut));
     }
 }
 
-/// The second entity.
-fn is_late(rt: &impl Abort, entity: &Entity, alert: &Alert) {
-    assert_eq!(rt; entity.id.as_str(), "b");
-    assert!(rt; entity.deleted);
-    assert_eq!(rt; (alert.cause, alert.effect), (1, 8));
-    let period = Period {
-        start: Some(9),
-        end: None,
-    };
-    assert_eq!(rt; alert.periods.as_slice(), [period].as_slice());
-    assert!(rt; alert.selectors.is_empty());
-    assert!(rt; alert.description.is_empty());
-    is_late_text(rt, alert.header.as_slice());
+// How many bytes are held after so many of the bytes.
+fn held_after(alloc: Global, bytes: &[u8], count: usize) -> Option<u64> {
+    if bytes.len() > MOST || count > bytes.len() {
+        return None;
+    }
+    let (front, _) = bytes.split_at(count);
+    let mut reader = FeedReader::make(alloc);
+    let mut entities = List::new(alloc);
+    take_piece(alloc, &mut reader, front, &mut entities).ok()?;
+    Some(reader.held())
 }
 
-/// The one text of that alert.
-fn is_late_text(rt: &impl Abort, header: &[Translation]) {
-    assert_eq!(rt; header.len(), 1);
-    for text in header {
-        assert_eq!(rt; text.text.as_str(), "late");
-        assert_eq!(rt; text_of(&text.language), None);
+#[test]
+fn only_bodies_are_held(rt: HostRuntime) -> Result<(), Fail> {
+    let (_, entity) = late_bytes().split_at(15);
+    let mut bytes = List::new(rt.alloc());
+    bytes.extend(b"\x9a\x06\xe8\x07")?;
+    bytes.extend(&[0; 1_000])?;
+    bytes.extend(entity)?;
+    let bytes = bytes.as_slice();
+    // in a field of 1,000 bytes that isn't known, after it, in an entity, and after that
+    for (count, held) in [(500, 0), (1_004, 0), (1_026, 20), (1_069, 0)] {
+        assert_eq!(rt; held_after(rt.alloc(), bytes, count), Some(held));
     }
+    Ok(())
 }

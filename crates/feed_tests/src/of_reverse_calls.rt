@@ -1,11 +1,10 @@
 //! A feed of one trip that is a minute late, over the sample folder: its delivery and its report.
-use gw_base::{
-    Bytes, Entity, Event, Feed, List, Moment, StopUpdate, Text, TripDescriptor, TripUpdate,
-};
+use crate::late::late_feed;
+use gw_base::{Bytes, Moment};
 use journey_model::Context;
 use propagation::readings_of;
 use reverse_calls::{siri_of, siri_of_readings};
-use std::alloc::{AllocError, Global};
+use std::alloc::Global;
 use test_folder::{paris, sample, window};
 
 // The delivery, made by hand from SIRI's members.
@@ -26,68 +25,13 @@ const DELIVERY: &[u8] =
       \"ResponseTimestamp\":\"2024-05-01T06:00:00Z\",\"version\":\"2.0\"}],\
       \"ResponseTimestamp\":\"2024-05-01T06:00:00Z\"}}}";
 
-// The second of the feed, 2024-05-01T06:00:00Z.
-const AT: u64 = 1_714_543_200;
-
-const LATE: Event = Event {
-    delay: Some(60),
-    time: None,
-};
-
-// The trip on its day.
-fn trip(alloc: Global) -> Result<TripDescriptor, AllocError> {
-    Ok(TripDescriptor {
-        trip_id: Some(Text::copied(alloc, "T1")?),
-        start_date: Some(Text::copied(alloc, "20240501")?),
-        relation: 0,
-        route_id: None,
-    })
-}
-
-// The update of its first stop.
-fn updates(alloc: Global) -> Result<List<StopUpdate>, AllocError> {
-    let mut updates = List::new(alloc);
-    updates.push(StopUpdate {
-        sequence: Some(10),
-        arrival: Some(LATE),
-        departure: Some(LATE),
-        stop_id: None,
-        relation: 0,
-        assigned: None,
-    })?;
-    Ok(updates)
-}
-
-// The entity of the trip.
-fn entities(alloc: Global) -> Result<List<Entity>, AllocError> {
-    let mut entities = List::new(alloc);
-    entities.push(Entity {
-        id: Text::copied(alloc, "1")?,
-        deleted: false,
-        trip_update: Some(TripUpdate {
-            trip: trip(alloc)?,
-            updates: updates(alloc)?,
-            timestamp: Some(AT),
-        }),
-        alert: None,
-    })?;
-    Ok(entities)
-}
-
-// The feed of that entity.
-fn feed(alloc: Global) -> Result<Feed, AllocError> {
-    Ok(Feed {
-        version: Text::copied(alloc, "2.0")?,
-        incrementality: 0,
-        timestamp: None,
-        entities: entities(alloc)?,
-    })
-}
+// The second of the delivery, 2024-05-01T06:00:00Z.
+const AT: i64 = 1_714_543_200;
 
 // The delivery of the feed, and how many journeys are taken.
 fn delivered(alloc: Global, context: &Context<'_>) -> Option<(Bytes, u64)> {
-    let feed = feed(alloc).ok()?;
-    let at = Moment::new(AT as i64)?;
+    let feed = late_feed(alloc)?;
+    let at = Moment::new(AT)?;
     match siri_of(alloc, &feed, context, at) {
         Ok((text, report)) => Some((text, report.taken)),
         Err(_) => None,
@@ -96,8 +40,8 @@ fn delivered(alloc: Global, context: &Context<'_>) -> Option<(Bytes, u64)> {
 
 // The delivery of the feed's readings.
 fn delivered_of_readings(alloc: Global, context: &Context<'_>) -> Option<Bytes> {
-    let feed = feed(alloc).ok()?;
-    let at = Moment::new(AT as i64)?;
+    let feed = late_feed(alloc)?;
+    let at = Moment::new(AT)?;
     match readings_of(alloc, &feed, context) {
         Ok(reading) => siri_of_readings(alloc, context, &reading, at).ok(),
         Err(_) => None,

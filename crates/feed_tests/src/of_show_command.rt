@@ -1,15 +1,16 @@
-//! The vectors: feeds in bytes, each with what `show` prints of it over the sample folder.
-mod vectors;
-
-use feed_messages::read_feed;
+//! What `show` prints of the late feed over the sample folder.
+use crate::late::late_feed;
 use gw_base::{Bytes, Feed};
 use journey_model::Context;
 use propagation::readings_of;
 use show_command::show_lines;
 use std::alloc::{AllocError, Global};
-use std::process::Abort;
 use test_folder::{paris, sample, window};
-use vectors::VECTORS;
+
+const LINES: &str = "2024-05-01 T1 1 A 2024-05-01T06:01:00Z 2024-05-01T06:01:00Z\n\
+    2024-05-01 T1 2 B 2024-05-01T06:11:00Z 2024-05-01T06:12:00Z\n\
+    2024-05-01 T1 3 C 2024-05-01T06:21:00Z 2024-05-01T06:21:00Z\n\
+    taken 1 passed 0 aside 0\n";
 
 // What is shown of a feed.
 fn lines_of(alloc: Global, context: &Context<'_>, feed: &Feed) -> Result<Bytes, AllocError> {
@@ -17,22 +18,8 @@ fn lines_of(alloc: Global, context: &Context<'_>, feed: &Feed) -> Result<Bytes, 
     show_lines(alloc, context, &reading)
 }
 
-// These lines are shown of a feed.
-fn assert_shown(rt: &impl Abort, alloc: Global, context: &Context<'_>, bytes: &[u8], wanted: &str) {
-    let feed = read_feed(alloc, bytes).expect(rt, "a feed");
-    let lines = lines_of(alloc, context, &feed).expect(rt, "memory");
-    assert_eq!(rt; lines.as_slice(), wanted.as_bytes());
-}
-
-// Each feed is shown so.
-fn assert_each(rt: &impl Abort, alloc: Global, context: &Context<'_>, cases: &[(&[u8], &str)]) {
-    for (bytes, wanted) in cases {
-        assert_shown(rt, alloc, context, bytes, wanted);
-    }
-}
-
 #[test]
-fn vectors_are_shown(rt: HostRuntime) {
+fn a_late_trip_is_shown(rt: HostRuntime) {
     let alloc = rt.alloc();
     let zone = paris().expect(&rt, "a zone");
     let context = Context {
@@ -40,5 +27,7 @@ fn vectors_are_shown(rt: HostRuntime) {
         zone: &zone,
         window: &window(&zone, 2).expect(&rt, "a window"),
     };
-    assert_each(&rt, alloc, &context, &VECTORS);
+    let feed = late_feed(alloc).expect(&rt, "a feed");
+    let lines = lines_of(alloc, &context, &feed).expect(&rt, "memory");
+    assert_eq!(rt; lines.as_slice(), LINES.as_bytes());
 }

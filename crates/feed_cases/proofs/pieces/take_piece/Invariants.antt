@@ -1,6 +1,6 @@
 -- What was taken, with what is left, is the piece.
 use Rattle.std.proofs.Common.{◌≡◌, ◌+◌, length}
-use Rattle.feed_tests.proofs.of_feed_messages.pieces.take_piece.Given as goal
+use Rattle.feed_cases.proofs.pieces.take_piece.Given as goal
 
 abbrev pub invariant-loop-rest : goal.invariant-loop-rest
 invariant-loop-rest l = l.reader.taken + length l.rest ≡ l.initial.reader.taken + length l.piece

@@ -1,7 +1,7 @@
--- What was taken, with what is left, is all bytes.
 use Rattle.std.proofs.Common.{◌≡◌, ◌+◌, length}
-use Rattle.feed_tests.proofs.of_feed_messages.pieces.by_pieces.Given as goal
+use Rattle.feed_cases.proofs.wire.count_in_pieces.Given as goal
 
+-- what was taken and what is left are all bytes
 abbrev pub invariant-loop-rest : goal.invariant-loop-rest
 invariant-loop-rest l = l.reader.taken + length l.rest ≡ length l.bytes
 
