@@ -4,8 +4,8 @@ ghost use Rattle.delivery_journal.specs.Standing.{StandsOn};
 
 mod crashes;
 mod damage;
-pub mod files;
 mod far_end;
+pub mod files;
 mod memory_disk;
 
 use delivery_journal::*;

@@ -56,7 +56,11 @@ fn a_journal_lies_in_a_file(rt: HostRuntime) -> Result<(), Fail> {
 fn what_is_no_file_is_a_disk_that_fails(rt: HostRuntime) -> Result<(), Fail> {
     for path in [".", "/dev/null", MISSING, ""] {
         let mut disk = FileDisk::new(&rt, path);
-        assert_eq!(rt; opened(rt.alloc(), &mut disk, &[]), Err(OpenFault::Disk), "{path}");
+        assert_eq!(rt;
+            opened(rt.alloc(), &mut disk, &[]),
+            Err(OpenFault::Disk),
+            "{path}"
+        );
     }
     Ok(())
 }

@@ -19,7 +19,10 @@ fn try_image(rt: &impl Abort, alloc: Global, image: &[u8], kept: usize) {
     let (with, _) = rows.split_at(kept.saturating_add(1).min(2));
     let without = opened(alloc, &mut disk_of(rt, alloc, image, &[]), before);
     let with = opened(alloc, &mut disk_of(rt, alloc, image, &[]), with);
-    assert!(rt; matches!(without, Ok(Some(_))) || matches!(with, Ok(Some(_))), "{image:?}");
+    assert!(rt;
+        matches!(without, Ok(Some(_))) || matches!(with, Ok(Some(_))),
+        "{image:?}"
+    );
 }
 
 fn try_images(rt: &impl Abort, alloc: Global, disk: &MemoryDisk, fill: u8, kept: usize) {
@@ -35,7 +38,16 @@ fn try_stop(rt: &impl Abort, alloc: Global, call: u64) {
     let kept = keep_all(&mut disk, &ROWS);
     assert_eq!(rt; disk.calls().len() as u64, call.min(CALLS), "{call}");
     let kept = kept.unwrap_or(0);
-    assert_eq!(rt; kept, if call <= 10 { 0 } else if call <= CALLS { 1 } else { 2 });
+    assert_eq!(rt;
+        kept,
+        if call <= 10 {
+            0
+        } else if call <= CALLS {
+            1
+        } else {
+            2
+        }
+    );
     for fill in [0, 2, 255] {
         try_images(rt, alloc, &disk, fill, kept);
     }

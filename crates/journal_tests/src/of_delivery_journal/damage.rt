@@ -25,7 +25,7 @@ const THREE: &[u8] = b"GWJRNL01\
 // A place, the bytes that are put there, how many of the three bodies are left, and what opening the file answers.
 type Change = (usize, &'static [u8], usize, Result<u64, OpenFault>);
 
-static CHANGES: [Change; 38] = [
+const CHANGES: &[Change] = &[
     (0, b"G", 3, Ok(66)),
     (0, b"g", 0, Err(OpenFault::NotJournal)),
     (7, b"2", 0, Err(OpenFault::NotJournal)),
@@ -41,12 +41,42 @@ static CHANGES: [Change; 38] = [
     (28, b"\x04", 0, Err(OpenFault::Damaged(27))),
     (48, b"\xff", 0, Err(OpenFault::Damaged(47))),
     // A moment is at most the last second of 9998.
-    (10, b"\x00\x00\x00\x3a\xfe\x13\x0e\x00", 0, Err(OpenFault::Damaged(8))),
-    (29, b"\x00\x00\x00\x3a\xfe\x13\x0e\x00", 0, Err(OpenFault::Damaged(27))),
-    (49, b"\x00\x00\x00\x3a\xfe\x13\x0e\x00", 0, Err(OpenFault::Damaged(47))),
-    (10, b"\x80\x00\x00\x00\x00\x00\x00\x00", 0, Err(OpenFault::Damaged(8))),
-    (29, b"\xff\xff\xff\xff\xff\xff\xff\xff", 0, Err(OpenFault::Damaged(27))),
-    (49, b"\x7f\xff\xff\xff\xff\xff\xff\xff", 0, Err(OpenFault::Damaged(47))),
+    (
+        10,
+        b"\x00\x00\x00\x3a\xfe\x13\x0e\x00",
+        0,
+        Err(OpenFault::Damaged(8)),
+    ),
+    (
+        29,
+        b"\x00\x00\x00\x3a\xfe\x13\x0e\x00",
+        0,
+        Err(OpenFault::Damaged(27)),
+    ),
+    (
+        49,
+        b"\x00\x00\x00\x3a\xfe\x13\x0e\x00",
+        0,
+        Err(OpenFault::Damaged(47)),
+    ),
+    (
+        10,
+        b"\x80\x00\x00\x00\x00\x00\x00\x00",
+        0,
+        Err(OpenFault::Damaged(8)),
+    ),
+    (
+        29,
+        b"\xff\xff\xff\xff\xff\xff\xff\xff",
+        0,
+        Err(OpenFault::Damaged(27)),
+    ),
+    (
+        49,
+        b"\x7f\xff\xff\xff\xff\xff\xff\xff",
+        0,
+        Err(OpenFault::Damaged(47)),
+    ),
     // A body ends inside the file.
     (18, b"\x00\x00\x00\x2e", 0, Err(OpenFault::Damaged(8))),
     (37, b"\x00\x00\x00\x1b", 0, Err(OpenFault::Damaged(27))),
@@ -66,13 +96,37 @@ static CHANGES: [Change; 38] = [
     // Behind the closed gate anything stands.
     (67, b"garbage", 3, Ok(66)),
     (67, b"\x01\x01\x00", 3, Ok(66)),
-    (67, b"\x00\x00\x00\x00\x00\x00\x00\x00\x00\x00\x00\x00\x00\x00\x00\x00", 3, Ok(66)),
+    (
+        67,
+        b"\x00\x00\x00\x00\x00\x00\x00\x00\x00\x00\x00\x00\x00\x00\x00\x00",
+        3,
+        Ok(66),
+    ),
     (66, b"\x00\x01", 3, Ok(66)),
     // An open gate at the end begins a record.
-    (66, b"\x02\x01\x00\x00\x00\x00\x00\x00\x00\x00\x00\x00\x00\x00", 0, Err(OpenFault::Damaged(80))),
-    (66, b"\x02\x01\x00\x00\x00\x00\x00\x00\x00\x00\x00\x00\x00\x01\x00", 0, Err(OpenFault::Damaged(81))),
-    (66, b"\x02\x01\x00\x00\x00\x00\x00\x00\x00\x00\x00\x00\x00\x01", 0, Err(OpenFault::Damaged(66))),
+    (
+        66,
+        b"\x02\x01\x00\x00\x00\x00\x00\x00\x00\x00\x00\x00\x00\x00",
+        0,
+        Err(OpenFault::Damaged(80)),
+    ),
+    (
+        66,
+        b"\x02\x01\x00\x00\x00\x00\x00\x00\x00\x00\x00\x00\x00\x01\x00",
+        0,
+        Err(OpenFault::Damaged(81)),
+    ),
+    (
+        66,
+        b"\x02\x01\x00\x00\x00\x00\x00\x00\x00\x00\x00\x00\x00\x01",
+        0,
+        Err(OpenFault::Damaged(66)),
+    ),
 ];
+
+fn changes() -> &'static [Change] {
+    CHANGES
+}
 
 // The file with the bytes at their place, over what stands there and past its end.
 fn changed(alloc: Global, file: &[u8], at: usize, bytes: &[u8]) -> Result<Bytes, AllocError> {
@@ -110,7 +164,20 @@ fn each_change(rt: &impl Abort, alloc: Global, changes: &[Change]) {
 
 #[test]
 fn damage_is_told_at_its_gate(rt: HostRuntime) {
-    each_change(&rt, rt.alloc(), &CHANGES);
+    each_change(&rt, rt.alloc(), changes());
+}
+
+fn try_gate(rt: &impl Abort, alloc: Global, gate: u8) {
+    let file = changed(alloc, THREE, 27, &[gate]).expect(rt, "memory");
+    let answer = answer(rt, alloc, file.as_slice(), &ROWS);
+    assert_eq!(rt; answer, Ok(Some(66)), "{gate}");
+}
+
+#[test]
+fn each_gate_but_0_is_open(rt: HostRuntime) {
+    for gate in 1..=255 {
+        try_gate(&rt, rt.alloc(), gate);
+    }
 }
 
 // Where a file of that length is damaged: at the first gate that isn't in it, or whose record isn't.

@@ -12,7 +12,8 @@ pub const BODY: &[u8] = br#"{"ServiceDelivery":{"EstimatedTimetableDelivery":[]}
 pub const NEW: &[u8] = b"\x47\x57\x4a\x52\x4e\x4c\x30\x31\x00";
 
 /// The file of a journal that holds that body as a delivery of estimated timetables at 1714543200.
-pub const AFTER_ONE: &[u8] = b"\x47\x57\x4a\x52\x4e\x4c\x30\x31\x01\x01\x00\x00\x00\x00\x66\x31\xda\x60\x00\x00\x00\x35\
+pub const AFTER_ONE: &[u8] =
+    b"\x47\x57\x4a\x52\x4e\x4c\x30\x31\x01\x01\x00\x00\x00\x00\x66\x31\xda\x60\x00\x00\x00\x35\
     {\"ServiceDelivery\":{\"EstimatedTimetableDelivery\":[]}}\x00";
 
 /// A disk with this file, of which the calls with these numbers fail.

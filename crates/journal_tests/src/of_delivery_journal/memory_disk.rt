@@ -41,7 +41,11 @@ fn an_append_makes_four_calls_and_two(rt: HostRuntime) {
 // Writes `abcd` behind the three bytes of a file, of which `fails` fail.
 fn write_once(rt: &impl Abort, alloc: Global, fails: &[u64]) -> MemoryDisk {
     let mut disk = disk_of(rt, alloc, b"012", fails);
-    let wanted = if fails.is_empty() { Ok(()) } else { Err(Failed) };
+    let wanted = if fails.is_empty() {
+        Ok(())
+    } else {
+        Err(Failed)
+    };
     assert_eq!(rt; put(&mut disk, 3, b"abcd"), wanted);
     disk
 }

@@ -1,6 +1,5 @@
 -- Any image may be left before and after a write.
 use Rattle.std.proofs.Common.{refl, arith}
-use Rattle.delivery_journal.specs.Disk.{Torn}
 use Rattle.journal_tests.proofs.of_delivery_journal.far_end.LargeDisk.write_at.Goals as goal
 
 pub returns-clause-images : goal.returns-clause-images
