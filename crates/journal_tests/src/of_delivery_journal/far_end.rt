@@ -1,5 +1,5 @@
 //! A journal of nearly 1 TiB, on a disk that makes up its bytes and doesn't tell them.
-ghost use Rattle.std.specs.Prelude.{None, ⊤};
+ghost use Rattle.std.specs.Prelude.{◌≤◌, None, ⊤};
 
 use delivery_journal::*;
 use gw_base::{BODY_LIMIT, Failed, Kind, Moment};
@@ -14,7 +14,9 @@ struct Large {
 }
 
 // How many bytes the body behind the gate at `at` has, so that a gate comes to stand at `end`.
-fn body_at(at: u64, end: u64) -> u64 {
+fn body_at(at: u64, end: u64) -> u64
+    ensures { result ≤ 16777216 }
+{
     let left = end.saturating_sub(at).saturating_sub(14);
     if left <= BODY_LIMIT {
         left
