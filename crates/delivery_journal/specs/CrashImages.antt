@@ -43,7 +43,8 @@ torn_by way fill done file =
 -- the file with these writes torn, by the digits of a number to the base 5, the lowest of which is the first write's
 abbrev pub crash_image : ℕ → ℕ → List Done → List ℕ → List ℕ
 crash_image number fill [] file = file
-crash_image number fill (done ∷ writes) file = crash_image (number / 5) fill writes (torn_by (number % 5) fill done file)
+crash_image number fill (done ∷ writes) file =
+    crash_image (number / 5) fill writes (torn_by (number % 5) fill done file)
 
 -- how many numbers there are before they repeat, as far as a u64 goes
 abbrev pub image_count : List Done → ℕ

@@ -28,8 +28,8 @@ new_file = magic ++ 0 ∷ []
 abbrev pub opened_file : List ℕ → List ℕ
 opened_file file = if nat_le (length file) 9 then new_file else file
 
--- the file after a body was appended at the closed gate's place: what stood before that, an open gate, the body's header,
--- the body, and a closed gate; what stood behind these stays
+-- the file after a body was appended at the closed gate's place: what stood before that, an open gate, the body's
+-- header, the body, and a closed gate; what stood behind these stays
 abbrev pub appended_file : ℕ → KeptBody → List ℕ → List ℕ
 appended_file end new file =
     with_bytes_at file end (1 ∷ (header_bytes new.kind new.moment (length new.body) ++ new.body ++ 0 ∷ []))

@@ -6,7 +6,7 @@ use crate::opening::open;
 use delivery_journal::Disk;
 use gw_base::Failed;
 use std::fs::File;
-use std::io;
+use std::io::{self, ErrorKind};
 use std::marker::Model;
 use std::os::unix::fs::FileExt;
 use std::rt::Files;
@@ -43,41 +43,50 @@ impl<'a, R: Files<File = File>> FileDisk<'a, R> {
         }
     }
 
-    // The open file.
-    fn opened(&mut self) -> io::Result<&File>
+    // Opens the file, if it isn't open.
+    fn open(&mut self) -> io::Result<()>
         ensures same { self.new ≡ self.old }
     {
         if self.file.is_none() {
             self.file = Some(open(self.rt, self.path)?);
         }
+        Ok(())
+    }
+
+    // The open file.
+    fn file(&self) -> io::Result<&File> {
         match &self.file {
             Some(file) => Ok(file),
-            None => Err(io::Error::from(io::ErrorKind::NotFound)),
+            None => Err(io::Error::from(ErrorKind::NotFound)),
         }
     }
 
     fn len_of_file(&mut self) -> io::Result<u64>
         ensures same { self.new ≡ self.old }
     {
-        Ok(self.opened()?.metadata()?.len())
+        self.open()?;
+        Ok(self.file()?.metadata()?.len())
     }
 
     fn read_file(&mut self, at: u64, into: &mut [u8]) -> io::Result<()>
         ensures same { self.new ≡ self.old }
     {
-        self.opened()?.read_exact_at(into, at)
+        self.open()?;
+        self.file()?.read_exact_at(into, at)
     }
 
     fn write_file(&mut self, at: u64, bytes: &[u8]) -> io::Result<()>
         ensures same { self.new ≡ self.old }
     {
-        self.opened()?.write_all_at(bytes, at)
+        self.open()?;
+        self.file()?.write_all_at(bytes, at)
     }
 
     fn sync_file(&mut self) -> io::Result<()>
         ensures same { self.new ≡ self.old }
     {
-        self.opened()?.sync_all()
+        self.open()?;
+        self.file()?.sync_all()
     }
 }
 

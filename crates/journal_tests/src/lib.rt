@@ -1,6 +1,6 @@
-//! The public calls of delivery_journal and file_disk, as their callers call them: journals on disks in memory that are whole, short,
-//! damaged, full, or stopped at any call, and on a real file. Its point is that each call answers a
-//! first good case with something, and that each image of a crash opens again.
+//! The public calls of delivery_journal and file_disk, as their callers call them: journals on disks in memory that are
+//! whole, short, damaged, full, or stopped at any call, and on a real file. Its point is that each call answers a first
+//! good case with something, and that each image of a crash opens again.
 #![tactic(auto)]
 
 #[cfg(test)]

@@ -25,7 +25,7 @@ const THREE: &[u8] = b"GWJRNL01\
 // A place, the bytes that are put there, how many of the three bodies are left, and what opening the file answers.
 type Change = (usize, &'static [u8], usize, Result<u64, OpenFault>);
 
-static CHANGES: [Change; 38] = [
+const CHANGES: &[Change] = &[
     (0, b"G", 3, Ok(66)),
     (0, b"g", 0, Err(OpenFault::NotJournal)),
     (7, b"2", 0, Err(OpenFault::NotJournal)),
@@ -124,6 +124,10 @@ static CHANGES: [Change; 38] = [
     ),
 ];
 
+fn changes() -> &'static [Change] {
+    CHANGES
+}
+
 // The file with the bytes at their place, over what stands there and past its end.
 fn changed(alloc: Global, file: &[u8], at: usize, bytes: &[u8]) -> Result<Bytes, AllocError> {
     let (front, behind) = file.split_at(at.min(file.len()));
@@ -160,7 +164,20 @@ fn each_change(rt: &impl Abort, alloc: Global, changes: &[Change]) {
 
 #[test]
 fn damage_is_told_at_its_gate(rt: HostRuntime) {
-    each_change(&rt, rt.alloc(), &CHANGES);
+    each_change(&rt, rt.alloc(), changes());
+}
+
+fn try_gate(rt: &impl Abort, alloc: Global, gate: u8) {
+    let file = changed(alloc, THREE, 27, &[gate]).expect(rt, "memory");
+    let answer = answer(rt, alloc, file.as_slice(), &ROWS);
+    assert_eq!(rt; answer, Ok(Some(66)), "{gate}");
+}
+
+#[test]
+fn each_gate_but_0_is_open(rt: HostRuntime) {
+    for gate in 1..=255 {
+        try_gate(&rt, rt.alloc(), gate);
+    }
 }
 
 // Where a file of that length is damaged: at the first gate that isn't in it, or whose record isn't.

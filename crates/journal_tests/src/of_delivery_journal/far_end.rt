@@ -1,5 +1,5 @@
 //! A journal of nearly 1 TiB, on a disk that makes up its bytes and doesn't tell them.
-ghost use Rattle.std.specs.Prelude.{◌≡◌, None, ⊤};
+ghost use Rattle.std.specs.Prelude.{◌≤◌, None, ⊤};
 
 use delivery_journal::*;
 use gw_base::{BODY_LIMIT, Failed, Kind, Moment};
@@ -14,7 +14,9 @@ struct Large {
 }
 
 // How many bytes the body behind the gate at `at` has, so that a gate comes to stand at `end`.
-fn body_at(at: u64, end: u64) -> u64 {
+fn body_at(at: u64, end: u64) -> u64
+    ensures { result ≤ 16777216 }
+{
     let left = end.saturating_sub(at).saturating_sub(14);
     if left <= BODY_LIMIT {
         left
@@ -25,17 +27,18 @@ fn body_at(at: u64, end: u64) -> u64 {
     }
 }
 
+// The header behind the gate at `at`.
+fn header_at(at: u64, end: u64) -> [u8; 13] {
+    let [a, b, c, d] = (body_at(at, end) as u32).to_be_bytes();
+    [3, 0, 0, 0, 0, 0, 0, 0, 0, a, b, c, d]
+}
+
 // The bytes that stand from a place on: the beginning, a gate, or a header.
 fn fill(into: &mut [u8], at: u64, end: u64) {
-    match into {
-        [gate] => *gate = if at < end { 1 } else { 0 },
-        [a, b, c, d, e, f, g, h] => [*a, *b, *c, *d, *e, *f, *g, *h] = *b"GWJRNL01",
-        [kind, middle @ .., j, k, l, m] => {
-            *kind = 3;
-            middle.fill(0);
-            let count = body_at(at.saturating_sub(1), end) as u32;
-            [*j, *k, *l, *m] = count.to_be_bytes();
-        }
+    match into.len() {
+        1 => into.fill(if at < end { 1 } else { 0 }),
+        8 => into.copy_from_slice(b"GWJRNL01"),
+        13 => into.copy_from_slice(&header_at(at.saturating_sub(1), end)),
         _ => {}
     }
 }

@@ -1,0 +1,7 @@
+-- Any image may be left before and after a write.
+use Rattle.std.proofs.Common.{refl, arith}
+use Rattle.journal_tests.proofs.of_delivery_journal.far_end.LargeDisk.write_at.Goals as goal
+
+pub returns-clause-images : goal.returns-clause-images
+returns-clause-images c = λ image left.
+    (image, tt, record { before = refl; behind = refl; no_shorter = omega arith; no_longer = omega arith })
