@@ -1,5 +1,5 @@
-//! Public calls of the libraries of feeds, case by case: questions are read from the files that the words name, and what
-//! each is answered is printed. README.md says how a case is written.
+//! Public calls of the libraries of feeds, case by case: questions are read from the files that the words name, and
+//! what each is answered is printed. README.md says how a case is written.
 #![tactic(auto)]
 
 mod asked;
