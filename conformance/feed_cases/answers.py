@@ -2,7 +2,7 @@
 
 from datetime import timedelta
 
-from reading.feeds import MESSAGES, SCALARS, FeedFault, read_feed
+from reading.feeds import MESSAGES, SCALARS, FeedFault, Reader, read_feed
 from reading.files import CaseFiles
 from reading.folder import read_folder
 from reading.moments import day_text, is_moment, read_either_day, read_utc
@@ -94,9 +94,27 @@ def feed_fronts(question):
 
 def feed_lines(data):
     try:
-        found = read_feed(data)
+        return said(read_feed(data))
     except FeedFault as fault:
-        return [str(fault)]
+        return [str(fault), *plain_lines(data)]
+
+
+class PlainReader(Reader):
+    """The meaning of bytes, which knows no limit of an entity's length."""
+
+    def long_entities(self, fields, broken):
+        pass
+
+
+def plain_lines(data):
+    """What bytes with a fault mean, which is something only where an entity is too long."""
+    reader = PlainReader(data)
+    found = reader.message("FeedMessage", [(len(data), 0, len(data))])
+    return [] if reader.faults else ["plain", *said(found)]
+
+
+def said(found):
+    """The header, and each entity as it is written."""
     head = found["header"]
     timestamp = "-" if head["timestamp"] is None else head["timestamp"]
     front = f"version {head['gtfs_realtime_version']} incrementality {head['incrementality']} timestamp {timestamp}"
