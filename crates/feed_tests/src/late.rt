@@ -14,6 +14,13 @@ pub fn late_bytes() -> &'static [u8] {
     FEED
 }
 
+/// The bytes of its entity, behind the header's 15.
+pub fn late_entity() -> &'static [u8] {
+    let bytes = late_bytes();
+    let (_, entity) = bytes.split_at(bytes.len().min(15));
+    entity
+}
+
 /// The feed.
 pub fn late_feed(alloc: Global) -> Option<Feed> {
     read_feed(alloc, late_bytes()).ok()

@@ -1,7 +1,7 @@
 //! A feed that is read whole, plainly and by pieces, and its entity that is written again.
 ghost use Rattle.std.specs.Prelude.{◌≡◌, ◌+◌, ◌<◌, ◌≤◌, length, IfOk};
 
-use crate::late::{late_bytes, late_feed};
+use crate::late::{late_bytes, late_entity, late_feed};
 use feed_messages::{FeedReader, entity_bytes, plain_feed};
 use gw_base::{Bytes, Feed, List};
 use std::alloc::{AllocError, Global};
@@ -63,7 +63,7 @@ fn by_two(alloc: Global, bytes: &[u8], cut: usize) -> Option<Said> {
 // That is said by the late feed.
 fn is_late(rt: &impl Abort, said: Option<Said>) {
     let (timestamp, entities) = said.expect(rt, "a feed");
-    let (_, entity) = late_bytes().split_at(15);
+    let entity = late_entity();
     assert_eq!(rt; timestamp, Some(1_714_543_200));
     assert_eq!(rt; entities.as_slice(), entity);
 }
@@ -99,7 +99,7 @@ fn held_after(alloc: Global, bytes: &[u8], count: usize) -> Option<u64> {
 
 #[test]
 fn only_bodies_are_held(rt: HostRuntime) -> Result<(), Fail> {
-    let (_, entity) = late_bytes().split_at(15);
+    let entity = late_entity();
     let mut bytes = List::new(rt.alloc());
     bytes.extend(b"\x9a\x06\xe8\x07")?;
     bytes.extend(&[0; 1_000])?;

@@ -1,10 +1,11 @@
 //! What the late feed says of its trip over the sample folder: whole, entity by entity, and its update alone.
 use crate::late::late_feed;
-use gw_base::{Entity, FeedHead, Text};
+use gw_base::{Entity, Feed, FeedHead, Text, TripUpdate};
 use journey_model::{Context, JourneyReading, StopReading};
 use propagation::{FeedReading, ReadingFold, propagate, readings_of};
 use service_day::{DayForm, read_day};
 use std::alloc::Global;
+use std::process::Abort;
 use test_folder::{paris, sample, window};
 
 // When a journey arrives at its first stop, if it does.
@@ -42,13 +43,30 @@ fn of_entities(alloc: Global, context: &Context<'_>, entities: Vec<Entity>) -> O
     first_arrival(&fold.finish(context, &head).ok()?)
 }
 
-// The same of the update of the trip on its day.
-fn of_update(alloc: Global, context: &Context<'_>, entity: &Entity) -> Option<i64> {
-    let trip = context.table.find_trip("T1")?;
-    let dated = context.dated(trip, read_day("20240501", DayForm::Compact)?)?;
-    match &entity.trip_update {
-        Some(update) => arrival_of(&propagate(alloc, context.table, &dated, update).ok()?),
-        None => None,
+// The same of an update of the trip T1 on its day.
+fn of_update(alloc: Global, context: &Context<'_>, update: &TripUpdate) -> Option<i64> {
+    let (Some(trip), Some(day)) = (
+        context.table.find_trip("T1"),
+        read_day("20240501", DayForm::Compact),
+    ) else {
+        return None;
+    };
+    let Some(dated) = context.dated(trip, day) else {
+        return None;
+    };
+    match propagate(alloc, context.table, &dated, update) {
+        Ok(reading) => arrival_of(&reading),
+        Err(_) => None,
+    }
+}
+
+// Each update of a feed says so.
+fn is_each(rt: &impl Abort, alloc: Global, context: &Context<'_>, feed: &Feed, late: Option<i64>) {
+    for entity in feed.entities.as_slice() {
+        assert!(rt; entity.trip_update.is_some());
+        if let Some(update) = &entity.trip_update {
+            assert_eq!(rt; of_update(alloc, context, update), late);
+        }
     }
 }
 
@@ -64,9 +82,7 @@ fn a_late_trip_is_read(rt: HostRuntime) {
     let late = Some(1_714_543_260);
     assert_eq!(rt; of_feed(alloc, &context), late);
     let feed = late_feed(alloc).expect(&rt, "a feed");
-    for entity in feed.entities.as_slice() {
-        assert_eq!(rt; of_update(alloc, &context, entity), late);
-    }
+    is_each(&rt, alloc, &context, &feed, late);
     assert_eq!(rt;
         of_entities(alloc, &context, feed.entities.into_vec()),
         late
