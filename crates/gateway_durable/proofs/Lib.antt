@@ -1,0 +1,7 @@
+mod AgainLemmas
+mod DiskLemmas
+mod FoundLemmas
+mod ReopenLemmas
+mod ReplayLemmas
+mod ReplayRows
+mod TakingLemmas

@@ -1,0 +1,6 @@
+pub mod Again
+pub mod Appending
+pub mod Reopening
+pub mod Replays
+pub mod Standing
+pub mod Taking
