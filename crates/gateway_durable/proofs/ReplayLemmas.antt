@@ -43,16 +43,14 @@ same_ok a b e = same_Some a b (ap result_ok e)
 one_count : (schedule : Schedule) (one : Feed) (moment : ℤ) (text : List ℕ) (report : Report) (calls : ℕ)
     → IsSiri schedule one moment text report → HasTooMany schedule one calls → ⊥
 one_count schedule one moment text report calls siri many =
-    omega (arith, siri.few, many.over, many.count, same)
+    let few : calls ≤ most_calls = subst (λ (n : ℕ). n ≤ most_calls) (same ∙ sym many.count) siri.few in
+    omega (arith, few, many.over)
   where
-    list : List _
-    list = last_of_each (given_all (readings schedule one))
-
     same : call_count schedule siri.found.journeys ≡ call_count schedule many.found.journeys
     same =
         ap (λ (n : ℕ). min n last_count)
-        (sum_by-IsPermutation (stop_count schedule) list siri.found.journeys siri.reading.same
-        ∙ sym (sum_by-IsPermutation (stop_count schedule) list many.found.journeys many.reading.same))
+        (sum_by-IsPermutation (stop_count schedule) (last_of_each (given_all (readings schedule one))) siri.found.journeys siri.reading.same
+        ∙ sym (sum_by-IsPermutation (stop_count schedule) (last_of_each (given_all (readings schedule one))) many.found.journeys many.reading.same))
 
 -- a delivery whose items are judged isn't refused, but for want of memory
 delivery_not_refused : {A : Type 0} (verdicts : Data → Result A Member) (bytes : List ℕ) (root : Data) (all : A)

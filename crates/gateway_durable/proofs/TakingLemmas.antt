@@ -226,3 +226,12 @@ module _ {D : Type 0} (told : D → Option (List ℕ)) (may_leave : D → List �
       any_moment = λ file is bodies held arrivals stands.
           any_moment (keep_answer answer) keeps stood arrivals (can_be_taken old.gate gate arrivals new answer (takes arrivals stands)) file is bodies held;
     }
+
+-- a durable gateway that stands on a disk has a journal that is ready
+pub durable_ready : {D : Type 0} (told : D → Option (List ℕ)) (may_leave : D → List ℕ → Type 0) (disk : D) (old : DurableGate)
+    → old.journal.is_sound ≡ true → DurableStandsOn told may_leave old disk
+    → (old.journal.is_sound ≡ true) × journals.StandsOn told may_leave old.journal disk
+durable_ready told may_leave disk old sound stands = (
+  sound,
+  λ file is. record { bodies = (stands file is).bodies; holds = (stands file is).holds; on_disk = (stands file is).on_disk },
+)

@@ -53,8 +53,8 @@ fn take_again(
 {
     let mut nothing = KeptAlready { done: () };
     match gate.take_kept(alloc, kind, body, moment, &mut nothing) {
-        Ok(_) => Ok(()),
-        Err(fault) => Err(of_kept(fault, number)),
+        Ok(_accepted) => return Ok(()),
+        Err(fault) => return Err(of_kept(fault, number)),
     }
 }
 
