@@ -116,3 +116,12 @@ module _ (setting : Setting) (bodies : List KeptBody) (at count : ℕ) (gate : K
           refused = takes.1;
         }
     one_refused reopen.Memory takes = tt
+
+-- a step over a setting that is the one from before
+pub next_over : (first setting : Setting) → setting ≡ first → (bodies : List KeptBody) (at count : ℕ) (gate now : Kept) (result : Result (Option ℕ) ReopenFault)
+    → HasReplayed first bodies at count gate
+    → (HasReplayed setting bodies at count gate → ReplaysNext setting bodies count result now)
+    → ReplaysNext first bodies count result now
+next_over first setting same bodies at count gate now result so_far next =
+    subst (λ (s : Setting). ReplaysNext s bodies count result now) same
+    (next (subst (λ (s : Setting). HasReplayed s bodies at count gate) (sym same) so_far))

@@ -22,6 +22,19 @@ module _ {D : Type 0} (told : D → Option (List ℕ)) (may_leave : D → List �
     from_before = λ since image le left. ⊎_elim (λ past. inl past) (λ now. inr (wider image now)) (survives.from_before since image le left);
   }
 
+  -- two spans, one after the other
+  pub survives_then : (old mid new : D) (First Next Holds : List ℕ → Type 0) → Survives clock left_since old mid First
+      → Survives clock left_since mid new Next → ((image : List ℕ) → First image → Holds image) → ((image : List ℕ) → Next image → Holds image)
+      → Survives clock left_since old new Holds
+  survives_then old mid new First Next Holds first next of_first of_next = record {
+    later = omega (arith, first.later, next.later);
+    each = λ image left. ⊎_elim (λ past. of_first image (first.each image past)) (of_next image) (next.from_before (clock old) image first.later left);
+    from_before = λ since image le left. ⊎_elim
+        (λ past. ⊎_elim (λ before. inl before) (λ now. inr (of_first image now)) (first.from_before since image le past))
+        (λ now. inr (of_next image now))
+        (next.from_before since image (omega (arith, le, first.later)) left);
+  }
+
   -- after a span the disk was only read
   pub survives_and_reads : (old mid new : D) (Holds : List ℕ → Type 0) → Survives clock left_since old mid Holds
       → ReadsOnly told may_leave clock left_since mid new → Survives clock left_since old new Holds

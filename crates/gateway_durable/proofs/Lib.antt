@@ -4,4 +4,5 @@ mod FoundLemmas
 mod ReopenLemmas
 mod ReplayLemmas
 mod ReplayRows
+mod RunLemmas
 mod TakingLemmas

@@ -1,7 +1,8 @@
 -- Why a durable gateway isn't opened again, and what one stands for that is.
-use Rattle.std.proofs.Common.{◌≡◌, ◌≢◌, ℕ, List, Option, Some, Result, Ok, Err, refl, sym, ◌∙◌, ap, subst}
+use Rattle.std.proofs.Common.{◌≡◌, ◌≢◌, inl, inr, ⊎_elim, ℕ, ◌≤◌, List, Option, Some, Result, Ok, Err, refl, sym, ◌∙◌, ap, subst, arith}
 use Rattle.std.proofs.lemmas.Option.{same_Some}
-use Rattle.std.specs.Result.{result_ok}
+use Rattle.std.specs.Result.{result_err, result_ok}
+use Rattle.gw_base.specs.Count.{Rose}
 use Rattle.delivery_journal.specs.Disk.{WhereTold}
 use Rattle.delivery_journal.specs.Kept.{KeptBody, kept}
 use Rattle.delivery_journal.specs.Standing as journals
@@ -63,3 +64,19 @@ stands_with told may_leave disk gate journal stands replays file is =
       replays = all.1;
       stands = all.2;
     }
+
+-- ---- the count of faults
+
+pub open_disk : {A B : Type 0} (fault : OpenFault) → ◌≡◌ {A = Result A ReopenFault} (Err (of_open fault)) (Err Disk)
+    → ◌≡◌ {A = Result B OpenFault} (Err fault) (Err open_fault.Disk)
+open_disk open_fault.Disk e = refl
+open_disk open_fault.NotJournal e = absurd (cc)
+open_disk (open_fault.Damaged at) e = absurd (cc)
+
+pub same_fault : {A B : Type 0} (fault other : ReopenFault) → ◌≡◌ {A = Result A ReopenFault} (Err fault) (Err other)
+    → ◌≡◌ {A = Result B ReopenFault} (Err fault) (Err other)
+same_fault fault other e = ap Err (same_Some fault other (ap result_err e))
+
+-- a count that rose later rose
+pub rose_later : (old mid new : ℕ) → old ≤ mid → Rose mid new → Rose old new
+rose_later old mid new le rose = ⊎_elim (λ more. inl (omega (arith, le, more))) (λ last. inr last) rose

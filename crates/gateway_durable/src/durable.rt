@@ -111,7 +111,7 @@ impl Durable {
     {
         let mut keeper = Keeper {
             journal: &mut self.journal,
-            disk,
+            disk: &mut *disk,
         };
         self.gate.take_kept(alloc, kind, body, moment, &mut keeper)
     }

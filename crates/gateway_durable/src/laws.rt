@@ -1,12 +1,18 @@
-//! The law of kept bodies that are taken again, the contract of a function that does nothing. It is about the definitions
-//! of `specs/Replays.antt` and `Reopening.antt`.
-ghost use Rattle.std.specs.Prelude.{◌≡◌, ◌++◌, ℕ, List};
-ghost use Rattle.delivery_journal.specs.Kept.{KeptBody};
+//! The laws of kept bodies that are taken again, and of what a crash leaves of several calls: contracts of functions that
+//! do nothing. They are about the definitions of `specs/Replays.antt`, `Reopening.antt` and `Runs.antt`.
+ghost use Rattle.std.specs.Prelude.{◌≡◌, ◌++◌, ◌∷◌, [], ℕ, List, Some, Result, Ok};
+ghost use Rattle.delivery_journal.specs.Kept.{KeptBody, kept};
 ghost use Rattle.gateway_core.specs.Arrivals.{Arrival};
+ghost use Rattle.gateway_core.specs.declared.accepted.Accepted as answers;
 ghost use Rattle.gateway_core.specs.declared.setting.Setting as settings;
+ghost use Rattle.gateway_core.specs.declared.take.kept.KeptFault as faults;
 ghost use Rattle.gateway_durable.specs.Reopening.{CanReplay, IsRefusedAt};
 ghost use Rattle.gateway_durable.specs.Replays.{Replays};
+ghost use Rattle.gateway_durable.specs.Runs.{LeavesPrefix};
+ghost use Rattle.gateway_durable.specs.Standing.{DurableGate, DurableStandsOn};
+ghost use Rattle.gateway_durable.specs.Taking.{TakesDurably};
 
+use delivery_journal::Disk;
 use feed_messages::the_feed_is_one_law;
 
 /// Kept bodies that are taken one after the other, over one setting, give the same each time; those behind them go on from
@@ -25,3 +31,19 @@ pub fn kept_bodies_replay_law()
     // Bytes mean one feed alone, so that a feed that is taken again gives what it gave.
     the_feed_is_one_law();
 }
+
+/// What a crash leaves of several calls on one disk. From a moment at which a durable gateway stands on it, a crash at any
+/// moment of the calls that follow leaves the bodies that the file held then, with a prefix of those that were to be kept
+/// since, in their order, none skipped and none in part; and they can be taken again. After each call that is answered Ok
+/// such a moment is there again, over all bodies up to its own, so that the prefix holds every acknowledged body.
+pub fn a_crash_leaves_a_prefix_law<K: Disk>()
+    ensures begins { (disk : K) (durable : DurableGate) (file : List ℕ) (bodies : List KeptBody)
+        → DurableStandsOn K.told K.may_leave durable disk → K.told disk ≡ Some file → kept file ≡ Ok bodies
+        → LeavesPrefix K.clock K.left_since disk disk durable.gate.setting bodies [] }
+    ensures goes_on { (first before after : K) (old now : DurableGate) (new : KeptBody)
+        (answer : Result answers.Accepted faults.KeptFault) (file : List ℕ) (bodies added : List KeptBody)
+        → DurableStandsOn K.told K.may_leave old before → K.told before ≡ Some file → kept file ≡ Ok (bodies ++ added)
+        → LeavesPrefix K.clock K.left_since first before old.gate.setting bodies added
+        → TakesDurably K.told K.may_leave K.clock K.left_since K.faults old before new answer now after
+        → LeavesPrefix K.clock K.left_since first after old.gate.setting bodies (added ++ new ∷ []) }
+{}

@@ -11,5 +11,5 @@ mod reopen_fault;
 mod reopening;
 
 pub use durable::Durable;
-pub use laws::kept_bodies_replay_law;
+pub use laws::{a_crash_leaves_a_prefix_law, kept_bodies_replay_law};
 pub use reopen_fault::ReopenFault;

@@ -7,7 +7,7 @@ use Rattle.gateway_durable.proofs.reopening.take_again.Goals as goal
 
 pub returns-in-Ok-clause-takes : goal.returns-in-Ok-clause-takes
 returns-in-Ok-clause-takes c = λ arrivals stands.
-    again_taken c.args.gate.now arrivals (record { kind = c.args.kind; moment = c.args.moment; body = c.args.body.now }) c.args.number c.take_kept.new.self _
+    again_taken c.args.gate.now arrivals (record { kind = c.args.kind; moment = c.args.moment; body = c.args.body.now }) c.args.number c.take_kept.new.self c.in-Ok._accepted
     (c.in-Ok.ensures.takes arrivals stands)
 
 pub returns-in-Err-clause-takes : goal.returns-in-Err-clause-takes
