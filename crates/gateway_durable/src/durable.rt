@@ -13,10 +13,10 @@ ghost use Rattle.gateway_durable.specs.Reopening.{FileCanReplay, RefusesFile, St
 ghost use Rattle.gateway_durable.specs.Standing.{DurableStandsOn};
 ghost use Rattle.gateway_durable.specs.Taking.{TakesDurably};
 
-use crate::keeper::Keeper;
 use crate::laws::kept_bodies_replay_law;
 use crate::reopen_fault::{ReopenFault, of_open};
 use crate::reopening::replay_all;
+use crate::taking::take_on;
 use delivery_journal::{Disk, Journal};
 use gateway_core::{Accepted, Gateway, KeptFault, Setting};
 use gw_base::{Kind, Moment};
@@ -109,11 +109,15 @@ impl Durable {
         ensures { TakesDurably K.told K.may_leave K.clock K.left_since K.faults self.old disk.old
             (record { kind = kind; moment = moment; body = body.now }) result self.new disk.new }
     {
-        let mut keeper = Keeper {
-            journal: &mut self.journal,
-            disk: &mut *disk,
-        };
-        self.gate.take_kept(alloc, kind, body, moment, &mut keeper)
+        take_on(
+            alloc,
+            &mut self.gate,
+            &mut self.journal,
+            disk,
+            kind,
+            body,
+            moment,
+        )
     }
 
     /// Takes a delivery of journeys (SIRI 2.0, EstimatedTimetableDelivery) that arrives at a moment, as `take` does.

@@ -9,8 +9,8 @@ use gw_base::{Kind, Moment};
 // A journal, and the disk on which it stands.
 #[derive(Drop)]
 pub struct Keeper<'a, K> {
-    pub journal: &'a mut Journal,
     pub disk: &'a mut K,
+    pub journal: &'a mut Journal,
 }
 
 // Why a body isn't kept that isn't appended.

@@ -9,6 +9,7 @@ mod keeper;
 mod laws;
 mod reopen_fault;
 mod reopening;
+mod taking;
 
 pub use durable::Durable;
 pub use laws::{a_crash_leaves_a_prefix_law, kept_bodies_replay_law};
