@@ -32,7 +32,7 @@ class StandIn:
 
     def __init__(self, setting, path, port, fault=None):
         self.setting, self.path, self.port, self.fault = setting, path, port, fault
-        self.pid = os.fork()
+        self.status, self.pid = None, os.fork()
         if self.pid == 0:
             try:
                 self.serve()
@@ -42,14 +42,19 @@ class StandIn:
     # What `crash` does with it.
 
     def kill(self):
-        os.kill(self.pid, signal.SIGKILL)
+        if not self.has_ended():
+            os.kill(self.pid, signal.SIGKILL)
 
     def wait(self):
-        _, status = os.waitpid(self.pid, 0)
-        return os.waitstatus_to_exitcode(status)
+        if self.status is None:
+            self.status = os.waitstatus_to_exitcode(os.waitpid(self.pid, 0)[1])
+        return self.status
 
     def has_ended(self):
-        return False
+        if self.status is None:
+            ended, status = os.waitpid(self.pid, os.WNOHANG)
+            self.status = os.waitstatus_to_exitcode(status) if ended else None
+        return self.status is not None
 
     # The server.
 
