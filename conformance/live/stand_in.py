@@ -7,7 +7,7 @@ import socket
 import time
 
 from reading import journal
-from reading.journal import CLOSED, MAGIC, OPEN, Kept, kept
+from reading.journal import CLOSED, MAGIC, OPEN, Kept
 from reading.keeping import reopened
 from reading.requests import read_request
 from reading.server import answered, entry_of
