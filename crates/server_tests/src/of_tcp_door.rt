@@ -74,24 +74,6 @@ fn an_answer_comes_whole(rt: HostRuntime) -> Result<(), Fail> {
     Ok(())
 }
 
-#[test]
-fn each_client_gets_its_own_answer(rt: HostRuntime) -> Result<(), Fail> {
-    let mut door = TcpDoor::new(&rt, rt.alloc(), "127.0.0.1:0", Limits::usual());
-    assert_eq!(rt; door.bind(), Ok(()));
-    let mut buf = [0u8; 1024];
-    let mut first = client(&rt, door.port())?;
-    first.write_all(GET)?;
-    let read = serve(&mut door, &mut buf, (HEAD, b"the first body"), Mark::Shown);
-    assert_eq!(rt; read, Ok(GET.len()));
-    assert_eq!(rt; rest(rt.alloc(), &mut first)?.len(), HEAD.len() + 14);
-    let mut second = client(&rt, door.port())?;
-    second.write_all(GET)?;
-    let read = serve(&mut door, &mut buf, (HEAD, b"body"), Mark::Shown);
-    assert_eq!(rt; read, Ok(GET.len()));
-    assert_eq!(rt; rest(rt.alloc(), &mut second)?.len(), HEAD.len() + 4);
-    Ok(())
-}
-
 // Serves the next connection as `serve` does; its client sends more once its request was read, and once more when it
 // was answered.
 fn serve_late<D: Door>(
