@@ -49,7 +49,7 @@ pub are_moments : (start : ℤ) (row : StopRow) (reading : StopReading) → IsDa
     → is_near (planned start row) reading ≡ true → AreMoments reading
 are_moments start row Absent day timed near = tt
 are_moments start row Skipped day timed near = tt
-are_moments start row (Timed arrival departure) day timed near =
+are_moments start row (Timed arrival departure place) day timed near =
     let seconds = timed_by row timed in
     let delays = and_parts (is_delay (arrival -ℤ (planned start row).0)) (is_delay (departure -ℤ (planned start row).1))
     near in (

@@ -4,7 +4,7 @@ use Rattle.std.specs.Prelude.{ℕ, List, ◌++◌, codes, decimal}
 use Rattle.std.specs.Fmt.{signed_decimal}
 use Rattle.gw_base.specs.Member.{member_name}
 use Rattle.journey_model.specs.declared.fault.Fault.{Fault}
-use Rattle.journey_model.specs.declared.fault.Fault.TheVariants.{BadField, AddedJourney, UnknownJourney, OutOfWindow, NotRunning, UnknownStop, OutOfOrder, DelayRange, Full, UnknownRef, NoAffects, EntityTooLong, NoDate, StopMismatch, NoTime, OtherRelation}
+use Rattle.journey_model.specs.declared.fault.Fault.TheVariants.{BadField, AddedJourney, UnknownJourney, OutOfWindow, NotRunning, UnknownStop, OutOfOrder, DelayRange, Full, UnknownRef, NoAffects, EntityTooLong, NoDate, StopMismatch, NoTime, OtherRelation, OtherPlace, PlacesTooLong}
 
 abbrev pub fault_text : Fault → List ℕ
 fault_text (BadField member) = codes "BadField " ++ member_name member
@@ -23,3 +23,5 @@ fault_text NoDate = codes "NoDate"
 fault_text (StopMismatch number) = codes "StopMismatch " ++ decimal number
 fault_text (NoTime number) = codes "NoTime " ++ decimal number
 fault_text (OtherRelation relation) = codes "OtherRelation " ++ signed_decimal relation
+fault_text (OtherPlace number) = codes "OtherPlace " ++ decimal number
+fault_text (PlacesTooLong bytes) = codes "PlacesTooLong " ++ decimal bytes

@@ -4,6 +4,7 @@ pub mod FeedReadings
 pub mod Ids
 pub mod Matching
 pub mod Names
+pub mod Places
 pub mod Propagation
 pub mod Readings
 pub mod Records

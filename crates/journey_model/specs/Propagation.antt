@@ -3,8 +3,9 @@
 use Rattle.std.specs.Prelude.{◌==◌, ◌&&◌, ℕ, ℤ, ◌+ℤ◌, ◌-ℤ◌, nat_le, Bool, not, List, [], ◌∷◌, length, map, Option, Some, None, if◌then◌else◌}
 use Rattle.std.specs.List.{list_any, range_with_len, zip}
 use Rattle.gw_base.specs.declared.messages.StopUpdate.{StopUpdate}
-use Rattle.journey_model.specs.Runs.{Run, planned_at}
-use Rattle.journey_model.specs.Updates.{is_no_data, is_skipped, times}
+use Rattle.timetable.specs.declared.numbers.StopNo.{StopNo}
+use Rattle.journey_model.specs.Runs.{Run, planned_at, stop_at}
+use Rattle.journey_model.specs.Updates.{is_no_data, is_skipped, place_at, times}
 use Rattle.journey_model.specs.declared.readings.StopReading.{StopReading}
 use Rattle.journey_model.specs.declared.readings.StopReading.TheVariants.{Absent, Skipped, Timed}
 
@@ -27,27 +28,28 @@ abbrev pub supplier : ℕ → List (ℕ × StopUpdate) → Option (ℕ × StopUp
 supplier position [] = None
 supplier position (one ∷ others) = greater (if supplies position one then Some one else None) (supplier position others)
 
--- a stop at the times, if there are any
-abbrev pub timed : Option (ℤ × ℤ) → StopReading
-timed None = Absent
-timed (Some both) = Timed both.0 both.1
+-- a stop that is served at a place at the times, if there are any
+abbrev pub timed : StopNo → Option (ℤ × ℤ) → StopReading
+timed place None = Absent
+timed place (Some both) = Timed both.0 both.1 place
 
--- both planned times, later by the delay of a departure at another position
-abbrev pub later_by : ℤ × ℤ → ℤ → StopReading
-later_by planned delay = Timed (planned.0 +ℤ delay) (planned.1 +ℤ delay)
+-- both planned times, later by the delay of a departure at another position, at the scheduled stop
+abbrev pub later_by : StopNo → ℤ × ℤ → ℤ → StopReading
+later_by scheduled planned delay = Timed (planned.0 +ℤ delay) (planned.1 +ℤ delay) scheduled
 
-abbrev pub carried : ℤ × ℤ → ℤ × ℤ → Option (ℤ × ℤ) → StopReading
-carried planned before None = Absent
-carried planned before (Some both) = later_by planned (both.1 -ℤ before.1)
+abbrev pub carried : StopNo → ℤ × ℤ → ℤ × ℤ → Option (ℤ × ℤ) → StopReading
+carried scheduled planned before None = Absent
+carried scheduled planned before (Some both) = later_by scheduled planned (both.1 -ℤ before.1)
 
--- what the update at a position supplies to a stop at or after it: nothing for NO_DATA; its own times at its position;
--- after it the planned times and the delay of its departure
+-- what the update at a position supplies to a stop at or after it: nothing for NO_DATA; its own times at its own place at
+-- its position; after it the planned times and the delay of its departure
 abbrev pub supplied : Run → ℕ → Option (ℕ × StopUpdate) → StopReading
 supplied run position None = Absent
 supplied run position (Some one) =
     if is_no_data one.1 then Absent else
-    (if one.0 == position then timed (times (planned_at run position) one.1)
-    else carried (planned_at run position) (planned_at run one.0) (times (planned_at run one.0) one.1))
+    (if one.0 == position then timed (place_at run position one.1) (times (planned_at run position) one.1)
+    else carried (stop_at run position) (planned_at run position) (planned_at run one.0)
+    (times (planned_at run one.0) one.1))
 
 -- the propagation: what placed updates say of the stop at a position
 abbrev pub prop : Run → List (ℕ × StopUpdate) → ℕ → StopReading

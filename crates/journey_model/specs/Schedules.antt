@@ -24,7 +24,8 @@ schedule_from timetable zone window =
 
 -- a trip on a day that starts at that second
 abbrev pub run_from : Table → ℕ → ℤ → Run
-run_from table trip start = record { ids = table.stops; start = start; stops = table.stops_of trip }
+run_from table trip start =
+    record { ids = table.stops; station_of = table.station_of; start = start; stops = table.stops_of trip }
 
 -- a trip on a day, if the day is in the window
 abbrev pub run_on : Schedule → ℕ → ℤ → Option Run
@@ -34,12 +35,12 @@ abbrev pub in_window : Schedule → ℤ → Bool
 in_window schedule day = is_some (start_in schedule.window day)
 
 -- a reading of a trip on a day fits a schedule: the trip is there, the day is in the window, and there is one reading
--- for each stop, at most a week from the planned times
+-- for each stop, at most a week from the planned times and at a place of the stop's station
 pub record FitsSchedule (schedule : Schedule) (trip : ℕ) (day : ℤ) (reading : JourneyReading) : Type 0 where
   pub trip_in : trip < length schedule.table.trips
   pub run : Run
   pub on_day : run_on schedule trip day ≡ Some run
-  pub fits : fits_trip run.start run.stops reading ≡ true
+  pub fits : fits_trip run reading ≡ true
 
 -- it can be served: it fits, and the trip runs on the day
 pub record IsServable (schedule : Schedule) (trip : ℕ) (day : ℤ) (reading : JourneyReading) : Type 0 where

@@ -1,18 +1,20 @@
 -- The updates of a trip: their places, and their times there (GTFS Realtime reference, StopTimeUpdate, StopTimeEvent).
-use Rattle.std.specs.Prelude.{◌||◌, ◌+◌, ℕ, ℤ, ◌+ℤ◌, Bool, List, [], ◌∷◌, position, Option, Some, None, option_map, Result, Ok, Err, if◌then◌else◌}
+use Rattle.std.specs.Prelude.{◌||◌, ◌+◌, ℕ, ℤ, ◌+ℤ◌, Bool, true, false, List, [], ◌∷◌, position, Option, Some, None, option_map, Result, Ok, Err, if◌then◌else◌}
 use Rattle.std.specs.Option.{option_or}
 use Rattle.std.specs.Ordering.{int_eq}
 use Rattle.std.specs.Str.{bytes_eq}
 use Rattle.gw_base.specs.Enums.{stop_no_data, stop_scheduled, stop_skipped}
 use Rattle.gw_base.specs.declared.messages.Event.{Event}
 use Rattle.gw_base.specs.declared.messages.StopUpdate.{StopUpdate}
+use Rattle.timetable.specs.declared.numbers.StopNo.{StopNo}
 use Rattle.gw_base.specs.Chains.{unless_fault, ◌>>=◌}
 use Rattle.journey_model.specs.Matching.{update_position}
 use Rattle.journey_model.specs.Names.{filled_text}
-use Rattle.journey_model.specs.Runs.{Run, planned_at}
+use Rattle.journey_model.specs.Places.{are_of_station, place_size, places_fault}
+use Rattle.journey_model.specs.Runs.{Run, planned_at, stop_at}
 use Rattle.journey_model.specs.Times.{both_times, delay_fault}
 use Rattle.journey_model.specs.declared.fault.Fault.{Fault}
-use Rattle.journey_model.specs.declared.fault.Fault.TheVariants.{UnknownStop, StopMismatch, OutOfOrder, NoTime, OtherRelation}
+use Rattle.journey_model.specs.declared.fault.Fault.TheVariants.{UnknownStop, StopMismatch, OutOfOrder, NoTime, OtherPlace, OtherRelation}
 use Rattle.journey_model.specs.declared.matching.MatchFault.{MatchFault}
 use Rattle.journey_model.specs.declared.matching.MatchFault.TheVariants as match
 use Rattle.journey_model.specs.declared.matching.NamedStop.{NamedStop}
@@ -39,6 +41,34 @@ named_by ids (Some id) = known_stop (position (bytes_eq id) ids)
 
 abbrev pub named_stop : List (List ℕ) → StopUpdate → NamedStop
 named_stop ids update = named_by ids (filled_text update.stop_id)
+
+-- the stop to which an update is assigned, where it names one
+abbrev pub assigned_stop : List (List ℕ) → StopUpdate → NamedStop
+assigned_stop ids update = named_by ids (filled_text update.assigned)
+
+-- an update names the same stop as its own and as the one to which it is assigned
+abbrev pub are_same : Option (List ℕ) → Option (List ℕ) → Bool
+are_same None other = false
+are_same (Some id) None = false
+are_same (Some id) (Some other) = bytes_eq id other
+
+abbrev pub names_one : StopUpdate → Bool
+names_one update = are_same (filled_text update.stop_id) (filled_text update.assigned)
+
+-- the place of an update of a scheduled stop: the stop to which it is assigned, else the scheduled one
+abbrev pub place_by : StopNo → NamedStop → StopNo
+place_by scheduled Missing = scheduled
+place_by scheduled Unknown = scheduled
+place_by scheduled (Known stop) = stop
+
+abbrev pub place_at : Run → ℕ → StopUpdate → StopNo
+place_at run position update = place_by (stop_at run position) (assigned_stop run.ids update)
+
+-- a stop to which an update is assigned is of the station of the scheduled one
+abbrev pub keeps_station : (ℕ → ℕ) → StopNo → NamedStop → Bool
+keeps_station station_of scheduled Missing = true
+keeps_station station_of scheduled Unknown = false
+keeps_station station_of scheduled (Known stop) = are_of_station station_of stop.0 scheduled.0
 
 -- the time of an event: its `time`, else the planned time and its `delay`; with neither it counts as missing
 abbrev pub event_time : ℤ → Option Event → Option ℤ
@@ -67,14 +97,22 @@ abbrev pub events_fault : ℕ → Option Fault → Option (ℤ × ℤ) → Optio
 events_fault number late None = Some (NoTime number)
 events_fault number late (Some both) = late
 
--- the fault of the times of a SCHEDULED update: it has none, or a delay is over a week
-abbrev pub times_fault : ℕ → ℤ × ℤ → StopUpdate → Option Fault
-times_fault number planned update =
-    if is_scheduled update
-    then events_fault number
-    (delay_fault number planned (arrival_time planned update) (departure_time planned update))
-    (times planned update)
-    else None
+-- the fault of a SCHEDULED update at a position: it is assigned to another station, it has no time, or a delay is over a
+-- week
+abbrev pub place_fault : ℕ → Bool → Option Fault → Option Fault
+place_fault number keeps times = if keeps then times else Some (OtherPlace number)
+
+abbrev pub scheduled_fault : Run → ℕ → ℕ → StopUpdate → Option Fault
+scheduled_fault run number position update =
+    place_fault number (keeps_station run.station_of (stop_at run position) (assigned_stop run.ids update))
+    (events_fault number
+    (delay_fault number (planned_at run position) (arrival_time (planned_at run position) update)
+    (departure_time (planned_at run position) update))
+    (times (planned_at run position) update))
+
+abbrev pub update_fault : Run → ℕ → ℕ → StopUpdate → Option Fault
+update_fault run number position update =
+    if is_scheduled update then scheduled_fault run number position update else None
 
 -- the relation of the update is read
 abbrev pub is_read : StopUpdate → Bool
@@ -83,16 +121,17 @@ is_read update = is_scheduled update || (is_skipped update || is_no_data update)
 abbrev pub position_timed : Run → ℕ → StopUpdate → Result ℕ MatchFault → Result ℕ Fault
 position_timed run number update (Err fault) = Err (match_fault number fault)
 position_timed run number update (Ok position) =
-    unless_fault (times_fault number (planned_at run position) update) position
+    unless_fault (update_fault run number position update) position
 
 -- the position of the update of that number after the one before, or its first fault
 abbrev pub position_of : Run → ℕ → Option ℕ → StopUpdate → Result ℕ Fault
 position_of run number after update =
     if is_read update
-    then position_timed run number update (update_position run.stops after update.sequence (named_stop run.ids update))
+    then position_timed run number update (update_position run.stops after update.sequence (named_stop run.ids update) (names_one update))
     else Err (OtherRelation update.relation)
 
--- the places of updates numbered from that number on, after the position before, or the fault of the first that has one
+-- the positions of updates numbered from that number on, after the position before, or the fault of the first that has
+-- one
 abbrev pub places_from : Run → ℕ → Option ℕ → List StopUpdate → Result (List ℕ) Fault
 places_from run number after [] = Ok []
 places_from run number after (update ∷ updates) = do
@@ -100,6 +139,20 @@ places_from run number after (update ∷ updates) = do
   others ← places_from run (number + 1) (Some position) updates
   Ok (position ∷ others)
 
--- the places of the updates of a trip, or the first fault
+-- the bytes of the id of the place of a SCHEDULED update, where that isn't the scheduled stop
+abbrev pub update_size : Run → ℕ → StopUpdate → ℕ
+update_size run position update =
+    if is_scheduled update then place_size run.ids (stop_at run position).0 (place_at run position update).0 else 0
+
+-- the sum of these bytes over updates at positions
+abbrev pub updates_size : Run → List ℕ → List StopUpdate → ℕ
+updates_size run [] updates = 0
+updates_size run (position ∷ positions) [] = 0
+updates_size run (position ∷ positions) (update ∷ updates) =
+    update_size run position update + updates_size run positions updates
+
+-- the positions of the updates of a trip, or the first fault; after all updates the one of their places
 abbrev pub places : Run → List StopUpdate → Result (List ℕ) Fault
-places run updates = places_from run 0 None updates
+places run updates = do
+  positions ← places_from run 0 None updates
+  unless_fault (places_fault (updates_size run positions updates)) positions

@@ -57,7 +57,7 @@ impl<'a> Context<'a> {
     /// A trip on a day; None exactly where the day isn't in the window.
     pub fn dated(&self, trip: TripNo, day: Day) -> Option<DatedTrip<'a>>
         requires { trip.0 < length self.now.table.trips }
-        ensures value { option_map (run_of self.now.table.stops) result ≡ run_on self.now trip.0 day }
+        ensures value { option_map (run_of self.now.table) result ≡ run_on self.now trip.0 day }
         ensures names { IfSome result (λ dated. (dated.trip ≡ trip) × (dated.day ≡ day)) }
     {
         match self.window.start_of(day) {

@@ -41,6 +41,10 @@ pub enum Fault {
     NoTime(u64),
     /// The schedule_relationship of a trip or an update is another than those that are read.
     OtherRelation(i32),
+    /// The update of this number is assigned to a stop that isn't of its stop's station.
+    OtherPlace(u64),
+    /// The ids of the places that aren't the scheduled stops have this many bytes in sum, which are too many.
+    PlacesTooLong(u64),
 }
 
 /// The text of a fault. A contract sees its bytes.
@@ -75,5 +79,7 @@ pub fn fault_text(fault: &Fault) -> FaultText
         Fault::StopMismatch(number) => ShortText::of_number("StopMismatch ", *number),
         Fault::NoTime(number) => ShortText::of_number("NoTime ", *number),
         Fault::OtherRelation(relation) => ShortText::of_signed("OtherRelation ", *relation),
+        Fault::OtherPlace(number) => ShortText::of_number("OtherPlace ", *number),
+        Fault::PlacesTooLong(bytes) => ShortText::of_number("PlacesTooLong ", *bytes),
     }
 }

@@ -4,7 +4,7 @@ ghost use Rattle.journey_model.specs.Readings as spec;
 
 use gw_base::{List, Moment};
 use service_day::{Day, Instant};
-use timetable::TripNo;
+use timetable::{StopNo, TripNo};
 
 /// How a stop of a journey reads.
 #[derive(Clone, Copy, Debug, PartialEq, Eq)]
@@ -13,12 +13,14 @@ pub enum StopReading {
     Absent,
     /// The journey doesn't stop there.
     Skipped,
-    /// The journey stops there at these times, in seconds since 1970.
+    /// The journey stops there, at these times in seconds since 1970.
     Timed {
         /// When it arrives.
         arrival: i64,
         /// When it departs.
         departure: i64,
+        /// The stop at which the vehicle calls: the scheduled one, or another of its station.
+        place: StopNo,
     },
 }
 
