@@ -78,7 +78,8 @@ abbrev pub position_by_stop : List StopRow → ℕ → NamedStop → Result ℕ 
 position_by_stop stops from Missing = Err UnknownStop
 position_by_stop stops from Unknown = Err UnknownStop
 position_by_stop stops from (Known stop) =
-    if list_any (is_of_stop stop.0) stops then ok_or (first_from (is_of_stop stop.0) from stops) OutOfOrder else Err UnknownStop
+    if list_any (is_of_stop stop.0) stops then ok_or (first_from (is_of_stop stop.0) from stops) OutOfOrder
+    else Err UnknownStop
 
 -- the position of an update after the one before (GTFS Realtime reference, StopTimeUpdate: stop_sequence, stop_id), or
 -- why it has none; `same` where its stop_id is the id of the stop to which it is assigned

@@ -41,8 +41,8 @@ abbrev pub carried : StopNo → ℤ × ℤ → ℤ × ℤ → Option (ℤ × ℤ
 carried scheduled planned before None = Absent
 carried scheduled planned before (Some both) = later_by scheduled planned (both.1 -ℤ before.1)
 
--- what the update at a position supplies to a stop at or after it: nothing for NO_DATA; its own times at its own place at
--- its position; after it the planned times and the delay of its departure
+-- what the update at a position supplies to a stop at or after it: nothing for NO_DATA; at its position its own times
+-- and its own place; after it the planned times and the delay of its departure
 abbrev pub supplied : Run → ℕ → Option (ℕ × StopUpdate) → StopReading
 supplied run position None = Absent
 supplied run position (Some one) =

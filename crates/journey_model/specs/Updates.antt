@@ -97,8 +97,8 @@ abbrev pub events_fault : ℕ → Option Fault → Option (ℤ × ℤ) → Optio
 events_fault number late None = Some (NoTime number)
 events_fault number late (Some both) = late
 
--- the fault of a SCHEDULED update at a position: it is assigned to another station, it has no time, or a delay is over a
--- week
+-- the fault of a SCHEDULED update at a position: it is assigned to another station, it has no time, or a delay is over
+-- a week
 abbrev pub place_fault : ℕ → Bool → Option Fault → Option Fault
 place_fault number keeps times = if keeps then times else Some (OtherPlace number)
 
@@ -127,7 +127,8 @@ position_timed run number update (Ok position) =
 abbrev pub position_of : Run → ℕ → Option ℕ → StopUpdate → Result ℕ Fault
 position_of run number after update =
     if is_read update
-    then position_timed run number update (update_position run.stops after update.sequence (named_stop run.ids update) (names_one update))
+    then position_timed run number update
+    (update_position run.stops after update.sequence (named_stop run.ids update) (names_one update))
     else Err (OtherRelation update.relation)
 
 -- the positions of updates numbered from that number on, after the position before, or the fault of the first that has
