@@ -17,6 +17,7 @@ use Rattle.feed_reading.specs.Tables.{full_dataset}
 use Rattle.timetable.specs.Table.{Table}
 use Rattle.timetable.specs.declared.stop_row.StopRow.{StopRow}
 use Rattle.journey_model.specs.FeedReadings.{entity_said, given, last_reading, nothing_known, or_nothing}
+use Rattle.journey_model.specs.Places.{keeps_places}
 use Rattle.journey_model.specs.Readings.{are_near, fits_trip, is_absent}
 use Rattle.journey_model.specs.Records.{Recorded}
 use Rattle.journey_model.specs.Runs.{Run}
@@ -100,15 +101,17 @@ silent_stops start [] (reading ∷ readings) near silent = absurd cc
 silent_stops start (row ∷ rows) [] near silent = absurd cc
 silent_stops start (row ∷ rows) (Absent ∷ readings) near silent = ap (λ rest. Absent ∷ rest) (silent_stops start rows readings near silent)
 silent_stops start (row ∷ rows) (Skipped ∷ readings) near silent = absurd cc
-silent_stops start (row ∷ rows) (Timed arrival departure ∷ readings) near silent = absurd cc
+silent_stops start (row ∷ rows) (Timed arrival departure place ∷ readings) near silent = absurd cc
 
 stops_are : (table : Table) (trip : ℕ) (run : Run) (start : Option ℤ) → option_map (run_from table trip) start ≡ Some run → table.stops_of trip ≡ run.stops
 stops_are table trip run None e = absurd cc
 stops_are table trip run (Some start) e = let same : run_from table trip start ≡ run = cc in ap (λ (r : Run). r.stops) same
 
-silent_is : (start : ℤ) (rows : List StopRow) (reading : JourneyReading) → fits_trip start rows reading ≡ true → is_silent reading ≡ true → reading ≡ Stops (replicate (length rows) Absent)
-silent_is start rows Cancelled fits silent = absurd cc
-silent_is start rows (Stops readings) fits silent = ap (λ r. Stops r) (silent_stops start rows readings fits silent)
+silent_is : (run : Run) (reading : JourneyReading) → fits_trip run reading ≡ true → is_silent reading ≡ true → reading ≡ Stops (replicate (length run.stops) Absent)
+silent_is run Cancelled fits silent = absurd cc
+silent_is run (Stops readings) fits silent =
+    let near = (and_parts (are_near run.start run.stops readings) (keeps_places run readings) fits).0 in
+    ap (λ r. Stops r) (silent_stops run.start run.stops readings near silent)
 
 -- a record says its own reading
 own_reading : (schedule : Schedule) (trip : ℕ) (day : ℤ) (one : Recorded) → IsServable schedule one.trip one.day one.reading → is_of trip day one ≡ true
@@ -119,7 +122,7 @@ own_reading schedule trip day one servable of_one = by (is_silent one.reading) r
     by true silent =
         let trips : one.trip ≡ trip = eqb-true one.trip trip (and_parts (one.trip == trip) (int_eq one.day day) of_one).0 in
         let stops : schedule.table.stops_of one.trip ≡ servable.run.stops = stops_are schedule.table one.trip servable.run _ servable.on_day in
-        let reads : one.reading ≡ Stops (replicate (length servable.run.stops) Absent) = silent_is servable.run.start servable.run.stops one.reading servable.fits silent in
+        let reads : one.reading ≡ Stops (replicate (length servable.run.stops) Absent) = silent_is servable.run one.reading servable.fits silent in
         rw (messages_none schedule one servable.run servable.on_day silent, ← trips, stops) (sym reads)
     by false silent = rw (messages_one schedule one servable.run servable.on_day silent, of_one) refl
 

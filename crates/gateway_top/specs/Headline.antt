@@ -26,8 +26,8 @@ HasArrived setting before (entry ∷ later) now =
     (after : List Arrival) × Leaves setting before entry after × HasArrived setting after later now
 
 -- a feed served: its bytes are those rebuilt from all that arrived; read as protobuf and propagated by GTFS Realtime's
--- rules, they give every stop of every dated journey the time, skip or absence of the last-recorded SIRI journey taken
--- before it. The output is that answer, or by a fault of the door a prefix of it
+-- rules, they give every stop of every dated journey the time and place, skip or absence of the last-recorded SIRI
+-- journey taken before it. The output is that answer, or by a fault of the door a prefix of it
 pub record ServesFeed (Cause : Type 0) (setting : Setting) (arrivals : List Arrival) (entry : Entry) : Type 0 where
   pub moment : ℤ
   pub at : entry.moment ≡ Some moment
@@ -37,8 +37,8 @@ pub record ServesFeed (Cause : Type 0) (setting : Setting) (arrivals : List Arri
   pub rebuilt : IsRebuiltOf setting moment arrivals feed
   pub gives : GivesEach moment (schedule_at setting (moments_of arrivals)) (present setting arrivals) feed
 
--- a SIRI text served: it gives every call the propagated time of the last accepted feed, or has no journey where there
--- was none
+-- a SIRI text served: it gives every call the propagated time and place of the last accepted feed, or has no journey
+-- where there was none
 pub record ServesText (Cause : Type 0) (setting : Setting) (arrivals : List Arrival) (entry : Entry) : Type 0 where
   pub asked : IsRequest entry.input (Get resource.Timetable)
   pub text : List ℕ

@@ -43,8 +43,8 @@ pub record IsSetting (scope : Scope) (keep : Option ℕ) (files : Directory) (se
 
 -- standard output got the feed that is rebuilt of what arrived of the files' deliveries, in order, each taken after
 -- those before. Read as protobuf, its bytes mean a full dataset of version 2.0, made at the moment of the command; and
--- this feed, propagated by GTFS Realtime's rules, gives every stop of every journey exactly the time, skip or absence
--- of the last-recorded SIRI journey
+-- this feed, propagated by GTFS Realtime's rules, gives every stop of every journey exactly the time and place, skip or
+-- absence of the last-recorded SIRI journey
 pub record PublishesFeed (command : ToGtfsrt) (files : Directory) (before now : Option (List ℕ)) : Type 0 where
   pub setting : Setting
   pub has_setting : IsSetting command.scope None files setting
@@ -63,8 +63,8 @@ pub record IsFullFeed (name : List ℕ) (files : Directory) (feed : Feed) : Type
   pub means : MeansFeed body feed
   pub full : is_differential feed ≡ false
 
--- standard output got the delivery that says what the file's feed says: each call has the propagated time of its stop,
--- and read again it gives just the journeys of the feed with their readings
+-- standard output got the delivery that says what the file's feed says: each call has the propagated time and place of its
+-- stop, and read again it gives just the journeys of the feed with their readings
 pub record PublishesSiri (command : ToSiri) (files : Directory) (before now : Option (List ℕ)) : Type 0 where
   pub setting : Setting
   pub has_setting : IsSetting command.scope None files setting

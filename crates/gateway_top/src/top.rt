@@ -34,9 +34,9 @@ pub fn gateway<F: Files, D: Door, C: Clock, S: Sink, E: Sink>(
 
     // The headline, over the log of this call, where the files are told and the door tells its connections. Over any
     // connections, each feed served, read as protobuf and propagated by GTFS Realtime's rules, gives every stop of
-    // every dated journey in the window exactly the time, skip or absence of the last-recorded SIRI journey taken
-    // before it; each SIRI text served gives every call the propagated time of the last accepted feed; the feed's bytes
-    // are those rebuilt from all deliveries taken.
+    // every dated journey in the window exactly the time and place, skip or absence of the last-recorded SIRI journey
+    // taken before it; each SIRI text served gives every call the propagated time and place of the last accepted feed;
+    // the feed's bytes are those rebuilt from all deliveries taken.
     ensures headline { IfSome (F.told files.old) (λ folder. (told : Connections)
         → Tells (D.told door.old) (D.beside door.old) told
         → Headline (Rose (D.faults door.old) (D.faults door.new)) words.now folder [] told

@@ -20,7 +20,7 @@ use Rattle.journey_model.specs.Readings.{is_absent, is_skipped}
 abbrev pub is_timed : StopReading → Bool
 is_timed Absent = false
 is_timed Skipped = false
-is_timed (Timed arrival departure) = true
+is_timed (Timed arrival departure place) = true
 
 -- how each of so many stops reads: those of a cancelled journey are skipped
 abbrev pub each_stop : ℕ → JourneyReading → List StopReading
