@@ -36,6 +36,7 @@ use Rattle.gateway_core.specs.Alerts.{alerts}
 use Rattle.gateway_core.specs.Feeds.{IsRebuilt, are_ordered_by, comes_before, entities_of}
 use Rattle.gateway_core.specs.Gives.{GivesEach}
 use Rattle.gateway_core.proofs.OneLemmas.{same_counts}
+use Rattle.gateway_core.proofs.SaidLemmas.{alerts_passed, nothing_aside}
 
 -- the readings of the messages of a record
 abbrev dated : Schedule → Recorded → List DatedReading
@@ -186,4 +187,6 @@ gives_each at schedule records situations bytes is says servable = record {
       ap (λ all. or_nothing (last_reading trip day all) (nothing_known schedule trip)) (given_after schedule (full_dataset at entities) is.ordered is.numbered says)
       ∙ all_read schedule trip day is.ordered servable is.in_order
       ∙ ap (λ one. or_nothing (option_map (λ (one : Recorded). one.reading) one) (nothing_known schedule trip)) same;
+  aside = nothing_aside schedule (full_dataset at (entities_of schedule is.ordered is.numbered)) is.ordered is.numbered says;
+  passed = alerts_passed schedule (full_dataset at (entities_of schedule is.ordered is.numbered)) is.ordered is.numbered says;
 }
