@@ -52,21 +52,21 @@ said_cancelled schedule feed run trip day at named on runs =
 
 said_stops : (schedule : Schedule) (feed : Feed) (run : Run) (trip : ℕ) (day : ℤ) (at : ℤ × ℕ) (readings : List StopReading) → let one : Recorded = record { trip = trip; day = day; at = at; reading = Stops readings } in
     IsNamed schedule one → run_on schedule trip day ≡ Some run → schedule.table.runs trip day ≡ true
-    → SaysStops run (shortest run.start run.stops (Stops readings)) readings
+    → SaysStops run (shortest run (Stops readings)) readings
     → entity_said schedule feed (message (id_of schedule.table.trips trip) run one) ≡ Some (Ok (dated_reading one))
 said_stops schedule feed run trip day at readings named on runs says =
     rw (filled_is _ named.some_id, named.trip, filled_is (compact_text day) (omega (arith, named.date)), named.day, on, runs, moment_is at.0 named.moment, says.placed, says.read) refl
 
 said : (schedule : Schedule) (feed : Feed) (run : Run) (trip : ℕ) (day : ℤ) (at : ℤ × ℕ) (reading : JourneyReading) → let one : Recorded = record { trip = trip; day = day; at = at; reading = reading } in
     IsNamed schedule one → run_on schedule trip day ≡ Some run → schedule.table.runs trip day ≡ true
-    → Says run (shortest run.start run.stops reading) reading
+    → Says run (shortest run reading) reading
     → entity_said schedule feed (message (id_of schedule.table.trips trip) run one) ≡ Some (Ok (dated_reading one))
 said schedule feed run trip day at Cancelled named on runs says = said_cancelled schedule feed run trip day at named on runs
 said schedule feed run trip day at (Stops readings) named on runs says = said_stops schedule feed run trip day at readings named on runs says
 
 -- the messages of a record say just its reading
 pub says_itself : (schedule : Schedule) (one : Recorded) (run : Run) → IsNamed schedule one → run_on schedule one.trip one.day ≡ Some run → schedule.table.runs one.trip one.day ≡ true
-    → Says run (shortest run.start run.stops one.reading) one.reading → SaysItself schedule one
+    → Says run (shortest run one.reading) one.reading → SaysItself schedule one
 says_itself schedule one run named on runs says feed = by (is_silent one.reading) refl
   where
     by : (b : Bool) → is_silent one.reading ≡ b → map (entity_said schedule feed) (messages schedule one) ≡ map (λ entity. Some (Ok (dated_reading one))) (messages schedule one)

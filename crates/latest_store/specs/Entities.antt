@@ -36,7 +36,7 @@ message trip_id run one = record {
   deleted = false;
   trip_update = Some (record {
     trip = descriptor (compact_text one.day) trip_id one.reading;
-    updates = shortest run.start run.stops one.reading;
+    updates = shortest run one.reading;
     timestamp = Some (unsigned_abs one.at.0);
   });
   alert = None;

@@ -8,6 +8,7 @@ ghost use Rattle.journey_model.specs.Readings.{fits_trip};
 ghost use Rattle.journey_model.specs.Records.{recorded};
 ghost use Rattle.journey_model.specs.Schedules.{IsServable, run_on};
 ghost use Rattle.journey_model.specs.Dated.{run_of};
+ghost use Rattle.timetable.specs.Seen.{seen};
 ghost use Rattle.sparse_planner.specs.Means.{Says};
 ghost use Rattle.sparse_planner.specs.Shortest.{shortest};
 ghost use Rattle.latest_store.specs.Entities as spec;
@@ -20,26 +21,27 @@ use journey_model::{Context, DatedTrip, JourneyRecord, date_text};
 use service_day::day_compact;
 use sparse_planner::plan;
 use std::alloc::{AllocError, Global};
+use timetable::Timetable;
 
 // What the entity of a record says.
 fn message(
     alloc: Global,
+    table: &Timetable,
     trip_id: &str,
     dated: &DatedTrip<'_>,
     rec: &JourneyRecord,
 ) -> Result<Entity, AllocError>
-    requires { fits_trip dated.now.start dated.now.stops.now rec.now.reading ≡ true }
-    ensures message { (ids : List (List ℕ)) → IfOk result
-        (λ entity. entity ≡ spec.message trip_id.now (run_of ids dated.now) (recorded rec.now)) }
-    ensures says { (ids : List (List ℕ)) → IfOk result
-        (λ _. Says (run_of ids dated.now) (shortest dated.now.start dated.now.stops.now rec.now.reading)
-        rec.now.reading) }
+    requires { fits_trip (run_of (seen table.now) dated.now) rec.now.reading ≡ true }
+    ensures message { IfOk result (λ entity. entity
+        ≡ spec.message trip_id.now (run_of (seen table.now) dated.now) (recorded rec.now)) }
+    ensures says { IfOk result (λ _. Says (run_of (seen table.now) dated.now)
+        (shortest (run_of (seen table.now) dated.now) rec.now.reading) rec.now.reading) }
     ensures day { day_of Compact (compact_text rec.now.day) ≡ Some rec.now.day }
     ensures date { length (compact_text rec.now.day) ≡ 8 }
 {
     let date = day_compact(rec.day);
     let date = date_text(&date);
-    let updates = plan(alloc, dated, &rec.reading)?;
+    let updates = plan(alloc, table, dated, &rec.reading)?;
     let trip = descriptor(alloc, date, trip_id, &rec.reading)?;
     let id = journey_id(alloc, date, trip_id)?;
     Ok(Entity {
@@ -61,10 +63,10 @@ fn entity_of(
     dated: &DatedTrip<'_>,
     rec: &JourneyRecord,
 ) -> Result<Bytes, AllocError>
-    requires fits { fits_trip dated.now.start dated.now.stops.now rec.now.reading ≡ true }
+    requires fits { fits_trip (run_of context.now.table dated.now) rec.now.reading ≡ true }
     requires trip { rec.now.trip.0 < length context.now.table.trips }
     requires on_day { run_on context.now rec.now.trip.0 rec.now.day
-        ≡ Some (run_of context.now.table.stops dated.now) }
+        ≡ Some (run_of context.now.table dated.now) }
     requires runs { context.now.table.runs rec.now.trip.0 rec.now.day ≡ true }
     ensures bytes { IfOk result (λ bytes. bytes ≡ spec.entity context.now (recorded rec.now)) }
     ensures means { IfOk result (λ bytes. (before : List ℕ) (feed : Feed) → MeansFeed before feed
@@ -75,7 +77,13 @@ fn entity_of(
     if is_silent(&rec.reading) {
         return Ok(Bytes::new(alloc));
     }
-    let entity = message(alloc, context.table.trip_id(rec.trip), dated, rec)?;
+    let entity = message(
+        alloc,
+        context.table,
+        context.table.trip_id(rec.trip),
+        dated,
+        rec,
+    )?;
     entity_bytes(alloc, &entity)
 }
 

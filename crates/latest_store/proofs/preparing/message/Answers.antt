@@ -2,4 +2,4 @@
 use Rattle.latest_store.proofs.preparing.message.Goals as goal
 
 pub returns-clause-says : goal.returns-clause-says
-returns-clause-says c = λ ids. rw c.in_ok-updates.ensures.shortest at (c.in_ok-updates.ensures.says ids)
+returns-clause-says c = rw c.in_ok-updates.ensures.shortest at c.in_ok-updates.ensures.says
