@@ -7,5 +7,7 @@ pub mod LastLemmas
 pub mod PlaceLemmas
 pub mod ServableLemmas
 pub mod SpreadLemmas
+pub mod StationLemmas
 pub mod TimeLemmas
 pub mod UpdateLemmas
+pub mod WholeLemmas

@@ -1,7 +1,8 @@
--- What a feed says of a journey can be served: its stops read at most a week from their planned times.
-use Rattle.std.proofs.Common.{◌≡◌, ◌+◌, ◌<◌, ◌==◌, ◌&&◌, ◌||◌, ◌∷◌, [], ℕ, suc, ℤ, pos, ◌+ℤ◌, ◌-ℤ◌, Bool, true, false, List, map, length, position, Option, Some, None, option_map, option_and_then, not, Result, Ok, Err, if◌then◌else◌, refl, subst, ap, arith}
+-- What a feed says of a journey can be served: its stops read at most a week from their planned times, at places of
+-- their stations whose ids aren't too long.
+use Rattle.std.proofs.Common.{◌≡◌, ◌+◌, ◌<◌, ◌==◌, ◌&&◌, ◌||◌, ◌∷◌, [], ℕ, suc, ℤ, pos, ◌+ℤ◌, ◌-ℤ◌, Bool, true, false, List, map, length, position, Option, Some, None, option_map, option_and_then, Result, Ok, Err, if◌then◌else◌, refl, subst, ap, arith}
 use Rattle.std.specs.Prelude.{All, nat_le, slice_get}
-use Rattle.std.proofs.lemmas.Bool.{eqb-true, false≢true}
+use Rattle.std.proofs.lemmas.Bool.{and_parts, eqb-true}
 use Rattle.std.proofs.lemmas.Int.{ints}
 use Rattle.std.proofs.lemmas.List.Elements.{All-from_recursion}
 use Rattle.std.proofs.lemmas.List.Quantifiers.{position-Some}
@@ -17,17 +18,22 @@ use Rattle.gw_base.specs.declared.messages.StopUpdate.{StopUpdate}
 use Rattle.gw_base.specs.declared.messages.TripUpdate.{TripUpdate}
 use Rattle.service_day.specs.Windows.{start_in}
 use Rattle.timetable.specs.Planned.{planned}
+use Rattle.timetable.proofs.SoundLemmas.{stops-sound}
+use Rattle.timetable.specs.Limits.{stop_limit}
+use Rattle.timetable.specs.Seen.{seen}
+use Rattle.timetable.specs.Stops.{are_known, are_rising, are_stops_of, are_timed}
+use Rattle.timetable.specs.Table.{Table}
+use Rattle.timetable.specs.declared.numbers.StopNo.{StopNo}
 use Rattle.timetable.specs.declared.stop_row.StopRow.{StopRow}
-use Rattle.gw_base.specs.Chains.{◌>>=◌}
 use Rattle.journey_model.specs.FeedReadings as feeds
 use Rattle.journey_model.specs.FeedReadings.{day_named, entity_said, given_all, is_last, last_of_each, reading_said, readings, recorded_in, said_of_day, said_of_trip, said_on, stops_said, trip_named, update_said, with_reading}
-use Rattle.journey_model.specs.Propagation.{carried, greater, later_by, prop, propagated, skips_at, supplied, supplier, supplies, timed}
+use Rattle.journey_model.specs.Propagation.{carried, later_by, prop, propagated, skips_at, supplied, supplier, timed}
 use Rattle.journey_model.specs.Readings.{are_near, fits_trip, is_near}
-use Rattle.journey_model.specs.Runs.{Run, planned_at}
+use Rattle.journey_model.specs.Runs.{Run, planned_at, stop_at}
 use Rattle.journey_model.specs.Schedules.{Schedule, run_from}
 use Rattle.journey_model.specs.Times.{is_delay}
 use Rattle.journey_model.specs.Names.{filled_text}
-use Rattle.journey_model.specs.Updates.{is_no_data, is_read, is_scheduled, is_skipped, position_of, places, places_from, times, times_fault}
+use Rattle.journey_model.specs.Updates.{is_no_data, is_skipped, place_at, places, times}
 use Rattle.journey_model.specs.declared.fault.Fault.{Fault}
 use Rattle.journey_model.specs.declared.fault.Fault.TheVariants.{NotRunning, OtherRelation}
 use Rattle.journey_model.specs.declared.readings.DatedReading.{DatedReading}
@@ -36,111 +42,40 @@ use Rattle.journey_model.specs.declared.readings.JourneyReading.TheVariants.{Can
 use Rattle.journey_model.specs.declared.readings.StopReading.{StopReading}
 use Rattle.journey_model.specs.declared.readings.StopReading.TheVariants as reading
 use Rattle.propagation.specs.Feeds.{IsServable}
-use Rattle.propagation.proofs.PlaceLemmas.{position-fits}
+use Rattle.propagation.proofs.PlaceLemmas.{is_kept, places-from}
+use Rattle.propagation.proofs.StationLemmas.{IsKnown, updates-keep}
+use Rattle.propagation.proofs.WholeLemmas.{IsWhole, Supplies, and_both, supplier-whole, whole-all, whole-scheduled}
 use Rattle.propagation.proofs.TimeLemmas.{AreNear, times_near}
-
--- an update at its position, without a fault
-record IsWhole (run : Run) (one : ℕ × StopUpdate) : Type 0 where
-  read : is_read one.1 ≡ true
-  number : ℕ
-  whole : times_fault number (planned_at run one.0) one.1 ≡ None
-
--- updates at their places have no fault
-whole-all : (run : Run) (number : ℕ) (after : Option ℕ) (updates : List StopUpdate) (at : List ℕ)
-    → places_from run number after updates ≡ Ok at
-    → AllByRecursion (IsWhole run) (zip at updates)
-whole-all run number after [] at e = let none : [] ≡ at = cc in rw (← none) tt
-whole-all run number after (update ∷ updates) at e =
-    first (λ position others is. whole-all run (number + 1) (Some position) updates others is)
-    (position_of run number after update) refl e
-  where
-    rest : (position : ℕ)
-        → ((others : List ℕ) → places_from run (number + 1) (Some position) updates ≡ Ok others
-        → AllByRecursion (IsWhole run) (zip others updates))
-        → IsWhole run (position, update) → (said : Result (List ℕ) Fault)
-        → places_from run (number + 1) (Some position) updates ≡ said
-        → (said >>= λ others. Ok (position ∷ others)) ≡ Ok at → AllByRecursion (IsWhole run) (zip at (update ∷ updates))
-    rest position more here (Ok others) is same = let all : position ∷ others ≡ at = cc in rw (← all) (here, more others is)
-    rest position more here (Err fault) is same = cc
-
-    first : ((position : ℕ) (others : List ℕ) → places_from run (number + 1) (Some position) updates ≡ Ok others
-        → AllByRecursion (IsWhole run) (zip others updates))
-        → (said : Result ℕ Fault) → position_of run number after update ≡ said
-        → (said >>= λ position. places_from run (number + 1) (Some position) updates >>= λ others. Ok (position ∷ others))
-        ≡ Ok at
-        → AllByRecursion (IsWhole run) (zip at (update ∷ updates))
-    first more (Ok position) is same =
-        let fits = position-fits run number after update position is in
-        rest position (more position) (record { read = fits.read; number = number; whole = fits.whole })
-        (places_from run (number + 1) (Some position) updates) refl same
-    first more (Err fault) is same = cc
 
 -- their own times are near the planned ones
 whole-near : (run : Run) (one : ℕ × StopUpdate) (both : ℤ × ℤ) → IsWhole run one → is_skipped one.1 ≡ false
     → is_no_data one.1 ≡ false
     → times (planned_at run one.0) one.1 ≡ Some both → AreNear (planned_at run one.0) both
 whole-near run one both h kept known is =
-    let counts : is_scheduled one.1 ≡ true =
-    scheduled (is_scheduled one.1) (is_skipped one.1) (is_no_data one.1) h.read kept known in
-    times_near h.number (planned_at run one.0) _ _ both (rw (counts, is) at h.whole) is
-  where
-    scheduled : (a b c : Bool) → (a || (b || c)) ≡ true → b ≡ false → c ≡ false → a ≡ true
-    scheduled true b c e p q = refl
-    scheduled false b c e p q = rw (p, q) at e
-
--- the update that supplies a stop
-record Supplies (run : Run) (one : ℕ × StopUpdate) : Type 0 where
-  whole : IsWhole run one
-  kept : is_skipped one.1 ≡ false
-
-supplier-whole : (run : Run) (position : ℕ) (updates : List (ℕ × StopUpdate)) (one : ℕ × StopUpdate)
-    → AllByRecursion (IsWhole run) updates → supplier position updates ≡ Some one → Supplies run one
-supplier-whole run position [] one h e = absurd (none-some one e)
-supplier-whole run position (first ∷ others) one h e =
-    by (supplies position first) refl (supplier position others) (λ same. supplier-whole run position others one h.1 same) e
-  where
-    kept-first : (a b : Bool) → (a && not b) ≡ true → b ≡ false
-    kept-first true true e = absurd (false≢true e)
-    kept-first true false e = refl
-    kept-first false b e = absurd (false≢true e)
-
-    here : supplies position first ≡ true → ◌≡◌ {A = Option (ℕ × StopUpdate)} (Some first) (Some one) → Supplies run one
-    here taken same = let is : first ≡ one =
-        cc in rw (← is) (record { whole = h.0; kept = kept-first _ (is_skipped first.1) taken })
-
-    greater-one : (b : Bool) (later : ℕ × StopUpdate) → supplies position first ≡ true
-        → (Some later ≡ Some one → Supplies run one)
-        → ◌≡◌ {A = Option (ℕ × StopUpdate)} (if b then Some later else Some first) (Some one) → Supplies run one
-    greater-one true later taken rest same = rest same
-    greater-one false later taken rest same = here taken same
-
-    by : (own : Bool) → supplies position first ≡ own → (found : Option (ℕ × StopUpdate))
-        → (found ≡ Some one → Supplies run one)
-        → greater (if own then Some first else None) found ≡ Some one → Supplies run one
-    by true taken (Some later) rest same = greater-one (nat_le first.0 later.0) later taken rest same
-    by true taken None rest same = here taken same
-    by false taken found rest same = rest same
-
-and_both : (a b : Bool) → a ≡ true → b ≡ true → (a && b) ≡ true
-and_both a b p q = rw (p, q) refl
+    let own = (is_kept run h.number one.0 one.1 (whole-scheduled run one h kept known) h.whole).own in
+    times_near h.number (planned_at run one.0) _ _ both (rw is at own) is
 
 -- a stop reads near its planned times
-later-near : (plan : ℤ × ℤ) (delay : ℤ) → is_delay delay ≡ true → is_near plan (later_by plan delay) ≡ true
-later-near plan delay h =
+later-near : (scheduled : StopNo) (plan : ℤ × ℤ) (delay : ℤ) → is_delay delay ≡ true
+    → is_near plan (later_by scheduled plan delay) ≡ true
+later-near scheduled plan delay h =
     let arrival : (plan.0 +ℤ delay) -ℤ plan.0 ≡ delay = omega (arith, ints) in
     let departure : (plan.1 +ℤ delay) -ℤ plan.1 ≡ delay = omega (arith, ints) in
     and_both (is_delay ((plan.0 +ℤ delay) -ℤ plan.0)) (is_delay ((plan.1 +ℤ delay) -ℤ plan.1)) (rw arrival h)
     (rw departure h)
 
-timed-near : (plan : ℤ × ℤ) (both : Option (ℤ × ℤ)) → ((found : ℤ × ℤ) → both ≡ Some found → AreNear plan found)
-    → is_near plan (timed both) ≡ true
-timed-near plan None h = refl
-timed-near plan (Some both) h = let near = h both refl in and_both _ _ near.arrival near.departure
+timed-near : (place : StopNo) (plan : ℤ × ℤ) (both : Option (ℤ × ℤ))
+    → ((found : ℤ × ℤ) → both ≡ Some found → AreNear plan found)
+    → is_near plan (timed place both) ≡ true
+timed-near place plan None h = refl
+timed-near place plan (Some both) h = let near = h both refl in and_both _ _ near.arrival near.departure
 
-carried-near : (plan before : ℤ × ℤ) (both : Option (ℤ × ℤ))
-    → ((found : ℤ × ℤ) → both ≡ Some found → AreNear before found) → is_near plan (carried plan before both) ≡ true
-carried-near plan before None h = refl
-carried-near plan before (Some both) h = later-near plan (both.1 -ℤ before.1) (h both refl).departure
+carried-near : (scheduled : StopNo) (plan before : ℤ × ℤ) (both : Option (ℤ × ℤ))
+    → ((found : ℤ × ℤ) → both ≡ Some found → AreNear before found)
+    → is_near plan (carried scheduled plan before both) ≡ true
+carried-near scheduled plan before None h = refl
+carried-near scheduled plan before (Some both) h =
+    later-near scheduled plan (both.1 -ℤ before.1) (h both refl).departure
 
 supplied-near : (run : Run) (position : ℕ) (found : Option (ℕ × StopUpdate))
     → ((one : ℕ × StopUpdate) → found ≡ Some one → Supplies run one)
@@ -154,23 +89,26 @@ supplied-near run position (Some (at, update)) h = no_data (is_no_data update) r
 
     here : (b : Bool) → (at == position) ≡ b → is_no_data update ≡ false
         → is_near (planned_at run position)
-        (if b then timed (times (planned_at run position) update)
-        else carried (planned_at run position) (planned_at run at) (times (planned_at run at) update)) ≡ true
+        (if b then timed (place_at run position update) (times (planned_at run position) update)
+        else carried (stop_at run position) (planned_at run position) (planned_at run at)
+        (times (planned_at run at) update)) ≡ true
     here true e known =
         let same : at ≡ position = eqb-true at position e in
         let own : (both : ℤ × ℤ) → times (planned_at run position) update ≡ Some both
         → AreNear (planned_at run position) both =
         subst (λ (p : ℕ). (both : ℤ × ℤ) → times (planned_at run p) update ≡ Some both
         → AreNear (planned_at run p) both) same (λ both is. near both known is) in
-        timed-near (planned_at run position) (times (planned_at run position) update) own
+        timed-near (place_at run position update) (planned_at run position) (times (planned_at run position) update) own
     here false e known =
-        carried-near (planned_at run position) (planned_at run at) (times (planned_at run at) update)
+        carried-near (stop_at run position) (planned_at run position) (planned_at run at)
+        (times (planned_at run at) update)
         (λ both is. near both known is)
 
     no_data : (b : Bool) → is_no_data update ≡ b
         → is_near (planned_at run position) (if b then reading.Absent else
-        (if at == position then timed (times (planned_at run position) update)
-        else carried (planned_at run position) (planned_at run at) (times (planned_at run at) update))) ≡ true
+        (if at == position then timed (place_at run position update) (times (planned_at run position) update)
+        else carried (stop_at run position) (planned_at run position) (planned_at run at)
+        (times (planned_at run at) update))) ≡ true
     no_data true e = refl
     no_data false e = here (at == position) refl e
 
@@ -195,23 +133,26 @@ rows-near start (row ∷ rows) reads low h =
     ≡ true) (omega arith) (h (suc i))))
 
 -- what an update says of its trip fits it
-pub reading-fits : (run : Run) (update : TripUpdate) (found : JourneyReading) → reading_said run update ≡ Ok found
-    → fits_trip run.start run.stops found ≡ true
-reading-fits run update found e = cancelled (feeds.is_cancelled update) e
+pub reading-fits : (run : Run) (update : TripUpdate) (found : JourneyReading) → IsKnown run
+    → reading_said run update ≡ Ok found → fits_trip run found ≡ true
+reading-fits run update found known e = cancelled (feeds.is_cancelled update) e
   where
     stops : (said : Result (List ℕ) Fault) → places run update.updates ≡ said → stops_said run update said ≡ Ok found
-        → fits_trip run.start run.stops found ≡ true
+        → fits_trip run found ≡ true
     stops (Err fault) is same = cc
     stops (Ok at) is same =
         let all : Stops (propagated run at update.updates) ≡ found = cc in
-        rw (← all) (rows-near run.start run.stops (prop run (zip at update.updates)) 0
+        let from = places-from run update.updates at is in
+        let whole = whole-all run 0 None update.updates at from.0 in
+        rw (← all) (and_both _ _ (rows-near run.start run.stops (prop run (zip at update.updates)) 0
         (λ i. subst (λ (position : ℕ). is_near (planned_at run i) (prop run (zip at update.updates) position) ≡ true)
         (omega arith)
-        (prop-near run (zip at update.updates) i (whole-all run 0 None update.updates at is))))
+        (prop-near run (zip at update.updates) i whole)))
+        (updates-keep run update.updates at known whole from.1))
 
     scheduled : (b : Bool)
         → (if b then stops_said run update (places run update.updates) else Err (OtherRelation update.trip.relation))
-        ≡ Ok found → fits_trip run.start run.stops found ≡ true
+        ≡ Ok found → fits_trip run found ≡ true
     scheduled true same = stops (places run update.updates) refl same
     scheduled false same = cc
 
@@ -219,9 +160,27 @@ reading-fits run update found e = cancelled (feeds.is_cancelled update) e
         → (if b then Ok Cancelled
         else (if feeds.is_scheduled update then stops_said run update (places run update.updates)
         else Err (OtherRelation update.trip.relation))) ≡ Ok found
-        → fits_trip run.start run.stops found ≡ true
+        → fits_trip run found ≡ true
     cancelled true same = let is : Cancelled ≡ found = cc in rw (← is) refl
     cancelled false same = scheduled (feeds.is_scheduled update) same
+
+-- the stops of the trips of a schedule are known
+schedule-known : (schedule : Schedule) (trip : ℕ) (start : ℤ) → trip < length schedule.table.trips
+    → IsKnown (run_from schedule.table trip start)
+schedule-known schedule trip start within =
+    let table = schedule.timetable in
+    let sound : (other : ℕ) → other < length table.trips
+    → are_stops_of (length table.stops) ((seen table).stops_of other) ≡ true =
+    stops-sound table.trips table.routes table.stops table.carried.items table.stop_rows.items table.in_range in
+    stops-known (length schedule.table.stops) (schedule.table.stops_of trip)
+    (subst (λ (shown : Table). (other : ℕ) → other < length shown.trips
+    → are_stops_of (length shown.stops) (shown.stops_of other) ≡ true) schedule.shows sound trip within)
+  where
+    stops-known : (stops : ℕ) (rows : List StopRow) → are_stops_of stops rows ≡ true → are_known stops rows ≡ true
+    stops-known stops rows h =
+        let few = and_parts (nat_le (length rows) stop_limit) (are_rising rows && (are_known stops rows && are_timed rows)) h in
+        let rising = and_parts (are_rising rows) (are_known stops rows && are_timed rows) few.1 in
+        (and_parts (are_known stops rows) (are_timed rows) rising.1).0
 
 -- what is said of a trip on a day of the window
 reading-servable : (schedule : Schedule) (trip : ℕ) (day start : ℤ) (recorded : Option ℤ) (update : TripUpdate)
@@ -237,7 +196,8 @@ reading-servable schedule trip day start recorded update one known runs in_windo
         trip_in = known;
         run = run_from schedule.table trip start;
         on_day = ap (option_map (run_from schedule.table trip)) in_window;
-        fits = reading-fits (run_from schedule.table trip start) update found is;
+        fits = reading-fits (run_from schedule.table trip start) update found
+            (schedule-known schedule trip start known) is;
       };
       runs = runs;
     })

@@ -9,14 +9,15 @@ use Rattle.std.specs.List.{list_all, range_with_len}
 use Rattle.std.specs.Option.{option_map_or, option_or}
 use Rattle.std.proofs.lemmas.List.FromFn.{map-range_with_len_more}
 use Rattle.timetable.specs.Planned.{planned}
+use Rattle.timetable.specs.declared.numbers.StopNo.{StopNo}
 use Rattle.timetable.specs.declared.stop_row.StopRow.{StopRow}
 use Rattle.timetable.proofs.IdLemmas.{and-left, and-right}
 use Rattle.gw_base.specs.declared.messages.StopUpdate.{StopUpdate}
 use Rattle.gw_base.proofs.Elements.{or_assoc, or_none}
 use Rattle.journey_model.proofs.Suppliers.{Rise, last_supplier, supplier-last}
 use Rattle.journey_model.specs.Propagation.{carried, prop, skips_at, supplied, supplier, supplies, timed}
-use Rattle.journey_model.specs.Runs.{Run, planned_at}
-use Rattle.journey_model.specs.Updates.{is_no_data, is_skipped, times}
+use Rattle.journey_model.specs.Runs.{Run, planned_at, stop_at}
+use Rattle.journey_model.specs.Updates.{is_no_data, is_skipped, place_at, times}
 use Rattle.journey_model.specs.declared.readings.StopReading.{StopReading}
 use Rattle.journey_model.specs.declared.readings.StopReading.TheVariants as reading
 use Rattle.propagation.specs.Saying.{placed_at, says_at, says_times}
@@ -133,31 +134,36 @@ last_supply-push (x ∷ xs) one =
 
 -- how a stop after the last update reads
 supplied-later : (run : Run) (position : ℕ) (before : List (ℕ × StopUpdate)) → all_before position before ≡ true
-    → supplied run position (last_supply before) ≡ later (planned_at run position) (delay_of run (last_supply before))
+    → supplied run position (last_supply before)
+    ≡ later (stop_at run position) (planned_at run position) (delay_of run (last_supply before))
 supplied-later run position [] e = refl
 supplied-later run position (one ∷ others) e =
     by (last_supply others)
     (supplied-later run position others (and-right (nat_lt one.0 position) (all_before position others) e))
     (is_skipped one.1)
   where
-    timed-later : (both : Option (ℤ × ℤ)) → carried (planned_at run position) (planned_at run one.0) both
-        ≡ later (planned_at run position) (option_map (λ both. both.1 -ℤ (planned_at run one.0).1) both)
+    timed-later : (both : Option (ℤ × ℤ))
+        → carried (stop_at run position) (planned_at run position) (planned_at run one.0) both
+        ≡ later (stop_at run position) (planned_at run position) (option_map (λ both. both.1 -ℤ (planned_at run one.0).1) both)
     timed-later None = refl
     timed-later (Some both) = refl
 
     alone : (no_data : Bool)
         → (if no_data then reading.Absent
-        else carried (planned_at run position) (planned_at run one.0) (times (planned_at run one.0) one.1))
-        ≡ later (planned_at run position)
+        else carried (stop_at run position) (planned_at run position) (planned_at run one.0)
+        (times (planned_at run one.0) one.1))
+        ≡ later (stop_at run position) (planned_at run position)
         (if no_data then None
         else option_map (λ both. both.1 -ℤ (planned_at run one.0).1) (times (planned_at run one.0) one.1))
     alone true = refl
     alone false = timed-later (times (planned_at run one.0) one.1)
 
-    by : (last : Option (ℕ × StopUpdate)) → supplied run position last ≡ later (planned_at run position) (delay_of run last)
+    by : (last : Option (ℕ × StopUpdate))
+        → supplied run position last ≡ later (stop_at run position) (planned_at run position) (delay_of run last)
         → (skips : Bool)
         → supplied run position (option_or last (if skips then None else Some one))
-        ≡ later (planned_at run position) (delay_of run (option_or last (if skips then None else Some one)))
+        ≡ later (stop_at run position) (planned_at run position)
+        (delay_of run (option_or last (if skips then None else Some one)))
     by (Some last) h skips = h
     by None h true = refl
     by None h false =
@@ -210,7 +216,8 @@ before-push position (first ∷ before) one e h =
 prop-after : (run : Run) (position : ℕ) (before after : List (ℕ × StopUpdate)) → Rise 0 (before ++ after)
     → all_before position before ≡ true
     → are_rising_from (position + 1) after ≡ true
-    → prop run (before ++ after) position ≡ later (planned_at run position) (delay_of run (last_supply before))
+    → prop run (before ++ after) position
+    ≡ later (stop_at run position) (planned_at run position) (delay_of run (last_supply before))
 prop-after run position before after rise earlier rising =
     let none : skips_at position (before ++ after) ≡ false =
     list_any-append (λ one. (one.0 == position) && is_skipped one.1) before after
@@ -225,7 +232,7 @@ says-reading : (run : Run) (position : ℕ) (update : StopUpdate) (delay : Optio
     → is_skipped update ≡ skips → (last : Option (ℕ × StopUpdate))
     → (if skips then reading.Skipped
     else supplied run position (option_or (if skips then None else Some (position, update)) last))
-    ≡ reading_at (planned_at run position) delay (Some (says_at (planned_at run position) update))
+    ≡ reading_at (stop_at run position) (planned_at run position) delay (Some (says_at run position update))
 says-reading run position update delay true e last = rw e refl
 says-reading run position update delay false e last =
     rw e (no_data (is_no_data update) (times (planned_at run position) update))
@@ -235,27 +242,29 @@ says-reading run position update delay false e last =
 
     no_data : (b : Bool) (both : Option (ℤ × ℤ))
         → (if b then reading.Absent
-        else (if position == position then timed both else carried (planned_at run position) (planned_at run position) both))
-        ≡ reading_at (planned_at run position) delay (Some (if b then NoData else says_times (planned_at run position) both))
+        else (if position == position then timed (place_at run position update) both
+        else carried (stop_at run position) (planned_at run position) (planned_at run position) both))
+        ≡ reading_at (stop_at run position) (planned_at run position) delay
+        (Some (if b then NoData else says_times (place_at run position update) (planned_at run position) both))
     no_data true both = refl
     no_data false None = rw here refl
     no_data false (Some both) = rw here refl
 
 carried-after : (run : Run) (position : ℕ) (update : StopUpdate) (before : List (ℕ × StopUpdate))
-    → delay_after (delay_of run (last_supply before)) (Some (says_at (planned_at run position) update))
+    → delay_after (delay_of run (last_supply before)) (Some (says_at run position update))
     ≡ delay_of run (last_supply (before ++ (position, update) ∷ []))
 carried-after run position update before = rw (last_supply-push before (position, update)) (skips (is_skipped update) refl)
   where
     no_data : (b : Bool) → is_no_data update ≡ b → (both : Option (ℤ × ℤ)) → times (planned_at run position) update ≡ both
         → delay_after (delay_of run (last_supply before))
-        (Some (if b then NoData else says_times (planned_at run position) both))
+        (Some (if b then NoData else says_times (place_at run position update) (planned_at run position) both))
         ≡ delay_of run (Some (position, update))
     no_data true e both is = rw e refl
     no_data false e None is = rw (e, is) refl
     no_data false e (Some both) is = rw (e, is) refl
 
     skips : (b : Bool) → is_skipped update ≡ b
-        → delay_after (delay_of run (last_supply before)) (Some (says_at (planned_at run position) update))
+        → delay_after (delay_of run (last_supply before)) (Some (says_at run position update))
         ≡ delay_of run (option_or (unless_skipped (position, update)) (last_supply before))
     skips true e = rw e refl
     skips false e = rw e (no_data (is_no_data update) refl (times (planned_at run position) update) refl)
@@ -263,7 +272,8 @@ carried-after run position update before = rw (last_supply-push before (position
 -- how the stop at a position reads, and what is carried after it
 pub record Step (run : Run) (updates : List (ℕ × StopUpdate)) (position : ℕ) (delay : Option ℤ)
     (rest : List MatchedUpdate) : Type 0 where
-  pub reads : prop run updates position ≡ reading_at (planned_at run position) delay (first_at rest position)
+  pub reads : prop run updates position
+      ≡ reading_at (stop_at run position) (planned_at run position) delay (first_at rest position)
   pub reached : Reached run updates (position + 1) (delay_after delay (first_at rest position))
       (if is_some (first_at rest position) then drop 1 rest else rest)
 
@@ -370,18 +380,25 @@ planned_row start [] position other within = absurd (omega arith)
 planned_row start (row ∷ rows) zero other within = refl
 planned_row start (row ∷ rows) (suc position) other within = planned_row start rows position other (omega arith)
 
+-- and its scheduled stop
+pub scheduled_row : (stops : List StopRow) (position : ℕ) (other : StopRow) → position < length stops
+    → (get_or stops position other).stop ≡ option_map_or (λ row. row.stop) (slice_get stops position) (record { 0 = 0 })
+scheduled_row [] position other within = absurd (omega arith)
+scheduled_row (row ∷ rows) zero other within = refl
+scheduled_row (row ∷ rows) (suc position) other within = scheduled_row rows position other (omega arith)
+
 -- one stop more
 pub spread_more : (run : Run) (updates : List (ℕ × StopUpdate)) (position : ℕ) (delay delay' : Option ℤ)
     (rest rest' : List MatchedUpdate) (all all' : List StopReading)
-    (said : Option Prediction) (planned : ℤ × ℤ) (read : StopReading) → SpreadTo run updates position delay rest all
-    → said ≡ first_at rest position → planned ≡ planned_at run position
-    → read ≡ reading_at planned delay said → all' ≡ all ++ read ∷ [] → delay' ≡ delay_after delay said
+    (said : Option Prediction) (scheduled : StopNo) (planned : ℤ × ℤ) (read : StopReading) → SpreadTo run updates position delay rest all
+    → said ≡ first_at rest position → scheduled ≡ stop_at run position → planned ≡ planned_at run position
+    → read ≡ reading_at scheduled planned delay said → all' ≡ all ++ read ∷ [] → delay' ≡ delay_after delay said
     → rest' ≡ (if is_some said then drop 1 rest else rest)
     → SpreadTo run updates (position + 1) delay' rest' all'
-spread_more run updates position delay delay' rest rest' all all' said planned read h is_said is_planned is_read pushed
-    carries left =
+spread_more run updates position delay delay' rest rest' all all' said scheduled planned read h is_said is_scheduled
+    is_planned is_read pushed carries left =
     let next = step-reached run updates position delay rest h.reached in
-    let reads : read ≡ prop run updates position = is_read ∙ (rw (is_said, is_planned) (sym next.reads)) in
+    let reads : read ≡ prop run updates position = is_read ∙ (rw (is_said, is_scheduled, is_planned) (sym next.reads)) in
     record {
       reads = pushed ∙
           (rw (h.reads, reads) (sym (map-range_with_len_more (prop run updates) 0 position position (omega arith))));

@@ -13,7 +13,7 @@ use Rattle.journey_model.specs.declared.readings.StopReading.{StopReading}
 use Rattle.propagation.specs.Saying.{placed_all, placed_at}
 use Rattle.propagation.specs.Spreading.{are_rising_from}
 use Rattle.propagation.specs.declared.placing.MatchedUpdate.{MatchedUpdate}
-use Rattle.propagation.proofs.PlaceLemmas.{places-rise}
+use Rattle.propagation.proofs.PlaceLemmas.{places-from, places-rise}
 
 -- the readings of placed updates are those of the updates
 pub said_stops : (run : Run) (update : TripUpdate) (placed : List MatchedUpdate) (all : List StopReading)
@@ -28,5 +28,5 @@ said_stops run update placed all e reads = by (places run update.updates) refl e
     by (Ok at) is same =
         let are : map (placed_at run) (zip at update.updates) ≡ placed = cc in
         ap (λ readings. Ok (Stops readings))
-        (sym (reads (zip at update.updates) (places-rise run 0 None update.updates at is) (sym are)))
+        (sym (reads (zip at update.updates) (places-rise run 0 None update.updates at (places-from run update.updates at is).0) (sym are)))
     by (Err fault) is same = cc

@@ -1,6 +1,7 @@
 -- What placed updates say of the stops of a trip, stop by stop.
 use Rattle.std.specs.Prelude.{◌&&◌, ◌==◌, ◌+◌, ℕ, ℤ, Bool, true, nat_le, List, [], ◌∷◌, Option, Some, None, if◌then◌else◌}
 use Rattle.gw_base.specs.declared.messages.StopUpdate.{StopUpdate}
+use Rattle.timetable.specs.declared.numbers.StopNo.{StopNo}
 use Rattle.journey_model.specs.Propagation.{later_by}
 use Rattle.journey_model.specs.declared.readings.StopReading.{StopReading}
 use Rattle.journey_model.specs.declared.readings.StopReading.TheVariants as reading
@@ -23,16 +24,16 @@ abbrev pub delay_after : Option ℤ → Option Prediction → Option ℤ
 delay_after delay None = delay
 delay_after delay (Some Skipped) = delay
 delay_after delay (Some NoData) = None
-delay_after delay (Some (Timed arrival departure later)) = Some later
+delay_after delay (Some (Timed arrival departure later place)) = Some later
 
--- both planned times, later by a delay that is carried on
-abbrev pub later : ℤ × ℤ → Option ℤ → StopReading
-later planned None = reading.Absent
-later planned (Some delay) = later_by planned delay
+-- both planned times at the scheduled stop, later by a delay that is carried on
+abbrev pub later : StopNo → ℤ × ℤ → Option ℤ → StopReading
+later scheduled planned None = reading.Absent
+later scheduled planned (Some delay) = later_by scheduled planned delay
 
--- how a stop with these planned times reads: by what is said of it, else by the delay that is carried on
-abbrev pub reading_at : ℤ × ℤ → Option ℤ → Option Prediction → StopReading
-reading_at planned delay None = later planned delay
-reading_at planned delay (Some Skipped) = reading.Skipped
-reading_at planned delay (Some NoData) = reading.Absent
-reading_at planned delay (Some (Timed arrival departure late)) = reading.Timed arrival departure
+-- how a scheduled stop with these planned times reads: by what is said of it, else by the delay that is carried on
+abbrev pub reading_at : StopNo → ℤ × ℤ → Option ℤ → Option Prediction → StopReading
+reading_at scheduled planned delay None = later scheduled planned delay
+reading_at scheduled planned delay (Some Skipped) = reading.Skipped
+reading_at scheduled planned delay (Some NoData) = reading.Absent
+reading_at scheduled planned delay (Some (Timed arrival departure late place)) = reading.Timed arrival departure place

@@ -25,7 +25,7 @@ fn read_dated(
     update: &TripUpdate,
     dated: &DatedTrip<'_>,
 ) -> Result<DatedReading, UpdateFault>
-    ensures { let run = run_of context.now.table.stops dated.now in
+    ensures { let run = run_of context.now.table dated.now in
         let recorded = spec.recorded_in (bare_feed timestamp) update.now in
         let said = spec.reading_said run update.now in
         Propagates (spec.with_reading dated.now.trip.0 dated.now.day recorded said) result }

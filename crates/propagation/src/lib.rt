@@ -11,6 +11,8 @@ mod entity_said;
 mod events;
 mod feeds;
 mod folding;
+mod naming;
+mod place_sizes;
 mod placing;
 mod propagating;
 mod room;

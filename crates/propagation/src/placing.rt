@@ -1,22 +1,28 @@
 //! The places of updates in their trip, and what each says there. The functions meet `specs/Saying.antt` and the
 //! places of `journey_model`'s `specs/Updates.antt`.
-ghost use Rattle.std.specs.Prelude.{◌≡◌, ◌<◌, ℕ, true, Ok, Some, IsTrue, IfSome, length, position, List as Values};
-ghost use Rattle.std.specs.Str.{bytes_eq};
+ghost use Rattle.std.specs.Prelude.{◌≡◌, ◌<◌, true, None, Ok, IfOk, IfSome, length};
 ghost use Rattle.gw_base.specs.Chains.{unless_fault};
+ghost use Rattle.timetable.specs.Seen.{seen};
+ghost use Rattle.timetable.specs.Table.{Table};
 ghost use Rattle.journey_model.specs.Dated.{run_of};
-ghost use Rattle.journey_model.specs.Times.{ArePlanned};
+ghost use Rattle.journey_model.specs.Runs.{stop_at};
+ghost use Rattle.journey_model.specs.Times.{ArePlanned, delay_fault};
 ghost use Rattle.journey_model.specs.Updates as spec;
 ghost use Rattle.propagation.specs.Answers.{Propagates};
-ghost use Rattle.propagation.specs.Saying.{placed_all, placed_by, says_at};
+ghost use Rattle.propagation.specs.Saying.{placed_all, placed_by, says_at, says_times};
 
 use crate::events::{event_time, says_times};
+use crate::naming::{assigned_stop, named_stop, names_one, stop_after};
+use crate::place_sizes::says_size;
 use crate::room::with_room;
 use crate::update_fault::UpdateFault;
 use gw_base::stop_relation::{NO_DATA, SCHEDULED, SKIPPED};
 use gw_base::{List, StopUpdate};
-use journey_model::{DatedTrip, Fault, MatchFault, NamedStop, filled_text, match_update};
+use journey_model::{
+    DatedTrip, Fault, MatchFault, NamedStop, are_of_station, match_update, places_fault,
+};
 use std::alloc::Global;
-use timetable::{StopNo, Timetable, TripNo};
+use timetable::{StopNo, Timetable};
 
 /// What an update says at its position.
 #[derive(Clone, Copy, Debug, PartialEq, Eq)]
@@ -33,6 +39,8 @@ pub enum Prediction {
         departure: i64,
         /// How much later than planned it departs, in seconds.
         delay: i32,
+        /// Where it stops: at the scheduled stop, or at another of its station.
+        place: StopNo,
     },
 }
 
@@ -43,56 +51,6 @@ pub struct MatchedUpdate {
     pub position: u32,
     /// What it says there.
     pub says: Prediction,
-}
-
-// The stop of a trip after the position before, if it has one.
-#[tactic(auto, using(crate::proofs::KnownLemmas::known_at))]
-fn stop_after(table: &Timetable, trip: TripNo, after: Option<u32>) -> Option<StopNo>
-    ensures { IfSome result (λ stop. stop.0 < length table.now.stops) }
-{
-    if trip.0 >= table.trips() {
-        return None;
-    }
-    let position = match after {
-        Some(position) => position as usize + 1,
-        None => 0,
-    };
-    match table.stops_of(trip).get(position) {
-        Some(row) => Some(row.stop),
-        None => None,
-    }
-}
-
-// Whether a stop has that id.
-fn has_id(table: &Timetable, stop: StopNo, id: &str) -> bool
-    requires { stop.0 < length table.now.stops }
-    ensures { IsTrue result → position (bytes_eq id.now) table.now.stops ≡ Some stop.0 }
-{
-    table.stop_id(stop) == id
-}
-
-// The stop that an update names. It is mostly the likely one, whose id is compared before all are searched.
-fn named_stop(table: &Timetable, likely: Option<StopNo>, update: &StopUpdate) -> NamedStop
-    requires { IfSome likely (λ stop. stop.0 < length table.now.stops) }
-    ensures { result ≡ spec.named_stop table.now.stops update.now }
-{
-    let Some(id) = filled_text(&update.stop_id) else {
-        return NamedStop::Missing;
-    };
-    match likely {
-        Some(stop) if has_id(table, stop, id) => NamedStop::Known(stop),
-        _ => found_stop(table, id),
-    }
-}
-
-// The stop of that id.
-fn found_stop(table: &Timetable, id: &str) -> NamedStop
-    ensures { result ≡ spec.known_stop (position (bytes_eq id.now) table.now.stops) }
-{
-    match table.find_stop(id) {
-        Some(stop) => NamedStop::Known(stop),
-        None => NamedStop::Unknown,
-    }
 }
 
 // The fault of the update of that number that is of no stop.
@@ -127,26 +85,89 @@ fn is_read(update: &StopUpdate) -> bool
     update.relation == SCHEDULED || is_skipped(update) || is_no_data(update)
 }
 
-// What the update of that number says by its events at its position with these planned times, or its fault there.
+// The scheduled stop at a position of a trip.
+fn scheduled_at(dated: &DatedTrip<'_>, position: u32) -> StopNo
+    requires { position < length dated.now.stops.now }
+    ensures { (table : Table) → result ≡ stop_at (run_of table dated.now) position }
+{
+    dated.stops[position as usize].stop
+}
+
+// The place of the update of that number of a scheduled stop, or its fault where it is assigned to another station.
+fn place_of(
+    table: &Timetable,
+    likely: Option<StopNo>,
+    number: u64,
+    scheduled: StopNo,
+    update: &StopUpdate,
+) -> Result<StopNo, Fault>
+    requires { IfSome likely (λ stop. stop.0 < length table.now.stops) }
+    ensures { let named = spec.assigned_stop table.now.stops update.now in
+        let keeps = spec.keeps_station (seen table.now).station_of scheduled named in
+        result ≡ unless_fault (spec.place_fault number keeps None) (spec.place_by scheduled named) }
+{
+    match assigned_stop(table, likely, update) {
+        NamedStop::Missing => Ok(scheduled),
+        NamedStop::Known(stop) if are_of_station(table, stop, scheduled) => Ok(stop),
+        _ => Err(Fault::OtherPlace(number)),
+    }
+}
+
+// What the update of that number says by its events at a place with these planned times, or its fault there.
 fn says_by_events(
     number: u64,
+    place: StopNo,
     planned: (i64, i64),
     update: &StopUpdate,
 ) -> Result<Prediction, Fault>
-    requires planned { ArePlanned planned }
-    requires scheduled { spec.is_scheduled update.now ≡ true }
-    ensures { result ≡ unless_fault (spec.times_fault number planned update.now) (says_at planned update.now) }
+    requires { ArePlanned planned }
+    ensures { let both = spec.times planned update.now in
+        let arrival = spec.arrival_time planned update.now in
+        let departure = spec.departure_time planned update.now in
+        let late = delay_fault number planned arrival departure in
+        result ≡ unless_fault (spec.events_fault number late both) (says_times place planned both) }
 {
     let arrival = event_time(&planned.0, &update.arrival);
     let departure = event_time(&planned.1, &update.departure);
-    says_times(number, planned, arrival, departure)
+    says_times(number, place, planned, arrival, departure)
 }
 
-// What the update of that number says at its position with these planned times, or its fault there.
-fn says_at(number: u64, planned: (i64, i64), update: &StopUpdate) -> Result<Prediction, Fault>
-    requires planned { ArePlanned planned }
+// What the SCHEDULED update of that number says at a position, or its fault there.
+fn scheduled_says(
+    table: &Timetable,
+    dated: &DatedTrip<'_>,
+    likely: Option<StopNo>,
+    number: u64,
+    position: u32,
+    update: &StopUpdate,
+) -> Result<Prediction, Fault>
+    requires likely { IfSome likely (λ stop. stop.0 < length table.now.stops) }
+    requires within { position < length dated.now.stops.now }
+    requires scheduled { spec.is_scheduled update.now ≡ true }
+    ensures { let run = run_of (seen table.now) dated.now in
+        result ≡ unless_fault (spec.update_fault run number position update.now) (says_at run position update.now) }
+{
+    let scheduled = scheduled_at(dated, position);
+    match place_of(table, likely, number, scheduled, update) {
+        Ok(place) => says_by_events(number, place, dated.planned_at(position), update),
+        Err(fault) => Err(fault),
+    }
+}
+
+// What the update of that number says at a position, or its fault there.
+fn says_at(
+    table: &Timetable,
+    dated: &DatedTrip<'_>,
+    likely: Option<StopNo>,
+    number: u64,
+    position: u32,
+    update: &StopUpdate,
+) -> Result<Prediction, Fault>
+    requires likely { IfSome likely (λ stop. stop.0 < length table.now.stops) }
+    requires within { position < length dated.now.stops.now }
     requires read { spec.is_read update.now ≡ true }
-    ensures { result ≡ unless_fault (spec.times_fault number planned update.now) (says_at planned update.now) }
+    ensures { let run = run_of (seen table.now) dated.now in
+        result ≡ unless_fault (spec.update_fault run number position update.now) (says_at run position update.now) }
 {
     if is_skipped(update) {
         return Ok(Prediction::Skipped);
@@ -154,22 +175,26 @@ fn says_at(number: u64, planned: (i64, i64), update: &StopUpdate) -> Result<Pred
     if is_no_data(update) {
         return Ok(Prediction::NoData);
     }
-    says_by_events(number, planned, update)
+    scheduled_says(table, dated, likely, number, position, update)
 }
 
 // The update of that number at a position, or its fault there.
 fn placed_at(
-    number: u64,
+    table: &Timetable,
     dated: &DatedTrip<'_>,
+    likely: Option<StopNo>,
+    number: u64,
     position: u32,
     update: &StopUpdate,
 ) -> Result<MatchedUpdate, Fault>
+    requires likely { IfSome likely (λ stop. stop.0 < length table.now.stops) }
     requires within { position < length dated.now.stops.now }
     requires read { spec.is_read update.now ≡ true }
-    ensures { (ids : Values (Values ℕ)) → let run = run_of ids dated.now in
+    ensures value { let run = run_of (seen table.now) dated.now in
         result ≡ placed_by run update.now (spec.position_timed run number update.now (Ok position)) }
+    ensures there { IfOk result (λ next. next.position ≡ position) }
 {
-    match says_at(number, dated.planned_at(position), update) {
+    match says_at(table, dated, likely, number, position, update) {
         Ok(says) => Ok(MatchedUpdate { position, says }),
         Err(fault) => Err(fault),
     }
@@ -183,38 +208,45 @@ fn match_to_stop(
     after: Option<u32>,
     update: &StopUpdate,
 ) -> Result<MatchedUpdate, Fault>
-    ensures { let run = run_of table.now.stops dated.now in
+    ensures value { let run = run_of (seen table.now) dated.now in
         result ≡ placed_by run update.now (spec.position_of run number after update.now) }
+    ensures within { IfOk result (λ next. next.position < length dated.now.stops.now) }
 {
     if !is_read(update) {
         return Err(Fault::OtherRelation(update.relation));
     }
-    let named = named_stop(table, stop_after(table, dated.trip, after), update);
-    match match_update(dated, after, update.sequence, named) {
-        Ok(at) => placed_at(number, dated, at, update),
+    let likely = stop_after(table, dated.trip, after);
+    let named = named_stop(table, likely, update);
+    match match_update(dated, after, update.sequence, named, names_one(update)) {
+        Ok(at) => placed_at(table, dated, likely, number, at, update),
         Err(fault) => Err(match_fault(number, fault)),
     }
 }
 
-/// The updates of a trip at their places, or the first fault.
+/// The updates of a trip at their places, or the first fault; after all updates the one of their places.
 pub(crate) fn placed_all(
     alloc: Global,
     table: &Timetable,
     dated: &DatedTrip<'_>,
     updates: &[StopUpdate],
 ) -> Result<List<MatchedUpdate>, UpdateFault>
-    ensures { let run = run_of table.now.stops dated.now in
+    ensures { let run = run_of (seen table.now) dated.now in
         Propagates (placed_all run updates.now (spec.places run updates.now)) result }
 {
     let mut all = with_room(alloc, updates.len().min(dated.stops.len()))?;
     let mut after = None;
+    let mut bytes = 0;
     for (number, update) in updates.iter().enumerate() {
         let next = match match_to_stop(table, dated, number as u64, after, update) {
             Ok(next) => next,
             Err(fault) => return Err(UpdateFault::Fault(fault)),
         };
+        bytes += says_size(table, scheduled_at(dated, next.position), &next.says);
         all.push(next)?;
         after = Some(next.position);
     }
-    Ok(all)
+    match places_fault(bytes) {
+        Some(fault) => Err(UpdateFault::Fault(fault)),
+        None => Ok(all),
+    }
 }

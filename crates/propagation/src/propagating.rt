@@ -3,6 +3,7 @@
 ghost use Rattle.std.specs.Prelude.{◌≡◌, ℕ, List as Values, true, drop, map, length, IfOk};
 ghost use Rattle.std.specs.List.{range_with_len};
 ghost use Rattle.gw_base.specs.declared.messages.StopUpdate.{StopUpdate};
+ghost use Rattle.timetable.specs.Table.{Table};
 ghost use Rattle.journey_model.specs.Dated.{run_of};
 ghost use Rattle.journey_model.specs.Propagation.{prop};
 ghost use Rattle.journey_model.specs.Times.{ArePlanned};
@@ -14,6 +15,7 @@ use crate::room::with_room;
 use gw_base::List;
 use journey_model::{DatedTrip, StopReading};
 use std::alloc::{AllocError, Global};
+use timetable::StopNo;
 
 // What the first of the updates says, where it stands at that position.
 fn first_at(placed: &[MatchedUpdate], position: usize) -> Option<Prediction>
@@ -37,36 +39,47 @@ fn delay_after(delay: Option<i32>, said: Option<Prediction>) -> Option<i32>
     }
 }
 
-// How a stop that no update is of reads: later than planned by the delay that is carried on.
-fn later(planned: (i64, i64), delay: Option<i32>) -> StopReading
+// How a scheduled stop that no update is of reads: later than planned by the delay that is carried on.
+fn later(scheduled: StopNo, planned: (i64, i64), delay: Option<i32>) -> StopReading
     requires { ArePlanned planned }
-    ensures { result ≡ later planned delay }
+    ensures { result ≡ later scheduled planned delay }
 {
     match delay {
         Some(delay) => StopReading::Timed {
             arrival: planned.0 + delay as i64,
             departure: planned.1 + delay as i64,
+            place: scheduled,
         },
         None => StopReading::Absent,
     }
 }
 
-// How a stop with these planned times reads.
-fn reading_at(planned: (i64, i64), delay: Option<i32>, said: Option<Prediction>) -> StopReading
+// How a scheduled stop with these planned times reads.
+fn reading_at(
+    scheduled: StopNo,
+    planned: (i64, i64),
+    delay: Option<i32>,
+    said: Option<Prediction>,
+) -> StopReading
     requires { ArePlanned planned }
-    ensures { result ≡ reading_at planned delay said }
+    ensures { result ≡ reading_at scheduled planned delay said }
 {
     match said {
-        None => later(planned, delay),
+        None => later(scheduled, planned, delay),
         Some(Prediction::Skipped) => StopReading::Skipped,
         Some(Prediction::NoData) => StopReading::Absent,
         Some(
             Prediction::Timed {
                 arrival,
                 departure,
+                place,
                 ..
             },
-        ) => StopReading::Timed { arrival, departure },
+        ) => StopReading::Timed {
+            arrival,
+            departure,
+            place,
+        },
     }
 }
 
@@ -76,8 +89,8 @@ pub(crate) fn readings(
     dated: &DatedTrip<'_>,
     placed: &[MatchedUpdate],
 ) -> Result<List<StopReading>, AllocError>
-    ensures { (ids : Values (Values ℕ)) (updates : Values (ℕ × StopUpdate)) →
-        let run = run_of ids dated.now in
+    ensures { (table : Table) (updates : Values (ℕ × StopUpdate)) →
+        let run = run_of table dated.now in
         let places = range_with_len 0 (length dated.now.stops.now) in
         are_rising_from 0 updates ≡ true → placed.now ≡ map (placed_at run) updates
         → IfOk result (λ all. all ≡ map (prop run updates) places) }
@@ -87,7 +100,7 @@ pub(crate) fn readings(
     let mut delay = None;
     for (position, row) in dated.stops.iter().enumerate() {
         let said = first_at(rest, position);
-        all.push(reading_at(dated.planned_times(row), delay, said))?;
+        all.push(reading_at(row.stop, dated.planned_times(row), delay, said))?;
         delay = delay_after(delay, said);
         if said.is_some() {
             rest = after_first(rest);

@@ -1,5 +1,6 @@
 //! What a trip update says of its trip on a day. The function meets `reading_said` of `journey_model`'s
 //! `specs/FeedReadings.antt`.
+ghost use Rattle.timetable.specs.Seen.{seen};
 ghost use Rattle.journey_model.specs.Dated.{run_of};
 ghost use Rattle.journey_model.specs.FeedReadings.{reading_said, stops_said};
 ghost use Rattle.journey_model.specs.Updates.{places};
@@ -21,7 +22,7 @@ fn stops_said(
     dated: &DatedTrip<'_>,
     update: &TripUpdate,
 ) -> Result<JourneyReading, UpdateFault>
-    ensures { let run = run_of table.now.stops dated.now in
+    ensures { let run = run_of (seen table.now) dated.now in
         Propagates (stops_said run update.now (places run update.now.updates)) result }
 {
     let placed = placed_all(alloc, table, dated, update.updates.as_slice())?;
@@ -38,7 +39,7 @@ pub fn propagate(
     dated: &DatedTrip<'_>,
     update: &TripUpdate,
 ) -> Result<JourneyReading, UpdateFault>
-    ensures { Propagates (reading_said (run_of table.now.stops dated.now) update.now) result }
+    ensures { Propagates (reading_said (run_of (seen table.now) dated.now) update.now) result }
 {
     match update.trip.relation {
         CANCELED => Ok(JourneyReading::Cancelled),

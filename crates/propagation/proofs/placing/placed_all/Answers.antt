@@ -1,35 +1,48 @@
-use Rattle.std.proofs.Common.{◌∙◌, sym, arith}
+use Rattle.std.proofs.Common.{◌∙◌, sym}
+use Rattle.timetable.specs.Seen.{seen}
 use Rattle.journey_model.specs.Dated.{run_of}
 use Rattle.journey_model.specs.Updates.{position_of}
-use Rattle.propagation.proofs.PlaceLemmas.{placed_none, placed_more, placed_all-fault, placed_all-done, is_at, is_fault}
+use Rattle.propagation.proofs.PlaceLemmas.{placed_none, placed_more, placed_all-fault, is_at, is_fault, is_sized}
 use Rattle.propagation.proofs.placing.placed_all.Goals as goal
 
 pub loop-number-init : goal.loop-number-init
 loop-number-init c =
-    rw c.in_ok-all.ensures (placed_none (run_of c.args.table.now.stops c.args.dated.now) c.args.updates.now)
+    rw c.in_ok-all.ensures (placed_none (run_of (seen c.args.table.now) c.args.dated.now) c.args.updates.now)
+
+pub says_size-bytes-requires : goal.says_size-bytes-requires
+says_size-bytes-requires c =
+    let run = run_of (seen c.args.table.now) c.args.dated.now in
+    let update = c.index-updates-number.result in
+    let at = is_at run update (position_of run c.loop-number.number c.loop-number.after update) c.in-Ok.next
+    (sym c.in-Ok.is ∙ c.match_to_stop.ensures.value) in
+    rw (c.scheduled_at.ensures (seen c.args.table.now))
+    (is_sized run c.loop-number.number c.loop-number.after update c.in-Ok.next at).placed
 
 pub loop-number-preserved : goal.loop-number-preserved
 loop-number-preserved c =
-    let run = run_of c.args.table.now.stops c.args.dated.now in
+    let run = run_of (seen c.args.table.now) c.args.dated.now in
     let update = c.index-updates-number.result in
     let at = is_at run update (position_of run c.loop-number.number c.loop-number.after update) c.in-Ok.next
-    (sym c.in-Ok.is ∙ c.match_to_stop.ensures) in
+    (sym c.in-Ok.is ∙ c.match_to_stop.ensures.value) in
+    let sized = is_sized run c.loop-number.number c.loop-number.after update c.in-Ok.next at in
     placed_more run c.args.updates.now c.loop-number.number c.loop-number.after c.loop-number.all c.push.new.self
-    update c.in-Ok.next
-    c.loop-number.invariant c.loop-number-test.true c.index-updates-number.is at c.in_ok-push.ensures.added
+    update c.in-Ok.next c.loop-number.bytes c.says_size-bytes.result
+    c.loop-number.invariant c.loop-number-test.true c.index-updates-number.is
+    (record {
+      at = at;
+      later = sized.later;
+      within = c.in-Ok.ensures.within;
+      size = c.says_size-bytes.ensures.value
+          ∙ (rw (c.scheduled_at.ensures (seen c.args.table.now)) sized.size);
+      small = c.says_size-bytes.ensures.small;
+    }) c.in_ok-push.ensures.added
 
 pub returns-in-Err : goal.returns-in-Err
 returns-in-Err c =
-    let run = run_of c.args.table.now.stops c.args.dated.now in
+    let run = run_of (seen c.args.table.now) c.args.dated.now in
     let update = c.index-updates-number.result in
-    placed_all-fault run c.args.updates.now c.loop-number.number c.loop-number.after c.loop-number.all update
-    c.in-Err.fault
+    placed_all-fault run c.args.updates.now c.loop-number.number c.loop-number.after c.loop-number.all
+    c.loop-number.bytes update c.in-Err.fault
     c.loop-number.invariant c.loop-number-test.true c.index-updates-number.is
     (is_fault run update (position_of run c.loop-number.number c.loop-number.after update) c.in-Err.fault
-    (sym c.in-Err.is ∙ c.match_to_stop.ensures))
-
-pub returns : goal.returns
-returns c =
-    let run = run_of c.args.table.now.stops c.args.dated.now in
-    placed_all-done run c.args.updates.now c.loop-number.number c.loop-number.after c.loop-number.all
-    c.loop-number.invariant (omega arith)
+    (sym c.in-Err.is ∙ c.match_to_stop.ensures.value))
