@@ -3,7 +3,7 @@ pub mod DenseLemmas
 pub mod FrameLemmas
 pub mod KeptLemmas
 pub mod OrderLemmas
-pub mod PlaceLemmas
 pub mod PlacedLemmas
 pub mod ServableLemmas
+pub mod StationLemmas
 pub mod Written

@@ -33,9 +33,10 @@ pub(crate) fn delays_fault(run: &TripRun<'_>, placed: &[PlacedCall<'_>]) -> Opti
     None
 }
 
-/// How a call reads at its stop: one event gives its delay to the other.
+/// How a call reads at its stop: one event gives its delay to the other, and its place is the stop that it names.
 pub(crate) fn call_reading(run: &TripRun<'_>, one: &PlacedCall<'_>) -> StopReading
-    ensures { result ≡ spec.call_reading (planned_of (run_over run.now) one.now.position) (placed_call one.now).1.1 }
+    ensures { result ≡ spec.call_reading (planned_of (run_over run.now) one.now.position) one.now.stop.0
+        (placed_call one.now).1.1.1 }
 {
     let call = one.call;
     if call.skip {
@@ -43,7 +44,11 @@ pub(crate) fn call_reading(run: &TripRun<'_>, one: &PlacedCall<'_>) -> StopReadi
     }
     let planned = run.dated.planned_at(one.position);
     match both_times(planned, call.arrival, call.departure) {
-        Some((arrival, departure)) => StopReading::Timed { arrival, departure },
+        Some((arrival, departure)) => StopReading::Timed {
+            arrival,
+            departure,
+            place: one.stop,
+        },
         None => StopReading::Absent,
     }
 }

@@ -11,7 +11,7 @@ use gw_base::List;
 use journey_model::{StopReading, TripRun};
 use std::alloc::{AllocError, Global};
 
-// The call at a position, if there is one: it is the next of calls whose places rise.
+// The call at a position, if there is one: it is the next of calls whose positions rise.
 fn call_at<'a, 'b>(
     placed: &'a [PlacedCall<'b>],
     next: usize,

@@ -12,8 +12,9 @@ use crate::calls::Call;
 use crate::delays::delays_fault;
 use crate::dense::dense_readings;
 use crate::header::Header;
+use crate::long_places::places_size;
 use crate::matching_calls::placed_calls;
-use journey_model::{Context, Fault, JourneyReading, JourneyRecord, TripRun};
+use journey_model::{Context, Fault, JourneyReading, JourneyRecord, TripRun, places_fault};
 use service_day::Day;
 use siri_json::ReadFault;
 use std::alloc::Global;
@@ -66,6 +67,9 @@ fn stops_read(
         return Err(ReadFault::Aside(fault));
     }
     let readings = dense_readings(alloc, run, placed.as_slice())?;
+    if let Some(fault) = places_fault(places_size(run, readings.as_slice())) {
+        return Err(ReadFault::Aside(fault));
+    }
     Ok(JourneyReading::Stops(readings))
 }
 
@@ -106,8 +110,9 @@ fn extras(calls: &[Option<Call<'_>>]) -> u64
 /// What a journey is by its header and its calls, of which those that are None are extra ones (SIRI 2.0,
 /// EstimatedVehicleJourney): its record with the number of its extra calls, or the first fault in this order. It is an
 /// extra journey; no carried trip has its id; its day isn't in the window; the trip doesn't run on it; and, unless it
-/// is cancelled: a call is of a stop that the trip doesn't have; a call is of no stop after the one before; a time is
-/// over a week from the planned one.
+/// is cancelled: a call is of a stop that isn't known or of no station of the trip; a call is of no stop after the one
+/// before; a time is over a week from the planned one; the ids of the places that aren't the scheduled stops are too
+/// long in sum.
 pub(crate) fn judged(
     alloc: Global,
     context: &Context<'_>,

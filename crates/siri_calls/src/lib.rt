@@ -13,6 +13,7 @@ mod frame;
 mod header;
 mod items;
 mod judging;
+mod long_places;
 mod matching_calls;
 mod read_members;
 mod writing;

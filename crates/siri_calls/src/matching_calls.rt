@@ -1,52 +1,69 @@
-//! The places of a journey's calls in its trip. The functions meet `calls_placed` of `specs/Judged.antt`.
+//! The positions of a journey's calls in its trip. The functions meet `calls_placed` of `specs/Judged.antt`.
 ghost use Rattle.std.specs.Prelude.{◌≡◌, map, option_map, Ok, IfErr, IfOk};
 ghost use Rattle.siri_calls.specs.Judged as spec;
-ghost use Rattle.siri_calls.specs.MatchedCalls.{is_unknown, position_named, placed_call, unplaced};
+ghost use Rattle.siri_calls.specs.MatchedCalls.{is_unknown, placed_call, placed_named, unplaced};
 ghost use Rattle.siri_calls.specs.Seen.{call_of, calls_of};
 ghost use Rattle.journey_model.specs.TripRuns.{run_over};
 ghost use Rattle.siri_json.specs.Shown.{IsFaultOf};
 
 use crate::calls::Call;
-use journey_model::{Fault, TripRun, has_stop, match_call};
+use journey_model::{Fault, TripRun, has_station, match_call};
 use siri_json::ReadFault;
 use std::alloc::Global;
+use timetable::StopNo;
 
 /// A call with its position in the trip, and its own number among all calls, from 0.
 #[derive(Clone, Copy)]
 pub(crate) struct PlacedCall<'a> {
-    /// The position of its stop.
+    /// The position of the stop of the trip that it is of.
     pub position: u32,
+    /// The stop that it names, of the same station.
+    pub stop: StopNo,
     /// The call's number.
     pub number: u64,
     /// The call.
     pub call: &'a Call<'a>,
 }
 
-// Whether a call is of no stop of the trip; an extra call isn't looked at.
+// Whether a call is of no station of the trip; an extra call isn't looked at.
 fn is_unknown(run: &TripRun<'_>, call: &Option<Call<'_>>) -> bool
     ensures { result ≡ is_unknown (run_over run.now) (option_map call_of call.now) }
 {
     match call {
         Some(call) => match run.table.find_stop(call.stop) {
-            Some(stop) => !has_stop(run.dated.stops, stop),
+            Some(stop) => !has_station(run.table, run.dated.stops, stop),
             None => true,
         },
         None => false,
     }
 }
 
-// The position of a call after the one before, where its stop has one.
-fn position_of(run: &TripRun<'_>, after: Option<u32>, call: &Call<'_>) -> Option<u32>
-    ensures { result ≡ position_named (run_over run.now) after (call_of call.now) }
+// A call with its position after the one before, where its stop has one.
+fn place_call<'a>(
+    run: &TripRun<'_>,
+    after: Option<u32>,
+    number: u64,
+    call: &'a Call<'a>,
+) -> Option<PlacedCall<'a>>
+    ensures { option_map placed_call result
+        ≡ placed_named (run_over run.now) after (number, call_of call.now) }
 {
-    match run.table.find_stop(call.stop) {
-        Some(stop) => match_call(&run.dated, after, stop, call.order),
+    let Some(stop) = run.table.find_stop(call.stop) else {
+        return None;
+    };
+    match match_call(run.table, &run.dated, after, stop, call.order) {
+        Some(position) => Some(PlacedCall {
+            position,
+            stop,
+            number,
+            call,
+        }),
         None => None,
     }
 }
 
-// The fault of calls of which the one of that number has no position: that of the first call whose stop the trip
-// doesn't have, and else its own.
+// The fault of calls of which the one of that number has no position: that of the first call of no station of the
+// trip, and else its own.
 fn fault_of(run: &TripRun<'_>, calls: &[Option<Call<'_>>], late: u64) -> Fault
     ensures { result ≡ unplaced late (spec.stops_named (run_over run.now) (spec.numbered 0 (calls_of calls.now))) }
 {
@@ -58,8 +75,8 @@ fn fault_of(run: &TripRun<'_>, calls: &[Option<Call<'_>>], late: u64) -> Fault
     Fault::OutOfOrder(late)
 }
 
-/// The read calls with their places, each after the one before; or the fault of the first call whose stop the trip
-/// doesn't have, and else that of the first call of no later stop.
+/// The read calls with their positions, each after the one before; or the fault of the first call of no station of the
+/// trip, and else that of the first call of no later stop.
 pub(crate) fn placed_calls<'a>(
     alloc: Global,
     run: &TripRun<'_>,
@@ -74,15 +91,11 @@ pub(crate) fn placed_calls<'a>(
     for (index, call) in calls.iter().enumerate() {
         if let Some(call) = call {
             let number = index as u64;
-            let Some(position) = position_of(run, after, call) else {
+            let Some(one) = place_call(run, after, number, call) else {
                 return Err(ReadFault::Aside(fault_of(run, calls, number)));
             };
-            placed.push(PlacedCall {
-                position,
-                number,
-                call,
-            })?;
-            after = Some(position);
+            after = Some(one.position);
+            placed.push(one)?;
         }
     }
     Ok(placed)

@@ -1,6 +1,7 @@
 -- The journeys that a delivery says are read as they are said.
 use Rattle.std.proofs.Common.{◌≡◌, ℕ, ◌+◌, ◌<◌, List, [], ◌∷◌, ◌++◌, length, map, position, bytes_eq, Bool, true, false, All, Option, Some, Result, Ok, unwrap_or, append-nil, refl, ap, ap₂, ◌∙◌, ℤ}
 use Rattle.std.specs.List.{list_all}
+use Rattle.std.proofs.lemmas.Bool.{and_parts}
 use Rattle.std.proofs.lemmas.List.Elements.{All-head, All-tail}
 use Rattle.gw_base.specs.declared.member.Member.{Member}
 use Rattle.serde_json.specs.Data.{Data}
@@ -13,7 +14,8 @@ use Rattle.timetable.specs.Sound.{IsSound}
 use Rattle.timetable.specs.declared.stop_row.StopRow.{StopRow}
 use Rattle.gw_base.specs.Chains.{◌>>=◌}
 use Rattle.journey_model.specs.Ids.{id_of}
-use Rattle.journey_model.specs.Readings.{fits_trip}
+use Rattle.journey_model.specs.Places.{keeps_places}
+use Rattle.journey_model.specs.Readings.{are_near, fits_trip}
 use Rattle.journey_model.specs.Records.{Recorded}
 use Rattle.journey_model.specs.Runs.{Run}
 use Rattle.journey_model.specs.Schedules.{Schedule, run_on}
@@ -39,6 +41,7 @@ use Rattle.journey_model.proofs.IdLemmas.{id-at, position-id, some-id}
 use Rattle.service_day.proofs.MomentTextLemmas.{day_of-dashed_text, moment_of-moment_text, some-dashed_text, some-moment_text}
 use Rattle.siri_calls.proofs.Written.SaidAgainPlain.{recorded-moment}
 use Rattle.siri_calls.proofs.Written.SaidAgainRuns.{IsSoundRun, sound-run}
+use Rattle.siri_calls.proofs.Written.WrittenTimes.{fits_near, fits_placed}
 
 -- ---- the trees of calls
 
@@ -109,10 +112,12 @@ none-extra : (run : Run) (reading : JourneyReading) → extras (calls_of run rea
 none-extra run Cancelled = refl
 none-extra run (Stops readings) = no-extras run 0 run.stops readings
 
-journey-read : (run : Run) (reading : JourneyReading) → IsSoundRun run → fits_trip run.start run.stops reading ≡ true
+journey-read : (run : Run) (reading : JourneyReading) → IsSoundRun run → fits_trip run reading ≡ true
     → journey_read run (is_cancelled_journey reading) (calls_of run reading) ≡ Ok reading
 journey-read run Cancelled sound fits = refl
-journey-read run (Stops readings) sound fits = stops-read run readings sound fits
+journey-read run (Stops readings) sound fits =
+    let parts = and_parts (are_near run.start run.stops readings) (keeps_places run readings) fits in
+    stops-read run readings sound parts.0 parts.1
 
 unless-by : (zone : Rules) (tree : Data) (trees : List Data) (all : List (Option Call)) → call_trees tree ≡ Ok trees → calls zone trees ≡ Ok all → calls_under zone tree ≡ Ok all
 unless-by zone tree trees all first later = rw (first, later) refl
@@ -124,7 +129,7 @@ item-by schedule place head all said first second third = rw (first, second, thi
 
 -- the calls of a journey's tree
 calls-said : (schedule : Schedule) (recorded : ℤ) (one : DatedReading) (run : Run) (reading : JourneyReading) → one.reading ≡ reading → IsSoundRun run
-    → fits_trip run.start run.stops reading ≡ true
+    → fits_trip run reading ≡ true
     → calls_unless (is_cancelled_journey reading) schedule.zone (journey_of_run schedule recorded one run) ≡ Ok (calls_of run reading)
 calls-said schedule recorded one run Cancelled e sound fits = refl
 calls-said schedule recorded one run (Stops readings) e sound fits =
@@ -133,7 +138,7 @@ calls-said schedule recorded one run (Stops readings) e sound fits =
     let trees : call_trees tree ≡ Ok (call_trees_from run 1 run.stops readings)
     = trees-said schedule recorded one run ∙ ap (λ all. Ok (call_trees_from run 1 run.stops all)) same in
     unless-by schedule.zone tree (call_trees_from run 1 run.stops readings) (read_from run 0 run.stops readings) trees
-    (calls-read schedule.zone run 0 run.stops readings sound sound.known sound.timed fits)
+    (calls-read schedule.zone run 0 run.stops readings sound sound.known sound.timed (fits_near run (Stops readings) fits) (fits_placed run (Stops readings) fits))
 
 run-named : (schedule : Schedule) (trip : ℕ) (on : ℤ) (run : Run) → run_on schedule trip on ≡ Some run → schedule.table.runs trip on ≡ true → run_named schedule trip on ≡ Ok run
 run-named schedule trip on run found runs = rw (found, runs) refl

@@ -10,6 +10,7 @@ use Rattle.timetable.specs.Sound.{IsSound}
 use Rattle.timetable.specs.Stops.{is_timed}
 use Rattle.timetable.specs.declared.stop_row.StopRow.{StopRow}
 use Rattle.journey_model.specs.Ids.{id_of}
+use Rattle.journey_model.specs.Places.{are_placed, is_placed}
 use Rattle.journey_model.specs.Readings.{are_near, is_near}
 use Rattle.journey_model.specs.Runs.{Run}
 use Rattle.journey_model.specs.Schedules.{Schedule}
@@ -17,21 +18,21 @@ use Rattle.journey_model.specs.declared.readings.DatedReading.{DatedReading}
 use Rattle.journey_model.specs.declared.readings.StopReading.{StopReading}
 use Rattle.journey_model.specs.declared.readings.StopReading.TheVariants.{Absent, Skipped, Timed}
 use Rattle.journey_model.proofs.NearLemmas.{planned_moments, are_moments}
-use Rattle.siri_calls.specs.Written.DeliveryTree.{call_tree, call_trees_from, delivery_tree, frame_tree, journey_of_run, journey_on, journey_tree, service_tree, stop_readings, timetable_tree}
+use Rattle.siri_calls.specs.Written.DeliveryTree.{call_tree, call_trees_from, called_at, delivery_tree, frame_tree, journey_of_run, journey_on, journey_tree, service_tree, stop_readings, timetable_tree}
 use Rattle.siri_json.specs.Trees.{items_of}
 use Rattle.siri_calls.specs.Written.Sayable.{IsSayable}
 use Rattle.journey_model.proofs.IdLemmas.{id-at, IsUtf8-id}
 use Rattle.service_day.proofs.MomentTextLemmas.{IsUtf8-dashed_text, IsUtf8-moment_text}
 use Rattle.siri_calls.proofs.Written.SaidAgainRuns.{IsSoundRun, sound-run}
 use Rattle.siri_json.proofs.TreesReadAgain.{ArePlain, IsPlain}
-use Rattle.siri_calls.proofs.Written.WrittenTimes.{fits_near}
+use Rattle.siri_calls.proofs.Written.WrittenTimes.{called_known, fits_near, fits_placed}
 
 -- a name of ASCII letters
 name : (letters : List ℕ) → are_ascii letters ≡ true → IsUtf8 letters
 name letters h = IsUtf8-are_ascii letters h
 
 -- the call at a stop
-plain-call : (run : Run) (order : ℕ) (row : StopRow) (reading : StopReading) → IsSoundRun run → order < 2 ^ 64 → IsUtf8 (id_of run.ids row.stop.0) → is_timed row ≡ true
+plain-call : (run : Run) (order : ℕ) (row : StopRow) (reading : StopReading) → IsSoundRun run → order < 2 ^ 64 → IsUtf8 (id_of run.ids (called_at row reading)) → is_timed row ≡ true
     → is_near (planned run.start row) reading ≡ true → IsPlain 1 (call_tree run order row reading)
 plain-call run order row Absent sound small id timed near =
     let plan = planned_moments run.start row sound.start timed in (
@@ -72,9 +73,9 @@ plain-call run order row Skipped sound small id timed near =
         ),
       ),
     )
-plain-call run order row (Timed arrival departure) sound small id timed near =
+plain-call run order row (Timed arrival departure place) sound small id timed near =
     let plan = planned_moments run.start row sound.start timed in
-    let said = are_moments run.start row (Timed arrival departure) sound.start timed near in (
+    let said = are_moments run.start row (Timed arrival departure place) sound.start timed near in (
       refl,
       name (codes "AimedArrivalTime") refl,
       IsUtf8-moment_text (planned run.start row).0 plan.0,
@@ -103,17 +104,19 @@ plain-call run order row (Timed arrival departure) sound small id timed near =
 
 -- the calls at stops from one on
 plain-calls : (run : Run) (order : ℕ) (rows : List StopRow) (readings : List StopReading) → IsSoundRun run → order + length rows < 2 ^ 64
-    → list_all (λ row. nat_lt row.stop.0 (length run.ids)) rows ≡ true → list_all is_timed rows ≡ true → are_near run.start rows readings ≡ true
+    → list_all (λ row. nat_lt row.stop.0 (length run.ids)) rows ≡ true → list_all is_timed rows ≡ true → are_near run.start rows readings ≡ true → are_placed run rows readings ≡ true
     → ArePlain 1 (items_of (call_trees_from run order rows readings))
-plain-calls run order [] readings sound small known timed near = tt
-plain-calls run order (row ∷ rows) [] sound small known timed near = tt
-plain-calls run order (row ∷ rows) (reading ∷ readings) sound small known timed near =
+plain-calls run order [] readings sound small known timed near placed = tt
+plain-calls run order (row ∷ rows) [] sound small known timed near placed = tt
+plain-calls run order (row ∷ rows) (reading ∷ readings) sound small known timed near placed =
     let knowns = and_parts (nat_lt row.stop.0 (length run.ids)) _ known in
     let times = and_parts (is_timed row) (list_all is_timed rows) timed in
     let nears = and_parts (is_near (planned run.start row) reading) (are_near run.start rows readings) near in
-    let id = IsUtf8-id (id_of run.ids row.stop.0) (id-at run.ids row.stop.0 sound.ids (ltb-true _ _ knowns.0)) in (
+    let places = and_parts (is_placed run row reading) (are_placed run rows readings) placed in
+    let called = called_known run row reading knowns.0 places.0 in
+    let id = IsUtf8-id (id_of run.ids (called_at row reading)) (id-at run.ids (called_at row reading) sound.ids (ltb-true _ _ called)) in (
       plain-call run order row reading sound (omega arith) id times.0 nears.0,
-      plain-calls run (order + 1) rows readings sound (omega arith) knowns.1 times.1 nears.1,
+      plain-calls run (order + 1) rows readings sound (omega arith) knowns.1 times.1 nears.1 places.1,
     )
 
 -- a journey
@@ -122,7 +125,7 @@ plain-journey : (schedule : Schedule) (recorded : ℤ) (one : DatedReading) → 
 plain-journey schedule recorded one sound h at =
     let run = h.servable.run in
     let sound-one = sound-run schedule one sound h in
-    let calls = plain-calls run 1 run.stops (stop_readings run one.reading) sound-one (omega (arith, sound-one.few)) sound-one.known sound-one.timed (fits_near run one.reading h.servable.fits) in
+    let calls = plain-calls run 1 run.stops (stop_readings run one.reading) sound-one (omega (arith, sound-one.few)) sound-one.known sound-one.timed (fits_near run one.reading h.servable.fits) (fits_placed run one.reading h.servable.fits) in
     let trip = IsUtf8-id _ (id-at schedule.table.trips one.trip.0 sound.trips h.servable.trip_in) in
     let line = IsUtf8-id _ (sound.route_of one.trip.0 h.servable.trip_in) in (
       refl,

@@ -24,7 +24,7 @@ call : (run : Run) (order : ℕ) (row : StopRow) (reading : StopReading) → com
 unfolding call_text escape_byte led led_number
 call run order row Absent = simp append_assoc
 call run order row Skipped = simp append_assoc
-call run order row (Timed arrival departure) = simp append_assoc
+call run order row (Timed arrival departure place) = simp append_assoc
 
 calls : (run : Run) (rows : List StopRow) (readings : List StopReading) (later : Bool) (order : ℕ)
     → items_text later (items_of (call_trees_from run order rows readings)) ≡ calls_text later run order rows readings

@@ -13,7 +13,7 @@ use Rattle.journey_model.specs.Schedules.{Schedule, run_on}
 use Rattle.journey_model.specs.declared.readings.DatedReading.{DatedReading}
 use Rattle.journey_model.specs.declared.readings.StopReading.{StopReading}
 use Rattle.journey_model.specs.declared.readings.StopReading.TheVariants.{Absent, Skipped, Timed}
-use Rattle.siri_calls.specs.Written.DeliveryTree.{is_cancelled_journey, stop_readings}
+use Rattle.siri_calls.specs.Written.DeliveryTree.{called_at, is_cancelled_journey, stop_readings}
 
 -- an arrival and a departure, each after what leads to it
 abbrev pub times_text : List ℕ → List ℕ → ℤ × ℤ → List ℕ
@@ -27,17 +27,18 @@ aimed_text both = times_text (codes "{\"AimedArrivalTime\":") (codes ",\"AimedDe
 abbrev pub said_text : StopReading → List ℕ
 said_text Absent = []
 said_text Skipped = codes ",\"Cancellation\":true"
-said_text (Timed arrival departure) =
+said_text (Timed arrival departure place) =
     times_text (codes ",\"ExpectedArrivalTime\":") (codes ",\"ExpectedDepartureTime\":") (arrival, departure)
 
--- which stop of the trip it is, counted from 1, and its id, with which its call ends
+-- which stop of the trip it is, counted from 1, and the id of the stop at which the vehicle calls, with which the call
+-- ends
 abbrev pub stop_text : ℕ → List ℕ → List ℕ
 stop_text order id = led_number (codes ",\"Order\":") order ++ led (codes ",\"StopPointRef\":") id ++ codes "}"
 
 -- the call at a stop
 unfoldable pub call_text : Run → ℕ → StopRow → StopReading → List ℕ
 call_text run order row reading =
-    aimed_text (planned run.start row) ++ said_text reading ++ stop_text order (id_of run.ids row.stop.0)
+    aimed_text (planned run.start row) ++ said_text reading ++ stop_text order (id_of run.ids (called_at row reading))
 
 -- the calls from that one on, after a comma where another stands before, and the bracket that closes them
 abbrev pub calls_text : Bool → Run → ℕ → List StopRow → List StopReading → List ℕ

@@ -25,10 +25,16 @@ aimed_members both =
 abbrev pub said_members : StopReading → List (List ℕ × Data)
 said_members Absent = []
 said_members Skipped = (codes "Cancellation", boolean true) ∷ []
-said_members (Timed arrival departure) =
+said_members (Timed arrival departure place) =
     (codes "ExpectedArrivalTime", moment_tree arrival) ∷ (codes "ExpectedDepartureTime", moment_tree departure) ∷ []
 
--- which stop of the trip it is, counted from 1, and its id
+-- the stop at which the vehicle calls: a stop that is served has a place, of others it is the scheduled one
+abbrev pub called_at : StopRow → StopReading → ℕ
+called_at row Absent = row.stop.0
+called_at row Skipped = row.stop.0
+called_at row (Timed arrival departure place) = place.0
+
+-- which stop of the trip it is, counted from 1, and the id of the stop at which the vehicle calls
 abbrev pub stop_members : ℕ → List ℕ → List (List ℕ × Data)
 stop_members order id = (codes "Order", number (unsigned order)) ∷ (codes "StopPointRef", string id) ∷ []
 
@@ -36,7 +42,7 @@ stop_members order id = (codes "Order", number (unsigned order)) ∷ (codes "Sto
 abbrev pub call_tree : Run → ℕ → StopRow → StopReading → Data
 call_tree run order row reading =
     object_of (aimed_members (planned run.start row) ++ said_members reading
-    ++ stop_members order (id_of run.ids row.stop.0))
+    ++ stop_members order (id_of run.ids (called_at row reading)))
 
 -- the calls at the stops from that one on, counted from 1
 abbrev pub call_trees_from : Run → ℕ → List StopRow → List StopReading → List Data

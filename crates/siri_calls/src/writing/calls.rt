@@ -3,7 +3,9 @@ ghost use Rattle.std.specs.Prelude.{◌≡◌, ◌++◌, ◌+◌, ◌<◌, true,
 ghost use Rattle.gw_base.specs.Moments.{IsMoment};
 ghost use Rattle.timetable.specs.Planned.{planned};
 ghost use Rattle.timetable.specs.Stops.{are_known, is_timed};
+ghost use Rattle.journey_model.specs.Places.{is_placed};
 ghost use Rattle.journey_model.specs.Readings.{AreMoments, fits_trip, is_near};
+ghost use Rattle.siri_calls.specs.Written.DeliveryTree as trees;
 ghost use Rattle.siri_calls.specs.Written.DeliveryTree.{stop_readings};
 ghost use Rattle.siri_calls.specs.Written.DeliveryTexts.{aimed_text, call_text, calls_text, said_text, stop_text, times_text};
 ghost use Rattle.journey_model.specs.TripRuns.{run_over};
@@ -12,7 +14,7 @@ use gw_base::Bytes;
 use journey_model::{JourneyReading, StopReading, TripRun};
 use siri_json::{put_comma, put_moment, put_number, put_text};
 use std::alloc::AllocError;
-use timetable::StopRow;
+use timetable::{StopNo, StopRow};
 
 // Adds an arrival and a departure, in seconds since 1970, each after what leads to it.
 fn put_times(
@@ -50,7 +52,11 @@ fn put_said(out: &mut Bytes, reading: &StopReading) -> Result<(), AllocError>
     match reading {
         StopReading::Absent => Ok(()),
         StopReading::Skipped => out.extend(b",\"Cancellation\":true"),
-        StopReading::Timed { arrival, departure } => put_times(
+        StopReading::Timed {
+            arrival,
+            departure,
+            ..
+        } => put_times(
             out,
             (b",\"ExpectedArrivalTime\":", b",\"ExpectedDepartureTime\":"),
             arrival,
@@ -59,13 +65,24 @@ fn put_said(out: &mut Bytes, reading: &StopReading) -> Result<(), AllocError>
     }
 }
 
-// Adds which stop of the trip it is, counted from 1, and its id, with which its call ends.
+// Adds which stop of the trip it is, counted from 1, and the id of the stop at which the vehicle calls, with which the
+// call ends.
 fn put_stop(out: &mut Bytes, order: u64, id: &str) -> Result<(), AllocError>
     ensures { OnOk result (out.new ≡ out.old ++ stop_text order id.now) }
 {
     put_number(out, b",\"Order\":", order)?;
     put_text(out, b",\"StopPointRef\":", id.as_bytes())?;
     out.push(b'}')
+}
+
+// The stop at which the vehicle calls.
+fn called_at(row: &StopRow, reading: &StopReading) -> StopNo
+    ensures { result.0 ≡ trees.called_at row.now reading.now }
+{
+    match reading {
+        StopReading::Absent | StopReading::Skipped => row.stop,
+        StopReading::Timed { place, .. } => *place,
+    }
 }
 
 // Adds the call at a stop, counted from 1.
@@ -80,16 +97,17 @@ fn put_call(
     requires timed { is_timed row.now ≡ true }
     requires known { row.now.stop.0 < length run.now.table.now.stops }
     requires near { is_near (planned run.now.dated.start row.now) reading.now ≡ true }
+    requires placed { is_placed (run_over run.now) row.now reading.now ≡ true }
     ensures { OnOk result (out.new ≡ out.old ++ call_text (run_over run.now) order row.now reading.now) }
 {
     put_aimed(out, &run.dated.planned_times(row))?;
     put_said(out, reading)?;
-    put_stop(out, order, run.table.stop_id(row.stop))
+    put_stop(out, order, run.table.stop_id(called_at(row, reading)))
 }
 
 // How a stop of a trip reads by its position.
 fn reading_at(run: &TripRun<'_>, reading: &JourneyReading, position: usize) -> StopReading
-    requires fits { fits_trip run.now.dated.start run.now.dated.stops.now reading.now ≡ true }
+    requires fits { fits_trip (run_over run.now) reading.now ≡ true }
     requires within { position < length run.now.dated.stops.now }
     ensures { slice_get (stop_readings (run_over run.now) reading.now) position ≡ Some result }
 {
@@ -106,7 +124,7 @@ pub(crate) fn put_calls(
     reading: &JourneyReading,
 ) -> Result<(), AllocError>
     requires known { are_known (length run.now.table.now.stops) run.now.dated.stops.now ≡ true }
-    requires fits { fits_trip run.now.dated.start run.now.dated.stops.now reading.now ≡ true }
+    requires fits { fits_trip (run_over run.now) reading.now ≡ true }
     ensures { OnOk result (out.new ≡ out.old ++ calls_text false (run_over run.now) 1 run.now.dated.stops.now
         (stop_readings (run_over run.now) reading.now)) }
 {

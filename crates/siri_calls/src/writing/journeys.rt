@@ -73,7 +73,7 @@ fn put_run(
 ) -> Result<(), AllocError>
     requires trip { one.now.trip.0 < length run.now.table.now.trips }
     requires known { are_known (length run.now.table.now.stops) run.now.dated.stops.now ≡ true }
-    requires fits { fits_trip run.now.dated.start run.now.dated.stops.now one.now.reading ≡ true }
+    requires fits { fits_trip (run_over run.now) one.now.reading ≡ true }
     requires moment { IsMoment recorded.now }
     ensures { OnOk result (out.new
         ≡ out.old ++ journey_text (seen run.now.table.now) recorded.now one.now (run_over run.now)) }

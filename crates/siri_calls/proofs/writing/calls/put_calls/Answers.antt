@@ -7,7 +7,7 @@ use Rattle.siri_calls.specs.Written.DeliveryTree.{stop_readings}
 use Rattle.siri_calls.specs.Written.DeliveryTexts.{call_text}
 use Rattle.journey_model.specs.TripRuns.{run_over}
 use Rattle.siri_calls.proofs.Written.WrittenLemmas.{calls_on, one_more}
-use Rattle.siri_calls.proofs.Written.WrittenTimes.{fits_near, near_at}
+use Rattle.siri_calls.proofs.Written.WrittenTimes.{fits_near, fits_placed, near_at, placed_at}
 use Rattle.siri_calls.proofs.writing.calls.put_calls.Goals as goal
 
 no_row : StopRow
@@ -22,6 +22,16 @@ put_call-requires-clause-near c =
     let within : position < length stops = omega arith in
     near_at run.start stops (stop_readings run c.args.reading.now) position (get_or stops position no_row) c.reading_at-reading.result
     (fits_near run c.args.reading.now c.requires.fits) (slice_get-get_or stops position no_row within) c.reading_at-reading.ensures
+
+pub put_call-requires-clause-placed : goal.put_call-requires-clause-placed
+unfolding no_row
+put_call-requires-clause-placed c =
+    let run = run_over c.args.run.now in
+    let stops = c.args.run.now.dated.stops.now in
+    let position = c.loop-position.position in
+    let within : position < length stops = omega arith in
+    placed_at run stops (stop_readings run c.args.reading.now) position (get_or stops position no_row) c.reading_at-reading.result
+    (fits_placed run c.args.reading.now c.requires.fits) (slice_get-get_or stops position no_row within) c.reading_at-reading.ensures
 
 pub loop-position-preserved : goal.loop-position-preserved
 unfolding no_row
