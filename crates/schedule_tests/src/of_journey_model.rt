@@ -3,11 +3,14 @@ use gw_base::{Bytes, List, Text};
 use journey_model::{Fault, Report, StopReading, add_report, fault_text, filled_text};
 use std::alloc::{AllocError, Global};
 use std::process::Abort;
+use timetable::StopNo;
 
 // Faults with their texts, as far as no case has them.
-static TEXTS: [(Fault, &str); 3] = [
+static TEXTS: [(Fault, &str); 5] = [
     (Fault::OtherRelation(-1), "OtherRelation -1"),
     (Fault::Full, "Full"),
+    (Fault::OtherPlace(3), "OtherPlace 3"),
+    (Fault::PlacesTooLong(4_097), "PlacesTooLong 4097"),
     (
         Fault::DelayRange(u64::MAX, i128::MIN),
         "DelayRange 18446744073709551615 -170141183460469231731687303715884105728",
@@ -66,6 +69,7 @@ fn a_stop_is_absent_skipped_or_timed(rt: HostRuntime) {
     let timed = StopReading::Timed {
         arrival: 0,
         departure: 0,
+        place: StopNo(0),
     };
     assert!(rt; StopReading::Absent.is_absent() && !StopReading::Absent.is_skipped());
     assert!(rt; StopReading::Skipped.is_skipped() && !StopReading::Skipped.is_absent());

@@ -54,6 +54,11 @@ fn read(alloc: Global, given: &[(&str, &[u8])]) -> Result<Timetable, TableFault>
     read_timetable(alloc, &mut MemoryFiles::make(files, List::new(alloc)), "g")
 }
 
+/// The timetable of that folder, of whose stops B is of the station D and C of the station B.
+pub(crate) fn with_stations(alloc: Global) -> Option<Timetable> {
+    read(alloc, &FOLDER).ok()
+}
+
 fn is_stop(row: &StopRow, wanted: &(u32, u32, u32, u32)) -> bool {
     (row.sequence, row.stop.0, row.arrival, row.departure) == *wanted
 }
@@ -85,7 +90,7 @@ fn is_of_station(table: &Timetable, stop: &str, station: &str) -> bool {
 
 #[test]
 fn a_stop_is_of_its_parent_or_of_itself(rt: HostRuntime) {
-    let table = read(rt.alloc(), &FOLDER).ok().expect(&rt, "a timetable");
+    let table = with_stations(rt.alloc()).expect(&rt, "a timetable");
     assert!(rt; is_of_station(&table, "A", "A"));
     assert!(rt; is_of_station(&table, "B", "D"));
     assert!(rt; is_of_station(&table, "C", "B"));
@@ -94,7 +99,7 @@ fn a_stop_is_of_its_parent_or_of_itself(rt: HostRuntime) {
 
 #[test]
 fn a_folder_is_read(rt: HostRuntime) {
-    let table = read(rt.alloc(), &FOLDER).ok().expect(&rt, "a timetable");
+    let table = with_stations(rt.alloc()).expect(&rt, "a timetable");
     assert_eq!(rt; table.trips(), 2);
     let trip = table.find_trip("T1").expect(&rt, "a trip");
     assert_first(&rt, &table, trip);
