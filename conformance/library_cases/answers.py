@@ -205,13 +205,13 @@ def call(given, question):
 
 
 def update(given, question):
-    """TRIP, the place of the update before, SEQUENCE, STOP."""
-    trip, after, sequence, stop = words_of(question)
+    """TRIP, the place of the update before, SEQUENCE, STOP, and maybe the stop that is assigned."""
+    trip, after, sequence, stop, *assigned = words_of(question)
     after = number_or_none(after)
     one = {
         "stop_sequence": number_or_none(sequence),
         "stop_id": None if stop == "-" else stop,
-        "stop_time_properties": None,
+        "stop_time_properties": {"assigned_stop_id": assigned[0]} if assigned else None,
     }
     try:
         found = match_update(stops_of(given, trip), 0, one, -1 if after is None else after)
