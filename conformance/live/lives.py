@@ -130,6 +130,7 @@ def riverside(dice):
         ["--zone-rule", LONDON], friday, 3, files, carried, carried,
         [row["route_id"] for row in rows_of(files["g/routes.txt"])],
         [row["stop_id"] for row in rows_of(files["g/stops.txt"])],
+        stations=Stations({row["stop_id"]: row.get("parent_station", "") for row in rows_of(files["g/stops.txt"])}),
     )
     world.window = [friday + timedelta(days=n) for n in range(3)]
     world.clock_days = [str(friday)]
