@@ -22,7 +22,7 @@ TRIPS_OF_A_DELIVERY = 100
 
 
 def made_folder(trips, stops):
-    """The six files by name. The first line of each names the columns that are read and have to be there, in their order."""
+    """The six files by name. The first line of each names the columns that have to be there, in their order."""
     rows = {
         "agency.txt": [["UTC"]],
         "stops.txt": [[stop_id(k)] for k in stop_numbers(stops)],

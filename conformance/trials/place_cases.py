@@ -1,4 +1,4 @@
-"""Cases of vehicles that stop at other stops of a station: sound folders, and deliveries and feeds that are nearly sound."""
+"""Cases of vehicles that stop at other stops of a station: sound folders, with deliveries and feeds that are nearly so."""
 
 from datetime import date, timedelta
 

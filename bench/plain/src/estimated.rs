@@ -3,9 +3,7 @@
 use crate::fault::{BodyFault, Fault};
 use crate::gtfs::{StopTime, Timetable};
 use crate::json::{members, Leaf, Needed, Object, Repeated};
-use crate::siri::{
-    check_places, deliveries_of, in_range, on_the_way, service_of, Context, Reading, StopReading,
-};
+use crate::siri::{check_places, deliveries_of, in_range, on_the_way, service_of, Context, Reading, StopReading};
 use crate::time::{read_moment, Day, Instant};
 
 members! {
@@ -209,13 +207,15 @@ impl Call {
         })
     }
 
-    /// From an index on the stop of its order where that is of the named stop's station, else the first with the id, else
-    /// the first of that station.
+    /// From an index on the stop of its order where that is of the named stop's station, else the first with the id,
+    /// else the first of that station.
     fn index(&self, stops: &[StopTime], table: &Timetable, from: usize) -> Option<usize> {
         let stop = self.stop?;
         let ordered = self.order.and_then(|order| usize::try_from(order.checked_sub(1)?).ok());
         match ordered {
-            Some(index) if index >= from && stops.get(index).is_some_and(|found| self.is_at(found, table)) => Some(index),
+            Some(index) if index >= from && stops.get(index).is_some_and(|found| self.is_at(found, table)) => {
+                Some(index)
+            }
             _ => (from..stops.len())
                 .find(|&index| stops[index].stop == stop)
                 .or_else(|| (from..stops.len()).find(|&index| self.is_at(&stops[index], table))),

@@ -133,7 +133,8 @@ fn index_of(
             found.map_err(|_| Fault::UnknownStop(number))?
         }
     };
-    if stop_id.is_some_and(|id| context.table.stop_ids.text(stops[index].stop) != id && assigned_to(update) != stop_id) {
+    if stop_id.is_some_and(|id| context.table.stop_ids.text(stops[index].stop) != id && assigned_to(update) != stop_id)
+    {
         return Err(Fault::StopMismatch(number));
     }
     if index < from {

@@ -84,8 +84,8 @@ pub fn on_the_way<'s, T>(items: &'s Repeated<T>, name: &'static str) -> Result<V
     }
 }
 
-/// How a stop of a journey reads; times are said as delays, in seconds. A place is the stop at which the vehicle stops: the
-/// scheduled one, or another of its station.
+/// How a stop of a journey reads; times are said as delays, in seconds. A place is the stop at which the vehicle stops:
+/// the scheduled one, or another of its station.
 #[derive(Clone, Copy, PartialEq, Eq, Debug)]
 pub enum StopReading {
     Absent,
