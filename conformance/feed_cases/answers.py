@@ -133,6 +133,8 @@ def written(name, values):
         value = values[known.name]
         if value is None or ((name, known.name) in LEFT_OUT and value == known.default):
             continue
+        if known.kind == "StopTimeProperties" and value["assigned_stop_id"] is None:
+            continue
         for one in value if known.repeated else [value]:
             out += written_field(number, known.kind, one)
     return out

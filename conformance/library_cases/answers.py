@@ -199,20 +199,25 @@ def call(given, question):
     trip, after, stop, order = words_of(question)
     after = number_or_none(after)
     one = Call(0, False, stop, number_or_none(order))
-    place = match_call(one, stops_of(given, trip), -1 if after is None else after)
-    return ["none" if place is None else f"place {place}"]
+    station = given.table().station_of(stop)
+    found = match_call(one, stops_of(given, trip), station, -1 if after is None else after)
+    return ["none" if found is None else f"place {found}"]
 
 
 def update(given, question):
-    """TRIP, the place of the update before, SEQUENCE, STOP."""
-    trip, after, sequence, stop = words_of(question)
+    """TRIP, the place of the update before, SEQUENCE, STOP, and maybe the stop that is assigned."""
+    trip, after, sequence, stop, *assigned = words_of(question)
     after = number_or_none(after)
-    one = {"stop_sequence": number_or_none(sequence), "stop_id": None if stop == "-" else stop}
+    one = {
+        "stop_sequence": number_or_none(sequence),
+        "stop_id": None if stop == "-" else stop,
+        "stop_time_properties": {"assigned_stop_id": assigned[0]} if assigned else None,
+    }
     try:
-        place = match_update(stops_of(given, trip), 0, one, -1 if after is None else after)
+        found = match_update(stops_of(given, trip), 0, one, -1 if after is None else after)
     except Aside as fault:
         return [str(fault).split(" ")[0]]
-    return [f"place {place}"]
+    return [f"place {found}"]
 
 
 # Days, moments and zones.

@@ -16,6 +16,7 @@ from reading.words import BadWord
 from reading.zones import ZoneRefused
 from trials.feed_cases import random_feed
 from trials.siri_cases import Journeys, Situations, random_body
+from trials.stations import Stations
 from trials.store import files_below
 from trials.worlds import TripRow, World, folder_files, random_services, random_stops, random_world
 
@@ -78,7 +79,7 @@ class Life:
         for order, stop in enumerate(self.setting.context(day).planned(trip, day), 1):
             if dice.one_in(4):
                 late = dice.choice((0, 30, 60, 300, -20))
-            call = {"StopPointRef": stop.id, "Order": order}
+            call = {"StopPointRef": self.place(dice, stop), "Order": order}
             kind = dice.randrange(12)
             if kind == 0:
                 call["Cancellation"] = True
@@ -87,6 +88,12 @@ class Life:
                 call["ExpectedDepartureTime"] = moment_text(stop.departure + late)
             calls.append(call)
         return item | {"EstimatedCalls": {"EstimatedCall": calls}}
+
+    def place(self, dice, stop):
+        """The scheduled stop, or one of its station."""
+        if self.world.stations is None or dice.one_in(2):
+            return stop.id
+        return dice.choice(self.world.stations.stops_like(stop.id))
 
 
 REFUSED = (BadWord, FileMissing, FolderFault, ZoneRefused, FurtherFault, NotReadable)
@@ -123,6 +130,7 @@ def riverside(dice):
         ["--zone-rule", LONDON], friday, 3, files, carried, carried,
         [row["route_id"] for row in rows_of(files["g/routes.txt"])],
         [row["stop_id"] for row in rows_of(files["g/stops.txt"])],
+        stations=Stations({row["stop_id"]: row.get("parent_station", "") for row in rows_of(files["g/stops.txt"])}),
     )
     world.window = [friday + timedelta(days=n) for n in range(3)]
     world.clock_days = [str(friday)]
@@ -160,15 +168,16 @@ def name_of(first):
 
 
 def letters(dice):
-    """Ids of 200 bytes that have every printable letter."""
+    """Ids of 200 bytes that have every printable letter; now and then all stops are of one station."""
     starts = dice.sample(range(1, len(PRINTABLE)), 10)
     names = [name_of(start) for start in starts]
     stops, routes, ids = names[:5], names[5:6], names[6:]
     first = date(2037, 6, 12)
     services = random_services(dice, first)
     trips = [TripRow(name, routes[0], "S0", random_stops(dice, stops, False)) for name in ids]
-    files = folder_files(dice, trips, stops, routes, services, [])
-    world = World(["--zone-rule", LONDON], first, 3, files, trips, trips, routes, stops)
+    stations = Stations(dict.fromkeys(stops, stops[0])) if dice.one_in(2) else None
+    files = folder_files(dice, trips, stops, routes, services, [], stations)
+    world = World(["--zone-rule", LONDON], first, 3, files, trips, trips, routes, stops, stations=stations)
     world.window = [first + timedelta(days=n) for n in range(3)]
     world.clock_days = [str(first)]
     return Life("letters", world, 0)

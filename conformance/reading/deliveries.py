@@ -19,7 +19,7 @@ from .members import (
     whole,
 )
 from .moments import NANOS, read_either_day, read_moment
-from .readings import ABSENT, CANCELLED, MOST_DELAY, SKIPPED
+from .readings import ABSENT, CANCELLED, MOST_DELAY, MOST_PLACE_BYTES, SKIPPED, Timed, place_bytes
 
 
 class NotDelivery(Exception):
@@ -133,10 +133,10 @@ def read_journey(item, outer, context):
     if cancelled:
         return Record(trip, day, at, CANCELLED, 0)
     stops = context.planned(trip, day)
-    placed = place_calls(calls, stops)
+    matched = match_calls(calls, stops, context.table)
     reading = [ABSENT] * len(stops)
-    for place, call in placed:
-        reading[place] = call.reading(stops[place])
+    for k, call in matched:
+        reading[k] = call.reading(stops[k])
     extra = sum(call.is_extra for call in calls)
     return Record(trip, day, at, reading, extra)
 
@@ -185,13 +185,14 @@ class Call:
         return [time - planned for time, planned in pairs if time is not None]
 
     def reading(self, stop):
-        """At the planned times of its stop: one event gives its delay to the other."""
+        """At the planned times of its stop: one event gives its delay to the other. The stop that it names is the
+        place."""
         if self.is_skip:
             return SKIPPED
         delays = self.delays(stop)
         if not delays:
             return ABSENT
-        return stop.arrival + delays[0], stop.departure + delays[-1]
+        return Timed(stop.arrival + delays[0], stop.departure + delays[-1], self.stop)
 
 
 def read_calls(item, zone):
@@ -245,30 +246,36 @@ def event_time(times, event):
     return None
 
 
-def place_calls(calls, stops):
-    """The calls that are read, each with the place of its stop; or the first fault."""
+def match_calls(calls, stops, table):
+    """The calls that are read, each with the index of its stop; or the first fault."""
     read = [call for call in calls if not call.is_extra]
     for call in read:
-        if all(stop.id != call.stop for stop in stops):
+        station = table.station_of(call.stop)
+        if station is None or all(stop.station != station for stop in stops):
             raise Aside(f"UnknownStop {call.number}")
-    placed, before = [], -1
+    matched, before = [], -1
     for call in read:
-        before = match_call(call, stops, before)
+        before = match_call(call, stops, table.station_of(call.stop), before)
         if before is None:
             raise Aside(f"OutOfOrder {call.number}")
-        placed.append((before, call))
-    for place, call in placed:
-        for delay in call.delays(stops[place]):
+        matched.append((before, call))
+    for k, call in matched:
+        for delay in call.delays(stops[k]):
             if abs(delay) > MOST_DELAY:
                 raise Aside(f"DelayRange {call.number} {delay}")
-    return placed
+    readings = [(k, call.reading(stops[k])) for k, call in matched]
+    length = place_bytes(stops, [(k, at.place) for k, at in readings if isinstance(at, Timed)])
+    if length > MOST_PLACE_BYTES:
+        raise Aside(f"PlacesTooLong {length}")
+    return matched
 
 
-def match_call(call, stops, before):
-    """The stop of its order where that has its id, else the first with the id, after the one before."""
-    if call.order is not None and 1 <= call.order <= len(stops):
-        place = call.order - 1
-        if place > before and stops[place].id == call.stop:
-            return place
-    later = [place for place in range(before + 1, len(stops)) if stops[place].id == call.stop]
-    return later[0] if later else None
+def match_call(call, stops, station, before):
+    """After the stop of the call before: the stop of its order where that is of the named stop's station, else the
+    first with the named id, else the first of that station."""
+    later = range(before + 1, len(stops))
+    if call.order is not None and call.order - 1 in later and stops[call.order - 1].station == station:
+        return call.order - 1
+    same_id = [k for k in later if stops[k].id == call.stop]
+    same_station = [k for k in later if stops[k].station == station]
+    return (same_id + same_station + [None])[0]

@@ -102,8 +102,8 @@ class Timetable:
         self.trip_numbers = {trip.id: i for i, trip in enumerate(self.trips)}
 
     def station_of(self, stop):
-        """A stop's parent, or else the stop itself; a parent's own parent doesn't matter."""
-        return self.stations[stop]
+        """A stop's parent, or else the stop itself; a parent's own parent doesn't matter. None of an unknown id."""
+        return self.stations.get(stop)
 
     def runs(self, trip, day):
         service = self.trips[trip].service

@@ -6,7 +6,7 @@ from datetime import date
 from .deliveries import read_delivery
 from .feeds import read_feed
 from .files import CaseFiles
-from .folder import FILES, read_folder
+from .folder import FILES, OPTIONAL_COLUMNS, read_folder
 from .moments import day_number, moment_text
 from .propagation import readings_of
 from .readings import ABSENT, CANCELLED, SKIPPED, Context
@@ -22,7 +22,7 @@ TRIPS_OF_A_DELIVERY = 100
 
 
 def made_folder(trips, stops):
-    """The six files by name. The first line of each names the columns that are read, in their order."""
+    """The six files by name. The first line of each names the columns that have to be there, in their order."""
     rows = {
         "agency.txt": [["UTC"]],
         "stops.txt": [[stop_id(k)] for k in stop_numbers(stops)],
@@ -35,7 +35,11 @@ def made_folder(trips, stops):
             for k in stop_numbers(stops)
         ],
     }
-    return {name: table_text([list(FILES[name][0]), *lines]) for name, lines in rows.items()}
+    return {name: table_text([columns_of(name), *lines]) for name, lines in rows.items()}
+
+
+def columns_of(name):
+    return [column for column in FILES[name][0] if (name, column) not in OPTIONAL_COLUMNS]
 
 
 def table_text(lines):

@@ -5,7 +5,7 @@ from datetime import timedelta
 
 from .deliveries import Aside
 from .moments import is_moment, local_day, read_compact_day
-from .readings import ABSENT, CANCELLED, MOST_DELAY, SKIPPED
+from .readings import ABSENT, CANCELLED, MOST_DELAY, MOST_PLACE_BYTES, SKIPPED, Timed, place_bytes
 
 SCHEDULED, CANCELED = 0, 3
 STOP_SCHEDULED, STOP_SKIPPED, STOP_NO_DATA = 0, 1, 2
@@ -64,7 +64,7 @@ def read_update(update, header_time, context):
         reading = CANCELLED
     else:
         stops = context.planned(trip, day)
-        reading = propagate(stops, place_updates(stops, update["stop_time_update"]))
+        reading = propagate(stops, match_updates(stops, update["stop_time_update"], context.table))
     times = [time for time in (update["timestamp"], header_time) if is_moment(time)]
     return DatedReading(trip, day, times[0] if times else None, reading)
 
@@ -84,44 +84,67 @@ def day_of(descriptor, trip, header_time, context):
     raise Aside("NoDate")
 
 
-def place_updates(stops, updates):
-    """Each update with the place of its stop; or the first fault of the first update that has one."""
-    placed, before = [], -1
+def match_updates(stops, updates, table):
+    """Each update with the index of its stop; or the first fault of the first update that has one, and after all
+    updates the fault of their places."""
+    matched, before = [], -1
     for number, update in enumerate(updates):
         relation = update["schedule_relationship"]
         if relation not in (STOP_SCHEDULED, STOP_SKIPPED, STOP_NO_DATA):
             raise Aside(f"OtherRelation {relation}")
         before = match_update(stops, number, update, before)
         if relation == STOP_SCHEDULED:
-            delays = delays_of(update, stops[before])
-            if not delays:
-                raise Aside(f"NoTime {number}")
-            for delay in delays:
-                if abs(delay) > MOST_DELAY:
-                    raise Aside(f"DelayRange {number} {delay}")
-        placed.append((before, update))
-    return placed
+            look_at(update, number, stops[before], table)
+        matched.append((before, update))
+    scheduled = [(k, update) for k, update in matched if update["schedule_relationship"] == STOP_SCHEDULED]
+    length = place_bytes(stops, [(k, place_of(update, stops[k])) for k, update in scheduled])
+    if length > MOST_PLACE_BYTES:
+        raise Aside(f"PlacesTooLong {length}")
+    return matched
+
+
+def look_at(update, number, stop, table):
+    """Nothing, or the first fault of a SCHEDULED update at its stop."""
+    if table.station_of(place_of(update, stop)) != stop.station:
+        raise Aside(f"OtherPlace {number}")
+    delays = delays_of(update, stop)
+    if not delays:
+        raise Aside(f"NoTime {number}")
+    for delay in delays:
+        if abs(delay) > MOST_DELAY:
+            raise Aside(f"DelayRange {number} {delay}")
 
 
 def match_update(stops, number, update, before):
     sequence, stop_id = update["stop_sequence"], update["stop_id"] or None
     if sequence is None:
-        named = [place for place, stop in enumerate(stops) if stop.id == stop_id]
+        named = [k for k, stop in enumerate(stops) if stop.id == stop_id]
         if not named:
             raise Aside(f"UnknownStop {number}")
-        later = [place for place in named if place > before]
+        later = [k for k in named if k > before]
         if not later:
             raise Aside(f"OutOfOrder {number}")
         return later[0]
-    found = [place for place, stop in enumerate(stops) if stop.sequence == sequence]
+    found = [k for k, stop in enumerate(stops) if stop.sequence == sequence]
     if not found:
         raise Aside(f"UnknownStop {number}")
-    place = found[0]
-    if stop_id is not None and stops[place].id != stop_id:
+    k = found[0]
+    if stop_id not in (None, stops[k].id, assigned_to(update)):
         raise Aside(f"StopMismatch {number}")
-    if place <= before:
+    if k <= before:
         raise Aside(f"OutOfOrder {number}")
-    return place
+    return k
+
+
+def assigned_to(update):
+    """The stop that an update assigns; an empty id is as a missing one."""
+    properties = update["stop_time_properties"]
+    return properties and properties["assigned_stop_id"] or None
+
+
+def place_of(update, stop):
+    """The stop that an update assigns, else the scheduled one."""
+    return assigned_to(update) or stop.id
 
 
 def delays_of(update, stop):
@@ -137,23 +160,24 @@ def delays_of(update, stop):
     return delays
 
 
-def propagate(stops, placed):
+def propagate(stops, matched):
     """The reading of every stop."""
-    return [reading_at(stops, placed, k) for k in range(len(stops))]
+    return [reading_at(stops, matched, k) for k in range(len(stops))]
 
 
-def reading_at(stops, placed, k):
-    """By the nearest update at or before the stop that isn't SKIPPED."""
-    skipped = {place for place, update in placed if update["schedule_relationship"] == STOP_SKIPPED}
+def reading_at(stops, matched, k):
+    """By the nearest update at or before the stop that isn't SKIPPED. Only at its own stop it says a place; what is
+    carried on has the scheduled one."""
+    skipped = {i for i, update in matched if update["schedule_relationship"] == STOP_SKIPPED}
     if k in skipped:
         return SKIPPED
-    supplies = [(place, update) for place, update in placed if place <= k and place not in skipped]
+    supplies = [(i, update) for i, update in matched if i <= k and i not in skipped]
     if not supplies:
         return ABSENT
-    place, update = supplies[-1]
+    i, update = supplies[-1]
     if update["schedule_relationship"] == STOP_NO_DATA:
         return ABSENT
-    delays = delays_of(update, stops[place])
-    if place == k:
-        return stops[k].arrival + delays[0], stops[k].departure + delays[-1]
-    return stops[k].arrival + delays[-1], stops[k].departure + delays[-1]
+    delays = delays_of(update, stops[i])
+    if i == k:
+        return Timed(stops[k].arrival + delays[0], stops[k].departure + delays[-1], place_of(update, stops[k]))
+    return Timed(stops[k].arrival + delays[-1], stops[k].departure + delays[-1], stops[k].id)

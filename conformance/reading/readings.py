@@ -1,7 +1,8 @@
-"""How stops and journeys read. A stop reads ABSENT (nothing is known), SKIPPED, or as a pair of arrival and
-departure in seconds since 1970. A journey reads CANCELLED, or as the list of its stops' readings."""
+"""How stops and journeys read. A stop reads ABSENT (nothing is known), SKIPPED, or Timed. A journey reads
+CANCELLED, or as the list of its stops' readings."""
 
 from dataclasses import dataclass
+from typing import NamedTuple
 
 from .moments import day_start
 
@@ -9,14 +10,30 @@ ABSENT = "absent"
 SKIPPED = "skipped"
 CANCELLED = "cancelled"
 MOST_DELAY = 604_800
+MOST_PLACE_BYTES = 4_096
+
+
+class Timed(NamedTuple):
+    """Arrival and departure in seconds since 1970, and the id of the stop at which the vehicle stops: the
+    scheduled one, or another of its station."""
+
+    arrival: int
+    departure: int
+    place: str
 
 
 @dataclass
 class PlannedStop:
     id: str
+    station: str
     sequence: int
     arrival: int
     departure: int
+
+
+def place_bytes(stops, places):
+    """The bytes of the ids of the places that aren't the scheduled stops; each with the index of its stop."""
+    return sum(len(place.encode()) for k, place in places if place != stops[k].id)
 
 
 class Context:
@@ -31,6 +48,12 @@ class Context:
         """The trip's stops with their planned times on the day."""
         start = day_start(self.zone, day)
         return [
-            PlannedStop(stop.id, stop.sequence, start + stop.arrival, start + stop.departure)
+            PlannedStop(
+                stop.id,
+                self.table.station_of(stop.id),
+                stop.sequence,
+                start + stop.arrival,
+                start + stop.departure,
+            )
             for stop in self.table.trips[trip].stops
         ]

@@ -1,4 +1,4 @@
-"""The lines of `show`."""
+"""The lines of `show`, which name the scheduled stop wherever a vehicle stops."""
 
 from .moments import day_text, moment_text
 from .readings import ABSENT, CANCELLED, SKIPPED
@@ -16,7 +16,7 @@ def shown_lines(reading, context):
             if at_stop in (SKIPPED, ABSENT):
                 told = at_stop
             else:
-                told = " ".join(map(moment_text, at_stop))
+                told = f"{moment_text(at_stop.arrival)} {moment_text(at_stop.departure)}"
             lines.append(f"{front} {k} {stop.id} {told}")
     lines += [f"aside {index} {fault}" for index, fault in reading.aside]
     lines.append(totals(reading.taken, reading.passed, len(reading.aside)))

@@ -1,6 +1,6 @@
 """The fewest stop time updates that say how the stops of a journey read."""
 
-from .readings import ABSENT, SKIPPED
+from .readings import ABSENT, SKIPPED, Timed
 
 
 def shortest(stops, reading):
@@ -13,10 +13,11 @@ def shortest(stops, reading):
 
 
 def supplied(stops, reading, k):
-    """What the nearest earlier stop that isn't skipped supplies: nothing, or its departure's delay."""
+    """What the nearest earlier stop that isn't skipped supplies: nothing, or its departure's delay at the scheduled
+    stop."""
     earlier = [i for i in range(k) if reading[i] != SKIPPED]
     if not earlier or reading[earlier[-1]] == ABSENT:
         return ABSENT
     i = earlier[-1]
-    delay = reading[i][1] - stops[i].departure
-    return stops[k].arrival + delay, stops[k].departure + delay
+    delay = reading[i].departure - stops[i].departure
+    return Timed(stops[k].arrival + delay, stops[k].departure + delay, stops[k].id)

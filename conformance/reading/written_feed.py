@@ -46,9 +46,14 @@ def stop_time_update(stop, reading):
         return sequence + number_field(5, 1)
     if reading == ABSENT:
         return sequence + number_field(5, 2)
-    arrival, departure = reading
-    arrival_field = bytes_field(2, event(arrival, stop.arrival))
-    return sequence + arrival_field + bytes_field(3, event(departure, stop.departure))
+    arrival = bytes_field(2, event(reading.arrival, stop.arrival))
+    departure = bytes_field(3, event(reading.departure, stop.departure))
+    return sequence + arrival + departure + assigned(stop, reading.place)
+
+
+def assigned(stop, place):
+    """The stop that is assigned, where it isn't the scheduled one."""
+    return b"" if place == stop.id else bytes_field(6, text_field(1, place))
 
 
 def journey_entity(record, context):

@@ -50,6 +50,7 @@ def call(order, stop, reading):
     if reading == SKIPPED:
         members["Cancellation"] = True
     elif reading != ABSENT:
-        members["ExpectedArrivalTime"] = moment_text(reading[0])
-        members["ExpectedDepartureTime"] = moment_text(reading[1])
+        members["ExpectedArrivalTime"] = moment_text(reading.arrival)
+        members["ExpectedDepartureTime"] = moment_text(reading.departure)
+        members["StopPointRef"] = reading.place
     return members

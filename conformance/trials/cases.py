@@ -5,6 +5,7 @@ from .case import Case
 from .edges import edge_case
 from .feed_cases import Feeds, random_feed
 from .odd import Dice
+from .place_cases import place_case
 from .siri_cases import AT, Journeys, Situations, random_body
 from .worlds import faulty_folder, random_world
 
@@ -40,6 +41,8 @@ def random_case(seed, command, number, with_situations=True):
         return sample_case(dice, with_situations)
     if command != "to-siri-sx" and dice.one_in(15):
         return edge_case(dice, command)
+    if command != "to-siri-sx" and dice.one_in(12):
+        return place_case(dice, command)
     world = random_world(dice)
     subject = dice.weighted(inner=22, folder=5, words=1.5, files=0.5)
     if subject == "folder":

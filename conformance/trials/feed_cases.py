@@ -128,9 +128,11 @@ class Feeds:
             fields.append(self.number(1, delay))
         return self.embedded(number, fields)
 
-    def update(self, trip, day, k, delay):
+    def update(self, trip, day, k, delay, place):
+        """The update of a stop; a place that isn't the scheduled one is assigned, mostly."""
         dice = self.dice
         sequence, stop, arrival, departure = trip.stops[k]
+        assigned = place != stop and not self.odd(0.05) or dice.one_in(12)
         fields = []
         named = dice.weighted(sequence=6, stop=2, both=2, none=0.1)
         if named in ("sequence", "both"):
@@ -147,21 +149,39 @@ class Feeds:
                 planned = start + seconds_of(arrival if number == 2 else departure)
                 fields.append(self.event(number, planned, delay))
         if named in ("stop", "both") or self.odd(0.05):
+            if named == "both" and dice.one_in(3):
+                stop = place
+            if self.world.stations and self.odd(0.15):
+                stop = dice.choice(self.world.stations.stops_like(stop))
             if self.odd(0.05):
                 stop = dice.choice([*self.world.stops, "NOWHERE", ""])
             fields.append(self.text(4, stop))
         if relation != "0" or dice.one_in(4):
             fields.append(self.enum(5, int(relation)))
-        if self.odd(0.2):
-            fields.append(self.properties(stop))
+        if assigned or self.odd(0.05):
+            fields.append(self.properties(place))
         return b"".join(self.message(fields))
 
-    def properties(self, stop):
+    def properties(self, place):
         """The properties of a stop: mostly the id of the stop that is assigned."""
         dice = self.dice
-        assigned = dice.choice((stop, *self.world.stops, "NOWHERE", ""))
-        fields = [self.again(self.text(1, assigned), self.text(1, "other"))] if not dice.one_in(8) else []
+        if self.odd(0.08):
+            place = dice.choice((*self.world.stops, "NOWHERE", ""))
+        other = dice.choice(("other", "", *self.world.stops))
+        fields = [self.again(self.text(1, place), self.text(1, other))] if not self.odd(0.05) else []
         return self.embedded(6, fields)
+
+    def long_update(self, trip, day, k, place):
+        """An update, nearly always with a time, that assigns the place."""
+        dice = self.dice
+        sequence, stop, arrival, departure = trip.stops[k]
+        named = self.bytes(6, self.bytes(1, place.encode()))
+        kind = dice.randrange(4) if place == stop else 0
+        if kind in (1, 2):
+            named = self.bytes(6, self.bytes(1, dice.choice(self.world.stops).encode()))
+            return self.number(1, sequence) + self.number(5, kind) + named
+        event = self.number(1, dice.choice((0, 60)))
+        return self.number(1, sequence) + self.bytes(dice.choice((2, 3)), event) + named
 
     def descriptor(self, trip, day, relation):
         dice = self.dice
@@ -189,11 +209,17 @@ class Feeds:
         fields = [self.embedded(1, self.descriptor(trip, day, relation))]
         delay = dice.choice((0, 60, -30, 300))
         density = dice.choice((0.2, 0.5, 1.0))
-        updates = []
+        updates, stations = [], world.stations
+        places = [stop for _, stop, _, _ in trip.stops]
+        if stations and places:
+            places = stations.places(dice, places, self.oddness)
+        is_long = stations and stations.is_long
         for k in range(len(trip.stops)):
-            if dice.random() < density:
+            if is_long:
+                updates.append(self.long_update(trip, day, k, places[k]))
+            elif dice.random() < density:
                 delay = dice.choice((delay, delay, 0, 61, -3600, 86400))
-                updates.append(self.update(trip, day, k, delay))
+                updates.append(self.update(trip, day, k, delay, places[k]))
         if self.odd(0.08) and updates:
             updates.insert(dice.randint(0, len(updates)), dice.choice(updates))
         if self.odd(0.05):

@@ -122,16 +122,21 @@ class Journeys:
         return item
 
     def calls(self, trip, day):
-        dice = self.dice
+        dice, stations = self.dice, self.world.stations
         delay = dice.choice((0, 0, 60, -1, 300, -3700))
         calls = []
         density = dice.choice((0.3, 0.9, 1.0))
-        for k, (_, stop, arrival, departure) in enumerate(trip.stops):
+        places = [stop for _, stop, _, _ in trip.stops]
+        if stations and places:
+            places = stations.places(dice, places, self.oddness)
+            if stations.is_long:
+                return self.long_calls(trip, places, day)
+        for k, (_, _, arrival, departure) in enumerate(trip.stops):
             if dice.random() > density:
                 continue
             if dice.one_in(5):
                 delay = dice.choice((0, 60, -60, 61, 120, -86400, 604800, -604800))
-            calls.append(self.call(k, stop, seconds_of(arrival), seconds_of(departure), day, delay))
+            calls.append(self.call(k, places[k], seconds_of(arrival), seconds_of(departure), day, delay))
         if self.odd(0.5) and calls:
             extra = dict(dice.choice(calls))
             if not dice.one_in(3):
@@ -139,6 +144,24 @@ class Journeys:
             calls.insert(dice.randint(0, len(calls)), extra)
         if self.odd(0.2):
             dice.shuffle(calls)
+        return calls
+
+    def long_calls(self, trip, places, day):
+        """A call at each stop, nearly all with a time."""
+        dice, start, calls = self.dice, day_seconds(day), []
+        for k, (place, (_, stop, arrival, departure)) in enumerate(zip(places, trip.stops), 1):
+            call = {"StopPointRef": place}
+            if dice.one_in(2):
+                call["Order"] = k
+            kind = dice.randrange(4) if place == stop else 0
+            if kind == 1:
+                call |= {"StopPointRef": dice.choice(self.world.stops), "Cancellation": True}
+            elif kind == 2:
+                call["StopPointRef"] = dice.choice(self.world.stops)
+            else:
+                late = dice.choice((0, 0, 60))
+                call["ExpectedArrivalTime"] = moment_word(start + seconds_of(arrival or departure) + late) + "Z"
+            calls.append(call)
         return calls
 
     def call(self, k, stop, arrival, departure, day, delay):

@@ -5,6 +5,7 @@ from datetime import date, timedelta
 
 from .clocks import random_zone
 from .odd import broken_bytes
+from .stations import random_stations
 
 STOPS = ["A", "B", "C", "D", "E", "F", "G-1", "\u00d6st", "s p", 'q"q', "c,c", "1", "null"]
 STOPS += ["\u0001\u001f\u007f\u0080", "a\\b/\b\f\n\r\tz", "\u2028\U0001f68b", "y" * 200, "\u00e9" * 64]
@@ -33,6 +34,7 @@ class World:
     days_text: str = None
     window: list = field(default_factory=list)
     clock_days: list = field(default_factory=list)  # days on which the zone's clock may change
+    stations: object = None  # where stops have parents
 
     def words(self, command, at=None):
         words = [command, "--gtfs", self.folder, *self.zone, "--from", str(self.first)]
@@ -46,9 +48,9 @@ def clock(seconds):
     return text
 
 
-def random_stops(dice, pool, untimed):
+def random_stops(dice, pool, untimed, count=None):
     """A trip's stops: lines, loops, a stop twice in a row; times that rise, mostly; some of them untimed."""
-    count = dice.choice((1, 2, 2, 3, 3, 3, 4, 4, 5, 8, 30))
+    count = count or dice.choice((1, 2, 2, 3, 3, 3, 4, 4, 5, 8, 30))
     kind = dice.randrange(4)
     if kind == 0:
         names = [pool[i % len(pool)] for i in range(count)]
@@ -87,20 +89,26 @@ def random_world(dice, clock_days=None):
     first -= timedelta(days=dice.choice((0, 0, 0, 1, 1, 2)))
     first = max(date(1971, 1, 1), min(first, date(9997, 12, 31) - timedelta(days=count - 1)))
     pool = dice.sample(STOPS, dice.randint(1, 5))
+    stations = random_stations(dice, pool)
+    names = list(stations.parents) if stations else pool
+    called = pool if stations is None or stations.is_long or dice.one_in(2) else names
+    called = pool[:1] if stations and stations.is_long else called
     routes = ["R1", "R2", "\u00e9", 'r"\\\u0003'][: dice.randint(1, 4)]
     services = random_services(dice, first)
     trips = []
     for i in range(dice.choice((1, 1, 2, 3, 4))):
         name = dice.choice(("T", "T", "T", "t", "0", "\u00fc", "\u0002\"\\", "z" * 130)) + str(i)
         service = dice.choice([*services, "S0", "S0"])
-        stops = [] if dice.one_in(12) else random_stops(dice, pool, dice.one_in(2))
+        length = dice.randint(21, 30) if stations and stations.is_long else None
+        stops = [] if dice.one_in(12) else random_stops(dice, called, dice.one_in(2), length)
         trips.append(TripRow(name, dice.choice(routes), service, stops))
     frequencies = [trip.id for trip in trips if dice.one_in(10)]
-    files |= folder_files(dice, trips, pool, routes, services, frequencies)
+    files |= folder_files(dice, trips, names, routes, services, frequencies, stations)
     carried = [trip for trip in trips if trip.id not in frequencies]
     window = [first + timedelta(days=n) for n in range(count)]
     clock_days = [*days, str(first)]
-    world = World(zone, first, count, files, trips, carried, routes, pool, window=window, clock_days=clock_days)
+    world = World(zone, first, count, files, trips, carried, routes, names, window=window, clock_days=clock_days,
+        stations=stations)
     if dice.one_in(20):
         world.folder = dice.choice(("g/", "./g", "g//", "./g/."))
     if dice.one_in(20):
@@ -126,7 +134,7 @@ def compact(day):
     return f"{day.year:04}{day.month:02}{day.day:02}"
 
 
-def folder_files(dice, trips, stops, routes, services, frequencies):
+def folder_files(dice, trips, stops, routes, services, frequencies, stations=None):
     calendar, exceptions = [], []
     for name, (flags, start, end, days) in services.items():
         if flags:
@@ -137,7 +145,7 @@ def folder_files(dice, trips, stops, routes, services, frequencies):
         dice.shuffle(times)
     tables = {
         "agency.txt": (["agency_timezone"], [["Europe/Paris"]] * dice.choice((0, 1, 1, 2))),
-        "stops.txt": stop_table(dice, stops),
+        "stops.txt": stop_table(dice, stops, stations),
         "routes.txt": (["route_id"], [[route] for route in routes]),
         "trips.txt": (
             ["trip_id", "route_id", "service_id"],
@@ -159,12 +167,12 @@ def folder_files(dice, trips, stops, routes, services, frequencies):
     return files
 
 
-def stop_table(dice, stops):
-    """The stops, now and then with their parents: other stops, themselves, or stations that no trip calls at."""
-    if not dice.one_in(3):
-        return ["stop_id"], [[stop] for stop in stops]
-    names = [*stops, *dice.choice(([], [], ["station"], ["\u00e9 station", "y" * 200]))]
-    rows = [[name, dice.choice(("", *names))] for name in names]
+def stop_table(dice, stops, stations):
+    """The stops, with their parents where they have any; a parent may stand before or after its stops."""
+    if stations is None:
+        return (["stop_id"], [[stop] for stop in stops]) if not dice.one_in(12) else (
+            ["stop_id", "parent_station"], [[stop, ""] for stop in stops])
+    rows = [[name, stations.parents[name]] for name in stops]
     if dice.one_in(3):
         dice.shuffle(rows)
     return ["stop_id", "parent_station"], rows

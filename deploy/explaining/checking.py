@@ -170,7 +170,7 @@ def look_at_fault(tally, item, fault, is_situation):
 def add_delays(tally, record, context):
     for reading, stop in zip(record.reading, context.planned(record.trip, record.day)):
         if reading not in (ABSENT, SKIPPED):
-            tally.delays.append(reading[0] - stop.arrival)
+            tally.delays.append(reading.arrival - stop.arrival)
 
 
 def look_at_feed(tally, body, context, now, use):

@@ -106,11 +106,13 @@ class Item:
             return [self.at(self.item), f"call {number}: the delivery isn't the one of this report"]
         call = calls[number]
         lines = [call_text(number, call), self.at(call)]
+        if self.words[0] == "UnknownStop" and table is not None:
+            lines += station_lines(value_of(call, "StopPointRef"), table)
         if self.words[0] == "DelayRange":
             lines.append(f"its time is {abs(int(self.words[2]))} s {'late' if int(self.words[2]) > 0 else 'early'}")
         stops = self.stops(table)
         if stops:
-            lines.append("the trip stops at: " + ", ".join(f"{i} {stop}" for i, stop in enumerate(stops, 1)))
+            lines.append("the trip stops at: " + ", ".join(f"{i} {with_station(stop, table)}" for i, stop in enumerate(stops, 1)))
         return lines
 
     def stops(self, table):
@@ -184,6 +186,29 @@ def about_running(item, table, _):
     return lines
 
 
+def with_station(stop, table):
+    """A stop, and its station where that is another one."""
+    station = table.station_of(stop)
+    return stop if station == stop else f"{stop} ({station})"
+
+
+def station_lines(stop, table):
+    """What the folder has of a stop at which a trip doesn't stop."""
+    station = table.station_of(stop)
+    if station is None:
+        return near_ids(stop or "", table.stop_ids, "stop")
+    if station == stop:
+        return []
+    return [f"{stop} is of the station {station}, at no stop of which the trip stops"]
+
+
+def about_places(item, table, _):
+    planned = set(item.stops(table))
+    named = [value_of(call, "StopPointRef") for call in calls_of(item.item)]
+    others = [stop for stop in named if stop is not None and stop not in planned]
+    return [f"{len(others)} calls name a stop that isn't the trip's"] if planned else []
+
+
 def about_affects(item, *_):
     affects = item.item.get("Affects")
     if not isinstance(affects, dict) or not affects:
@@ -210,6 +235,7 @@ ABOUT = {
     "UnknownJourney": about_journey,
     "OutOfWindow": about_window,
     "NotRunning": about_running,
+    "PlacesTooLong": about_places,
     "NoAffects": about_affects,
     "UnknownRef": about_references,
 }

@@ -7,7 +7,8 @@ ITEM = {
     "UnknownJourney": "No trip of trips.txt has this id, or frequencies.txt has the trip: the gateway doesn't carry those.",
     "OutOfWindow": "The service day isn't among those of --from and --days; a server's window moves with the clock and --keep.",
     "NotRunning": "By calendar.txt and calendar_dates.txt the trip doesn't run on this service day.",
-    "UnknownStop": "The trip doesn't stop at this stop_id. One such call sets the whole journey aside.",
+    "UnknownStop": "The trip doesn't stop at this stop_id, nor, where a call names it, at another stop of its station (parent_station). "
+                   "One such call sets the whole journey aside.",
     "OutOfOrder": "The call matches no stop of the trip after the stop of the call before: calls come in the trip's order, "
                   "the recorded ones first, each stop once.",
     "DelayRange": "The time is over 7 days (604,800 seconds) away from the planned one: probably another service day or a wrong date.",
@@ -19,7 +20,10 @@ ITEM = {
     "OtherRelation": "The trip or a stop has a schedule_relationship that isn't read (a trip: SCHEDULED and CANCELED; a stop: "
                      "SCHEDULED, SKIPPED and NO_DATA).",
     "NoDate": "start_date isn't YYYYMMDD; or it is missing, and the trip runs neither on the header's local day nor on the day before.",
-    "StopMismatch": "The update has a stop_sequence and a stop_id, and the trip has another stop_id at that sequence.",
+    "StopMismatch": "The update has a stop_sequence and a stop_id that is neither the trip's at that sequence nor the update's "
+                    "assigned_stop_id.",
+    "OtherPlace": "The update's assigned_stop_id is no stop of the station of the trip's stop (parent_station in stops.txt).",
+    "PlacesTooLong": "The stops at which the journey stops in place of the trip's have ids of over 4,096 bytes together.",
     "NoTime": "The update is SCHEDULED and has neither a time nor a delay.",
 }
 # What stays when an item is set aside.

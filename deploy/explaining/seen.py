@@ -6,6 +6,7 @@ from collections import Counter
 from reading.deliveries import Aside
 from reading.members import BadMember
 from reading.moments import day_start, day_text
+from reading.propagation import assigned_to
 from reading.situations import read_references
 from reading.zones import ZoneRefused, read_zone_file
 
@@ -57,6 +58,10 @@ def add_unknown_of_feed(tally, entity, fault):
         if stop:
             tally.unknown["stop"].append(stop)
             tally.stops[stop] += 1
+    elif words[0] == "OtherPlace":
+        stop = assigned_to(update["stop_time_update"][int(words[1])])
+        tally.unknown["stop"].append(stop)
+        tally.stops[stop] += 1
 
 
 # The zone.

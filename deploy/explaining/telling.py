@@ -8,13 +8,13 @@ from reading.deliveries import NotDelivery, journey_items
 from reading.deliveries import verdict as journey_verdict
 from reading.feeds import FeedFault, read_feed
 from reading.outcome import DIFFERENTIAL, take_journeys, take_situations
-from reading.propagation import readings_of
+from reading.propagation import assigned_to, readings_of
 from reading.situations import situation_items
 from reading.situations import verdict as situation_verdict
 from reading.written_situations import situations_of
 
 from .bodies import refused_delivery, refused_feed
-from .items import Item
+from .items import Item, with_station
 from .placed import read_placed
 from .rules import BODY, HTTP, ITEM, STAYS
 
@@ -148,14 +148,25 @@ def entity_lines(entity, index, fault, group, context):
     words = fault.split()
     if words[0] == "NoDate" and trip["start_date"]:
         lines.append(f"  start_date is {trip['start_date']!r}: it has to be YYYYMMDD")
-    if words[0] in ("UnknownStop", "StopMismatch", "OutOfOrder", "NoTime", "DelayRange"):
+    if words[0] == "PlacesTooLong":
+        others = [one for one in update["stop_time_update"] if assigned_to(one)]
+        lines.append(f"  {len(others)} updates have an assigned_stop_id")
+    if words[0] in ("UnknownStop", "StopMismatch", "OutOfOrder", "OtherPlace", "NoTime", "DelayRange"):
         number = int(words[1])
         one = update["stop_time_update"][number]
-        lines.append(f"  update {number}: stop_sequence {one['stop_sequence']}, stop_id {one['stop_id'] or '(none)'}")
+        assigned = assigned_to(one)
+        lines.append(
+            f"  update {number}: stop_sequence {one['stop_sequence']}, stop_id {one['stop_id'] or '(none)'}"
+            + (f", assigned_stop_id {assigned}" if assigned else "")
+        )
+        if words[0] == "OtherPlace" and context:
+            station = context.table.station_of(assigned)
+            lines.append(f"  {assigned} is " + ("no stop of stops.txt" if station is None else f"of the station {station}"))
         known = context and context.table.trip_numbers.get(trip["trip_id"])
         if known is not None:
             stops = context.table.trips[known].stops
-            lines.append("  the trip stops at: " + ", ".join(f"{stop.sequence} {stop.id}" for stop in stops))
+            named = (f"{stop.sequence} {with_station(stop.id, context.table)}" for stop in stops)
+            lines.append("  the trip stops at: " + ", ".join(named))
     return lines
 
 

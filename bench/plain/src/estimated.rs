@@ -1,9 +1,9 @@
 //! Deliveries of estimated timetables.
 
 use crate::fault::{BodyFault, Fault};
-use crate::gtfs::StopTime;
+use crate::gtfs::{StopTime, Timetable};
 use crate::json::{members, Leaf, Needed, Object, Repeated};
-use crate::siri::{deliveries_of, in_range, on_the_way, service_of, Context, Reading, StopReading};
+use crate::siri::{check_places, deliveries_of, in_range, on_the_way, service_of, Context, Reading, StopReading};
 use crate::time::{read_moment, Day, Instant};
 
 members! {
@@ -118,11 +118,12 @@ fn read_journey(journey: &Journey, at: Instant, context: &Context) -> Result<Rec
         return Ok(Record { trip, day, at, reading: Reading::Cancelled, extra_calls: 0 });
     }
     let stops = context.table.stops_of(trip);
-    let places = place_calls(&calls, stops)?;
+    let matched = match_calls(&calls, stops, &context.table)?;
     let mut reading = vec![StopReading::Absent; stops.len()];
-    for (call, place) in calls.iter().flatten().zip(places) {
-        reading[place] = call.reading(start, &stops[place])?;
+    for (call, index) in calls.iter().flatten().zip(matched) {
+        reading[index] = call.reading(start, &stops[index])?;
     }
+    check_places(stops.iter().zip(&reading).map(|(stop, said)| said.place_bytes(stop, &context.table)).sum())?;
     let extra_calls = calls.iter().filter(|call| call.is_none()).count() as u64;
     Ok(Record { trip, day, at, reading: Reading::Stops(reading), extra_calls })
 }
@@ -196,40 +197,53 @@ impl Call {
         };
         let arrival = delay(self.arrival, stop.arrival)?;
         let departure = delay(self.departure, stop.departure)?;
+        let place = self.stop.unwrap_or(stop.stop);
         Ok(match (arrival, departure) {
             (None, None) => StopReading::Absent,
-            (Some(arrival), departure) => StopReading::Timed { arrival, departure: departure.unwrap_or(arrival) },
-            (None, Some(departure)) => StopReading::Timed { arrival: departure, departure },
+            (Some(arrival), departure) => {
+                StopReading::Timed { arrival, departure: departure.unwrap_or(arrival), place }
+            }
+            (None, Some(departure)) => StopReading::Timed { arrival: departure, departure, place },
         })
     }
 
-    /// The stop of its order where that has its id, else the first with the id, from a place on.
-    fn place(&self, stops: &[StopTime], from: usize) -> Option<usize> {
+    /// From an index on the stop of its order where that is of the named stop's station, else the first with the id,
+    /// else the first of that station.
+    fn index(&self, stops: &[StopTime], table: &Timetable, from: usize) -> Option<usize> {
         let stop = self.stop?;
         let ordered = self.order.and_then(|order| usize::try_from(order.checked_sub(1)?).ok());
         match ordered {
-            Some(place) if place >= from && stops.get(place).is_some_and(|found| found.stop == stop) => Some(place),
-            _ => (from..stops.len()).find(|&place| stops[place].stop == stop),
+            Some(index) if index >= from && stops.get(index).is_some_and(|found| self.is_at(found, table)) => {
+                Some(index)
+            }
+            _ => (from..stops.len())
+                .find(|&index| stops[index].stop == stop)
+                .or_else(|| (from..stops.len()).find(|&index| self.is_at(&stops[index], table))),
         }
+    }
+
+    /// Whether a stop is of the named stop's station.
+    fn is_at(&self, found: &StopTime, table: &Timetable) -> bool {
+        self.stop.is_some_and(|stop| table.station_of(found.stop) == table.station_of(stop))
     }
 }
 
-/// The place of each call that is read; a stop that the trip doesn't have is told before the order.
-fn place_calls(calls: &[Option<Call>], stops: &[StopTime]) -> Result<Vec<usize>, Fault> {
-    let mut places = Vec::with_capacity(calls.len());
+/// The index of the stop of each call that is read; a station at which the trip doesn't stop is told before the order.
+fn match_calls(calls: &[Option<Call>], stops: &[StopTime], table: &Timetable) -> Result<Vec<usize>, Fault> {
+    let mut matched = Vec::with_capacity(calls.len());
     let mut from = 0;
     for call in calls.iter().flatten() {
-        match call.place(stops, from) {
-            Some(place) => {
-                places.push(place);
-                from = place + 1;
+        match call.index(stops, table, from) {
+            Some(index) => {
+                matched.push(index);
+                from = index + 1;
             }
             None => {
-                let is_unknown = |call: &&Call| !stops.iter().any(|stop| Some(stop.stop) == call.stop);
+                let is_unknown = |call: &&Call| !stops.iter().any(|stop| call.is_at(stop, table));
                 let unknown = calls.iter().flatten().find(is_unknown);
                 return Err(unknown.map_or(Fault::OutOfOrder(call.number), |call| Fault::UnknownStop(call.number)));
             }
         }
     }
-    Ok(places)
+    Ok(matched)
 }

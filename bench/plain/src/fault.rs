@@ -86,6 +86,8 @@ pub enum Fault {
     StopMismatch(usize),
     NoTime(usize),
     OtherRelation(i32),
+    OtherPlace(usize),
+    PlacesTooLong(usize),
 }
 
 impl Display for Fault {
@@ -107,6 +109,8 @@ impl Display for Fault {
             Fault::StopMismatch(at) => write!(f, "StopMismatch {at}"),
             Fault::NoTime(at) => write!(f, "NoTime {at}"),
             Fault::OtherRelation(number) => write!(f, "OtherRelation {number}"),
+            Fault::OtherPlace(at) => write!(f, "OtherPlace {at}"),
+            Fault::PlacesTooLong(bytes) => write!(f, "PlacesTooLong {bytes}"),
         }
     }
 }

@@ -156,6 +156,8 @@ pub struct StopUpdate<'a> {
     pub departure: Option<Event>,
     pub stop_id: Option<&'a str>,
     pub relation: i32,
+    /// The assigned stop of its properties.
+    pub assigned: Option<&'a str>,
 }
 
 #[derive(Default)]
@@ -333,6 +335,13 @@ impl<'a> Reader<'a> {
             }
             (4, Value::Bytes(..)) => update.stop_id = reader.text(&field),
             (5, Value::Varint(value)) => update.relation = value as i32,
+            (6, Value::Bytes(start, end)) => {
+                reader.fields(start, end, |reader, field| {
+                    if let (1, Value::Bytes(..)) = (field.number, field.value) {
+                        update.assigned = reader.text(&field);
+                    }
+                });
+            }
             _ => {}
         });
         update

@@ -83,6 +83,8 @@ pub struct Timetable {
     pub route_ids: Ids,
     pub trip_ids: Ids,
     pub trips: Vec<Trip>,
+    /// Of each stop its parent, or itself.
+    stations: Vec<u32>,
     services: Ids,
     calendars: HashMap<u32, Calendar, RandomState>,
     exceptions: HashMap<(u32, Day), bool, RandomState>,
@@ -92,6 +94,10 @@ impl Timetable {
     /// The number of a carried trip.
     pub fn find_trip(&self, id: &str) -> Option<u32> {
         self.trip_ids.find(id.as_bytes()).filter(|&trip| self.trips[trip as usize].is_carried)
+    }
+
+    pub fn station_of(&self, stop: u32) -> u32 {
+        self.stations[stop as usize]
     }
 
     pub fn stops_of(&self, trip: u32) -> &[StopTime] {
@@ -234,8 +240,10 @@ pub fn read_folder(folder: &str) -> Result<Timetable, Exit> {
         row.once(table.stop_ids.insert(id).1)
     })?;
     need(there, "stops.txt")?;
-    if let Some((number, _)) = parents.iter().find(|(_, parent)| table.stop_ids.find(parent.as_bytes()).is_none()) {
-        return Err(Exit::Refused(format!("Unknown stops.txt {number} {MAY_BE_MISSING}")));
+    table.stations = (0..table.stop_ids.0.len() as u32).collect();
+    for (number, parent) in parents {
+        let unknown = || Exit::Refused(format!("Unknown stops.txt {number} {MAY_BE_MISSING}"));
+        table.stations[number as usize - 1] = table.stop_ids.find(parent.as_bytes()).ok_or_else(unknown)?;
     }
 
     let there = read_rows(folder, "routes.txt", &["route_id"], 100_000, |row| {

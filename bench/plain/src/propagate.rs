@@ -3,7 +3,7 @@
 use crate::fault::{BodyFault, Fault, Report};
 use crate::feed::{read_feed, Entity, Event, Header, StopUpdate};
 use crate::gtfs::StopTime;
-use crate::siri::{in_range, Context, Reading, StopReading};
+use crate::siri::{check_places, in_range, Context, Reading, StopReading, Supply};
 use crate::time::{is_moment, Day};
 use std::collections::BTreeMap;
 
@@ -83,31 +83,33 @@ fn propagate(
     context: &Context,
 ) -> Result<Vec<StopReading>, Fault> {
     let mut readings = Vec::with_capacity(stops.len());
-    let mut supply = StopReading::Absent;
+    let mut supply = Supply::default();
+    let mut bytes = 0;
     for (number, update) in updates.iter().enumerate() {
         if ![SCHEDULED, SKIPPED, NO_DATA].contains(&update.relation) {
             return Err(Fault::OtherRelation(update.relation));
         }
-        let place = place_of(number, update, stops, readings.len(), context)?;
-        readings.resize(place, supply);
+        let from = readings.len();
+        let index = index_of(number, update, stops, from, context)?;
+        readings.extend(stops[from..index].iter().map(|stop| supply.at(stop)));
+        let stop = &stops[index];
         let own = match update.relation {
             SKIPPED => StopReading::Skipped,
             NO_DATA => StopReading::Absent,
-            _ => own_delays(number, update, start, &stops[place])?,
+            _ => own_reading(number, update, start, stop, context)?,
         };
+        bytes += own.place_bytes(stop, &context.table);
         readings.push(own);
-        supply = match own {
-            StopReading::Skipped => supply,
-            StopReading::Absent => StopReading::Absent,
-            StopReading::Timed { departure, .. } => StopReading::Timed { arrival: departure, departure },
-        };
+        supply = supply.behind(own);
     }
-    readings.resize(stops.len(), supply);
+    check_places(bytes)?;
+    let from = readings.len();
+    readings.extend(stops[from..].iter().map(|stop| supply.at(stop)));
     Ok(readings)
 }
 
-/// The place of an update's stop, which is at `from` or after it.
-fn place_of(
+/// The index of an update's stop, which is `from` or after it.
+fn index_of(
     number: usize,
     update: &StopUpdate,
     stops: &[StopTime],
@@ -118,31 +120,51 @@ fn place_of(
     let Some(sequence) = update.sequence else {
         let stop = stop_id.and_then(|id| context.table.stop_ids.find(id.as_bytes()));
         let is_it = |found: &StopTime| Some(found.stop) == stop;
-        if let Some(place) = stops[from..].iter().position(is_it) {
-            return Ok(from + place);
+        if let Some(index) = stops[from..].iter().position(is_it) {
+            return Ok(from + index);
         }
         let is_earlier = stops[..from].iter().any(is_it);
         return Err(if is_earlier { Fault::OutOfOrder(number) } else { Fault::UnknownStop(number) });
     };
-    let place = match stops.get(from) {
+    let index = match stops.get(from) {
         Some(next) if next.sequence == sequence => from,
         _ => {
             let found = stops.binary_search_by_key(&sequence, |stop| stop.sequence);
             found.map_err(|_| Fault::UnknownStop(number))?
         }
     };
-    if stop_id.is_some_and(|id| context.table.stop_ids.text(stops[place].stop) != id) {
+    if stop_id.is_some_and(|id| context.table.stop_ids.text(stops[index].stop) != id && assigned_to(update) != stop_id)
+    {
         return Err(Fault::StopMismatch(number));
     }
-    if place < from {
+    if index < from {
         Err(Fault::OutOfOrder(number))
     } else {
-        Ok(place)
+        Ok(index)
     }
 }
 
+fn assigned_to<'a>(update: &StopUpdate<'a>) -> Option<&'a str> {
+    update.assigned.filter(|id| !id.is_empty())
+}
+
+/// The assigned stop, which is of the scheduled one's station, else that.
+fn place_of(number: usize, update: &StopUpdate, stop: &StopTime, context: &Context) -> Result<u32, Fault> {
+    let table = &context.table;
+    let Some(id) = assigned_to(update) else { return Ok(stop.stop) };
+    let is_near = |&found: &u32| table.station_of(found) == table.station_of(stop.stop);
+    table.stop_ids.find(id.as_bytes()).filter(is_near).ok_or(Fault::OtherPlace(number))
+}
+
 /// A time counts before a delay, and one event gives its delay to the other.
-fn own_delays(number: usize, update: &StopUpdate, start: i64, stop: &StopTime) -> Result<StopReading, Fault> {
+fn own_reading(
+    number: usize,
+    update: &StopUpdate,
+    start: i64,
+    stop: &StopTime,
+    context: &Context,
+) -> Result<StopReading, Fault> {
+    let place = place_of(number, update, stop, context)?;
     let delay = |event: &Option<Event>, planned: u32| {
         let planned = i128::from(start + i64::from(planned));
         let event = event.as_ref()?;
@@ -153,5 +175,5 @@ fn own_delays(number: usize, update: &StopUpdate, start: i64, stop: &StopTime) -
     let first = arrival.or(departure).ok_or(Fault::NoTime(number))?;
     let arrival = in_range(number, first)?;
     let departure = in_range(number, departure.unwrap_or(first))?;
-    Ok(StopReading::Timed { arrival, departure })
+    Ok(StopReading::Timed { arrival, departure, place })
 }

@@ -64,17 +64,19 @@ fn write_journey(
             Reading::Cancelled => StopReading::Skipped,
             Reading::Stops(readings) => readings[place],
         };
+        let mut named = stop.stop;
         match said {
             StopReading::Absent => out.write_all(br#"","#)?,
             StopReading::Skipped => out.write_all(br#"","Cancellation":true,"#)?,
-            StopReading::Timed { arrival: early, departure: late } => {
+            StopReading::Timed { arrival: early, departure: late, place } => {
+                named = place;
                 put_moment(out, br#"","ExpectedArrivalTime":""#, arrival + i64::from(early))?;
                 put_moment(out, br#"","ExpectedDepartureTime":""#, departure + i64::from(late))?;
                 out.write_all(br#"","#)?;
             }
         }
         write!(out, r#""Order":{},"#, place + 1)?;
-        put_text(out, br#""StopPointRef":"#, table.stop_ids.text(stop.stop))?;
+        put_text(out, br#""StopPointRef":"#, table.stop_ids.text(named))?;
         out.write_all(b"}")?;
     }
     out.write_all(br#"]},"FramedVehicleJourneyRef":{"DataFrameRef":""#)?;
@@ -103,7 +105,7 @@ pub fn write_lines(out: &mut impl Write, reading: &FeedReading, context: &Contex
             match *said {
                 StopReading::Absent => out.write_all(b" absent\n")?,
                 StopReading::Skipped => out.write_all(b" skipped\n")?,
-                StopReading::Timed { arrival, departure } => {
+                StopReading::Timed { arrival, departure, .. } => {
                     put_moment(out, b" ", start + i64::from(stop.arrival) + i64::from(arrival))?;
                     put_moment(out, b" ", start + i64::from(stop.departure) + i64::from(departure))?;
                     out.write_all(b"\n")?;

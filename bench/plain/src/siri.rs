@@ -1,13 +1,15 @@
 //! What the two kinds of deliveries have in common: the root, and what a delivery is read with.
 
 use crate::fault::{BodyFault, Fault};
-use crate::gtfs::Timetable;
+use crate::gtfs::{StopTime, Timetable};
 use crate::json::{members, Members, Needed, Object, Read, Repeated};
 use crate::time::{local_day, Day};
 use crate::zone::Zone;
 
 /// Most seconds that a stop may be early or late.
 pub const MOST_DELAY: i64 = 604_800;
+/// Most bytes of the ids of a journey's places that aren't the scheduled stops.
+const MOST_PLACES: usize = 4_096;
 
 pub struct Context {
     pub table: Timetable,
@@ -82,17 +84,59 @@ pub fn on_the_way<'s, T>(items: &'s Repeated<T>, name: &'static str) -> Result<V
     }
 }
 
-/// How a stop of a journey reads; times are said as delays, in seconds.
+/// How a stop of a journey reads; times are said as delays, in seconds. A place is the stop at which the vehicle stops:
+/// the scheduled one, or another of its station.
 #[derive(Clone, Copy, PartialEq, Eq, Debug)]
 pub enum StopReading {
     Absent,
     Skipped,
-    Timed { arrival: i32, departure: i32 },
+    Timed { arrival: i32, departure: i32, place: u32 },
+}
+
+impl StopReading {
+    /// How many bytes the id of its place has, where that isn't the scheduled stop.
+    pub fn place_bytes(&self, stop: &StopTime, table: &Timetable) -> usize {
+        match *self {
+            StopReading::Timed { place, .. } if place != stop.stop => table.stop_ids.text(place).len(),
+            _ => 0,
+        }
+    }
+}
+
+/// What a stop supplies to those after it: the delay of its departure, at the scheduled stops.
+#[derive(Clone, Copy, Default)]
+pub struct Supply(Option<i32>);
+
+impl Supply {
+    pub fn at(self, stop: &StopTime) -> StopReading {
+        match self.0 {
+            Some(delay) => StopReading::Timed { arrival: delay, departure: delay, place: stop.stop },
+            None => StopReading::Absent,
+        }
+    }
+
+    /// The supply behind a stop that reads so.
+    pub fn behind(self, reading: StopReading) -> Supply {
+        match reading {
+            StopReading::Skipped => self,
+            StopReading::Absent => Supply(None),
+            StopReading::Timed { departure, .. } => Supply(Some(departure)),
+        }
+    }
 }
 
 pub enum Reading {
     Cancelled,
     Stops(Vec<StopReading>),
+}
+
+/// The ids of a journey's places together aren't too long.
+pub fn check_places(bytes: usize) -> Result<(), Fault> {
+    if bytes <= MOST_PLACES {
+        Ok(())
+    } else {
+        Err(Fault::PlacesTooLong(bytes))
+    }
 }
 
 /// A delay that is in range.

@@ -1,8 +1,8 @@
 //! The bytes of a feed that is written.
 
 use crate::estimated::Record;
-use crate::gtfs::StopTime;
-use crate::siri::{Context, Reading, StopReading};
+use crate::gtfs::{StopTime, Timetable};
+use crate::siri::{Context, Reading, StopReading, Supply};
 use crate::situations::{Reference, Situation};
 use crate::time::Day;
 
@@ -61,17 +61,19 @@ fn put_trip_fields(out: &mut Vec<u8>, trip_id: &str, day: Day, relation: u64) {
 }
 
 /// The fewest updates that say how the stops read.
-fn put_updates(out: &mut Vec<u8>, start: i64, stops: &[StopTime], readings: &[StopReading]) {
-    let mut supply = StopReading::Absent;
+fn put_updates(out: &mut Vec<u8>, start: i64, stops: &[StopTime], readings: &[StopReading], table: &Timetable) {
+    let mut supply = Supply::default();
     for (stop, &reading) in stops.iter().zip(readings) {
-        if reading == StopReading::Skipped || reading != supply {
-            put_short(out, 2, |out| put_update(out, start, stop, reading));
+        if reading == StopReading::Skipped || reading != supply.at(stop) {
+            match reading {
+                StopReading::Timed { place, .. } if place != stop.stop => put_message(out, 2, |out| {
+                    put_update(out, start, stop, reading);
+                    put_message(out, 6, |out| put_bytes(out, 1, table.stop_ids.text(place).as_bytes()));
+                }),
+                _ => put_short(out, 2, |out| put_update(out, start, stop, reading)),
+            }
         }
-        supply = match reading {
-            StopReading::Skipped => supply,
-            StopReading::Absent => StopReading::Absent,
-            StopReading::Timed { departure, .. } => StopReading::Timed { arrival: departure, departure },
-        };
+        supply = supply.behind(reading);
     }
 }
 
@@ -80,7 +82,7 @@ fn put_update(out: &mut Vec<u8>, start: i64, stop: &StopTime, reading: StopReadi
     match reading {
         StopReading::Skipped => put_number(out, 5, 1),
         StopReading::Absent => put_number(out, 5, 2),
-        StopReading::Timed { arrival, departure } => {
+        StopReading::Timed { arrival, departure, .. } => {
             for (field, delay, planned) in [(2, arrival, stop.arrival), (3, departure, stop.departure)] {
                 put_short(out, field, |out| {
                     put_number(out, 1, i64::from(delay) as u64);
@@ -103,7 +105,7 @@ pub fn journey_entity(record: &Record, context: &Context) -> Vec<u8> {
             }
             put_trip(&mut update, trip_id, record.day, 0);
             let start = context.window.start_of(record.day).expect("the day of a record is in the window");
-            put_updates(&mut update, start, context.table.stops_of(record.trip), readings);
+            put_updates(&mut update, start, context.table.stops_of(record.trip), readings, &context.table);
         }
     }
     put_number(&mut update, 4, record.at.secs as u64);
