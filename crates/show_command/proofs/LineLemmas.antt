@@ -12,15 +12,18 @@ use Rattle.timetable.specs.Limits.{stop_limit}
 use Rattle.timetable.specs.Held.{are_in_range, is_in_range, stops_held}
 use Rattle.timetable.specs.Planned.{planned}
 use Rattle.timetable.specs.Stops.{are_known, are_rising, are_stops_of, are_timed, is_timed}
+use Rattle.timetable.specs.Table.{Table}
 use Rattle.timetable.specs.declared.carried_trip.CarriedTrip.{CarriedTrip}
 use Rattle.timetable.specs.declared.stop_row.StopRow.{StopRow}
 use Rattle.timetable.proofs.SoundLemmas.{each-in, stops-in}
 use Rattle.journey_model.specs.Dated.{run_of}
+use Rattle.journey_model.specs.Places.{keeps_places}
 use Rattle.journey_model.specs.Readings.{AreMoments, are_near, fits_trip, is_near}
 use Rattle.journey_model.specs.Runs.{Run}
 use Rattle.journey_model.specs.Schedules.{FitsSchedule, Schedule, run_from, run_on}
 use Rattle.journey_model.specs.declared.context.DatedTrip.{DatedTrip}
 use Rattle.journey_model.specs.declared.readings.JourneyReading.{JourneyReading}
+use Rattle.journey_model.specs.declared.readings.JourneyReading.TheVariants.{Stops}
 use Rattle.journey_model.specs.declared.readings.DatedReading.{DatedReading}
 use Rattle.journey_model.specs.declared.readings.StopReading.{StopReading}
 use Rattle.propagation.specs.Feeds.{IsServable}
@@ -35,24 +38,27 @@ servable_fits schedule journeys servable = λ position one within. (servable pos
 pub at_place : {X : Type 0} (P : X → Type 0) (xs : List X) (position : ℕ) (x : X) → All P xs → position < length xs → x ≡ get_or xs position x → P x
 at_place P xs position x all within is = subst P (sym is) (All-get_or P xs position x within all)
 
--- a reading that fits a schedule fits the trip on its day
-pub fits_dated : (schedule : Schedule) (trip : ℕ) (day : ℤ) (reading : JourneyReading) (ids : List (List ℕ)) (dated : DatedTrip) → FitsSchedule schedule trip day reading
-    → option_map (run_of ids) (Some dated) ≡ run_on schedule trip day → fits_trip dated.start dated.stops.now reading ≡ true
-fits_dated schedule trip day reading ids dated fits on_day =
+-- the readings of stops that fit a schedule are near the planned times of the trip on its day
+pub near_dated : (schedule : Schedule) (trip : ℕ) (day : ℤ) (reading : JourneyReading) (readings : List StopReading) (table : Table) (dated : DatedTrip)
+    → FitsSchedule schedule trip day reading → reading ≡ Stops readings
+    → option_map (run_of table) (Some dated) ≡ run_on schedule trip day → are_near dated.start dated.stops.now readings ≡ true
+near_dated schedule trip day reading readings table dated fits stops on_day =
     let found = fits.on_day in
-    let same : run_of ids dated ≡ fits.run = cc in
-    let P : Run → Type 0 = λ run. fits_trip run.start run.stops reading ≡ true in
-    subst P (sym same) fits.fits
+    let same : run_of table dated ≡ fits.run = cc in
+    let fitting : fits_trip fits.run (Stops readings) ≡ true = rw stops at fits.fits in
+    let whole : fits_trip (run_of table dated) (Stops readings) ≡ true =
+    subst (λ (run : Run). fits_trip run (Stops readings) ≡ true) (sym same) fitting in
+    (and_parts (are_near dated.start dated.stops.now readings) (keeps_places (run_of table dated) readings) whole).0
 
 -- and the trip's stops are those of the timetable
-pub stops_dated : (schedule : Schedule) (trip : ℕ) (day : ℤ) (reading : JourneyReading) (ids : List (List ℕ)) (dated : DatedTrip) → FitsSchedule schedule trip day reading
-    → option_map (run_of ids) (Some dated) ≡ run_on schedule trip day → dated.stops.now ≡ schedule.table.stops_of trip
-stops_dated schedule trip day reading ids dated fits on_day = by (start_in schedule.window day) on_day fits.on_day
+pub stops_dated : (schedule : Schedule) (trip : ℕ) (day : ℤ) (reading : JourneyReading) (table : Table) (dated : DatedTrip) → FitsSchedule schedule trip day reading
+    → option_map (run_of table) (Some dated) ≡ run_on schedule trip day → dated.stops.now ≡ schedule.table.stops_of trip
+stops_dated schedule trip day reading table dated fits on_day = by (start_in schedule.window day) on_day fits.on_day
   where
-    by : (start : Option ℤ) → option_map (run_of ids) (Some dated) ≡ option_map (run_from schedule.table trip) start → option_map (run_from schedule.table trip) start ≡ Some fits.run
+    by : (start : Option ℤ) → option_map (run_of table) (Some dated) ≡ option_map (run_from schedule.table trip) start → option_map (run_from schedule.table trip) start ≡ Some fits.run
         → dated.stops.now ≡ schedule.table.stops_of trip
     by (Some start) is found =
-        let same : run_of ids dated ≡ run_from schedule.table trip start = cc in
+        let same : run_of table dated ≡ run_from schedule.table trip start = cc in
         ap (λ (run : Run). run.stops) same
     by None is found = absurd (none-some fits.run found)
 

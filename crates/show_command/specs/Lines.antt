@@ -24,11 +24,11 @@ journey_name day trip_id = dashed_text day ++ codes " " ++ trip_id
 abbrev pub times_text : ℤ → ℤ → List ℕ
 times_text arrival departure = moment_text arrival ++ codes " " ++ moment_text departure
 
--- the words for how a stop reads
+-- the words for how a stop reads; its place isn't shown
 abbrev pub reading_text : StopReading → List ℕ
 reading_text Absent = codes "absent"
 reading_text Skipped = codes "skipped"
-reading_text (Timed arrival departure) = times_text arrival departure
+reading_text (Timed arrival departure place) = times_text arrival departure
 
 -- `DAY TRIP cancelled`
 abbrev pub cancelled_line : List ℕ → List ℕ

@@ -43,7 +43,7 @@ fn add_times(lines: &mut Bytes, arrival: &i64, departure: &i64) -> Result<(), Al
     lines.extend(&write_moment(*departure))
 }
 
-// Adds the words for how a stop reads.
+// Adds the words for how a stop reads; the stop is shown as scheduled, whatever its place.
 fn add_reading(lines: &mut Bytes, reading: &StopReading) -> Result<(), AllocError>
     requires { AreMoments reading.now }
     ensures { OnOk result (lines.new ≡ lines.old ++ spec.reading_text reading.now) }
@@ -51,7 +51,11 @@ fn add_reading(lines: &mut Bytes, reading: &StopReading) -> Result<(), AllocErro
     match reading {
         StopReading::Absent => lines.extend(b"absent"),
         StopReading::Skipped => lines.extend(b"skipped"),
-        StopReading::Timed { arrival, departure } => add_times(lines, arrival, departure),
+        StopReading::Timed {
+            arrival,
+            departure,
+            ..
+        } => add_times(lines, arrival, departure),
     }
 }
 
