@@ -7,7 +7,7 @@ use reverse_calls::{ReadingsFault, ReverseFault, siri_of, siri_of_readings};
 use service_day::day_text;
 use show_command::show_lines;
 use std::alloc::{AllocError, Global};
-use timetable::{Timetable, TripNo};
+use timetable::{StopNo, StopRow, Timetable, TripNo};
 
 // The id of a trip.
 fn trip_name(table: &Timetable, trip: TripNo) -> &str {
@@ -18,30 +18,73 @@ fn trip_name(table: &Timetable, trip: TripNo) -> &str {
     }
 }
 
-fn push_stop(alloc: Global, stop: &StopReading, into: &mut String) -> Result<(), AllocError> {
-    match stop {
-        StopReading::Absent => into.push_str(" -"),
-        StopReading::Skipped => into.push_str(" x"),
-        StopReading::Timed { arrival, departure } => {
-            let times = format!(in alloc; " {arrival}/{departure}")?;
-            into.push_str(times.as_str())
+// The scheduled stops of a trip.
+fn rows_of(table: &Timetable, trip: TripNo) -> &[StopRow] {
+    if trip.0 < table.trips() {
+        table.stops_of(trip)
+    } else {
+        &[]
+    }
+}
+
+// Adds a place, where it isn't the scheduled stop.
+fn push_place(
+    alloc: Global,
+    row: Option<&StopRow>,
+    place: StopNo,
+    into: &mut String,
+) -> Result<(), AllocError> {
+    match row {
+        Some(row) if row.stop.0 == place.0 => Ok(()),
+        _ => {
+            let at = format!(in alloc; "@{}", place.0)?;
+            into.push_str(at.as_str())
         }
     }
 }
 
+fn push_stop(
+    alloc: Global,
+    row: Option<&StopRow>,
+    stop: &StopReading,
+    into: &mut String,
+) -> Result<(), AllocError> {
+    match stop {
+        StopReading::Absent => into.push_str(" -"),
+        StopReading::Skipped => into.push_str(" x"),
+        StopReading::Timed {
+            arrival,
+            departure,
+            place,
+        } => {
+            let times = format!(in alloc; " {arrival}/{departure}")?;
+            into.push_str(times.as_str())?;
+            push_place(alloc, row, *place, into)
+        }
+    }
+}
+
+fn push_stops(
+    alloc: Global,
+    rows: &[StopRow],
+    stops: &[StopReading],
+    into: &mut String,
+) -> Result<(), AllocError> {
+    for (index, stop) in stops.iter().enumerate() {
+        push_stop(alloc, rows.get(index), stop, into)?;
+    }
+    Ok(())
+}
+
 fn push_reading(
     alloc: Global,
+    rows: &[StopRow],
     reading: &JourneyReading,
     into: &mut String,
 ) -> Result<(), AllocError> {
     match reading {
         JourneyReading::Cancelled => into.push_str(" cancelled"),
-        JourneyReading::Stops(stops) => {
-            for stop in stops.as_slice() {
-                push_stop(alloc, stop, into)?;
-            }
-            Ok(())
-        }
+        JourneyReading::Stops(stops) => push_stops(alloc, rows, stops.as_slice(), into),
     }
 }
 
@@ -71,7 +114,7 @@ fn add_journey(
     into.push_str(" ")?;
     into.push_str(str::from_utf8(&day_text(one.day)).unwrap_or("no day"))?;
     push_recorded(alloc, one.recorded, into)?;
-    push_reading(alloc, &one.reading, into)?;
+    push_reading(alloc, rows_of(table, one.trip), &one.reading, into)?;
     into.push_str("\n")
 }
 

@@ -1,8 +1,8 @@
-use Rattle.std.proofs.Common.{◌∙◌, sym}
+use Rattle.std.proofs.Common.{◌∙◌, arith, refl, sym}
 use Rattle.timetable.specs.Seen.{seen}
 use Rattle.journey_model.specs.Dated.{run_of}
 use Rattle.journey_model.specs.Updates.{position_of}
-use Rattle.propagation.proofs.PlaceLemmas.{placed_none, placed_more, placed_all-fault, is_at, is_fault, is_sized}
+use Rattle.propagation.proofs.PlaceLemmas.{all-placed, placed_none, placed_more, placed_all-fault, is_at, is_fault, is_sized}
 use Rattle.propagation.proofs.placing.placed_all.Goals as goal
 
 pub loop-number-init : goal.loop-number-init
@@ -46,3 +46,17 @@ returns-in-Err c =
     c.loop-number.invariant c.loop-number-test.true c.index-updates-number.is
     (is_fault run update (position_of run c.loop-number.number c.loop-number.after update) c.in-Err.fault
     (sym c.in-Err.is ∙ c.match_to_stop.ensures.value))
+
+pub returns-in-Some : goal.returns-in-Some
+returns-in-Some c =
+    let run = run_of (seen c.args.table.now) c.args.dated.now in
+    all-placed run c.args.updates.now c.loop-number.number c.loop-number.after c.loop-number.all c.loop-number.bytes
+    c.loop-number.invariant (omega arith)
+    ∙ (rw (sym c.places_fault.ensures ∙ c.in-Some.is) refl)
+
+pub returns-in-None : goal.returns-in-None
+returns-in-None c =
+    let run = run_of (seen c.args.table.now) c.args.dated.now in
+    all-placed run c.args.updates.now c.loop-number.number c.loop-number.after c.loop-number.all c.loop-number.bytes
+    c.loop-number.invariant (omega arith)
+    ∙ (rw (sym c.places_fault.ensures ∙ c.in-None.is) refl)
