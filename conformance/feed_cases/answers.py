@@ -2,12 +2,13 @@
 
 from datetime import timedelta
 
+from library_cases.answers import stop_text
 from reading.feeds import MESSAGES, SCALARS, FeedFault, Reader, read_feed
 from reading.files import CaseFiles
 from reading.folder import read_folder
 from reading.moments import day_text, is_moment, read_either_day, read_utc
 from reading.propagation import readings_of
-from reading.readings import ABSENT, CANCELLED, SKIPPED, Context
+from reading.readings import CANCELLED, Context
 from reading.shown import shown_lines, totals
 from reading.wire import read_fields
 from reading.written_feed import bytes_field, header, number_field, text_field, varint
@@ -177,11 +178,8 @@ def journey_line(dated, context):
     front = f"{context.table.trips[dated.trip].id} {day_text(dated.day)} {recorded}"
     if dated.reading == CANCELLED:
         return f"{front} cancelled"
-    return " ".join([front, *map(stop_text, dated.reading)])
-
-
-def stop_text(reading):
-    return {ABSENT: "-", SKIPPED: "x"}.get(reading) or "{}/{}".format(*reading)
+    stops = context.table.trips[dated.trip].stops
+    return " ".join([front, *(stop_text(reading, stop.id, context) for reading, stop in zip(dated.reading, stops))])
 
 
 def reported(taken, passed, aside):

@@ -60,11 +60,16 @@ def record_line(record, context):
     front = f"taken {context.table.trips[record.trip].id} {day_text(record.day)} {secs}.{nanos}"
     if record.reading == CANCELLED:
         return f"{front} cancelled"
-    return " ".join([front, *map(stop_text, record.reading)])
+    stops = context.table.trips[record.trip].stops
+    return " ".join([front, *(stop_text(reading, stop.id, context) for reading, stop in zip(record.reading, stops))])
 
 
-def stop_text(reading):
-    return {ABSENT: "-", SKIPPED: "x"}.get(reading) or "{}/{}".format(*reading)
+def stop_text(reading, stop, context):
+    """How a stop reads; a place that isn't the scheduled stop stands behind its times, by its place in the file."""
+    if reading in (ABSENT, SKIPPED):
+        return {ABSENT: "-", SKIPPED: "x"}[reading]
+    place = "" if reading.place == stop else f"@{list(context.table.stations).index(reading.place)}"
+    return f"{reading.arrival}/{reading.departure}{place}"
 
 
 def written(given, body):

@@ -20,6 +20,7 @@ mod ReportLemmas
 mod RollLemmas
 mod RollingLemmas
 mod RoomLemmas
+mod SaidLemmas
 mod SeenLemmas
 mod ServedLemmas
 mod ServingLemmas
