@@ -78,7 +78,13 @@ pub fn add_call(
     let (Some(dated), Some(stop)) = (dated, table.find_stop(words.third)) else {
         return Err(Trouble::Form);
     };
-    match match_call(&dated, small_of(words.after)?, stop, order_of(words.last)?) {
+    match match_call(
+        table,
+        &dated,
+        small_of(words.after)?,
+        stop,
+        order_of(words.last)?,
+    ) {
         Some(place) => Ok(add_place(alloc, place, into)?),
         None => Ok(add_line("none", into)?),
     }
@@ -108,7 +114,7 @@ fn add_match(
     }
 }
 
-/// Adds the place of an update: TRIP AFTER SEQUENCE STOP.
+/// Adds the place of an update: TRIP AFTER SEQUENCE STOP, or TRIP AFTER SEQUENCE STOP ASSIGNED.
 pub fn add_update(
     alloc: Global,
     table: &Timetable,
@@ -122,12 +128,16 @@ pub fn add_update(
     let Some(dated) = dated_trip(table, window, words.trip) else {
         return Err(Trouble::Form);
     };
-    let named = named_of(table, words.last);
+    let (stop, assigned) = match words.last.split_once(' ') {
+        Some(both) => both,
+        None => (words.last, "-"),
+    };
     let found = match_update(
         &dated,
         small_of(words.after)?,
         small_of(words.third)?,
-        named,
+        named_of(table, stop),
+        stop != "-" && stop == assigned,
     );
     Ok(add_match(alloc, found, into)?)
 }
