@@ -177,13 +177,13 @@ module _ {D : Type 0} (told : D → Option (List ℕ)) (may_leave : D → List �
         let held : kept (appended_file old.journal.end new was.0) ≡ Ok ((bodies ++ taken) ++ new ∷ []) =
             takes.added (bodies ++ taken) at_first (appended_file old.journal.end new was.0) is in
         let one : IsDurable (may_leave after) now (appended_file old.journal.end new was.0) = takes.stands (λ e. cc) (appended_file old.journal.end new was.0) is in
-        let all : kept (appended_file old.journal.end new was.0) ≡ Ok (bodies ++ taken ++ new ∷ []) = held ∙ ap Ok (append_assoc bodies taken (new ∷ [])) in record {
+        let all : kept (appended_file old.journal.end new was.0) ≡ Ok (bodies ++ (taken ++ new ∷ [])) = held ∙ ap Ok (append_assoc bodies taken (new ∷ [])) in record {
           any_moment =
               subst (λ (added : List KeptBody). LeavesPrefix clock left_since first after old.gate.setting bodies added) (sym (append-nil (taken ++ new ∷ [])))
               (goes_on_prefix faults first before after old now new (Ok accepted) was.0 bodies taken stands was.1 was.2 prefix_before takes);
           from_now = λ image left.
-              subst (λ (s : Setting). HoldsPrefix s (bodies ++ taken ++ new ∷ []) [] image) takes.setting_is
-              (at_rest after now (appended_file old.journal.end new was.0) (bodies ++ taken ++ new ∷ []) one all image left);
+              subst (λ (s : Setting). HoldsPrefix s (bodies ++ (taken ++ new ∷ [])) [] image) takes.setting_is
+              (at_rest after now (appended_file old.journal.end new was.0) (bodies ++ (taken ++ new ∷ [])) one all image left);
           file = λ none. (appended_file old.journal.end new was.0, is, all);
         }
 
