@@ -3,14 +3,13 @@ use Rattle.std.proofs.Common.{◌≡◌, ℕ, ℤ, ◌+◌, List, [], ◌∷◌,
 use Rattle.std.proofs.lemmas.List.{append-nil, append_assoc}
 use Rattle.std.proofs.lemmas.Option.{same_Some}
 use Rattle.gw_base.specs.declared.kind.Kind.{Kind}
-use Rattle.delivery_journal.specs.Kept.{KeptBody, kept, place_after, size_of}
+use Rattle.delivery_journal.specs.Kept.{KeptBody}
 use Rattle.delivery_journal.specs.Standing.{Gives}
 use Rattle.gateway_core.specs.Arrivals.{Arrival}
 use Rattle.gateway_core.specs.KeptFirst.{TakesKept}
-use Rattle.gateway_core.specs.Standing.{Kept, Stands}
+use Rattle.gateway_core.specs.Standing.{Kept}
 use Rattle.gateway_core.specs.declared.accepted.Accepted.{Accepted}
 use Rattle.gateway_core.specs.declared.setting.Setting.{Setting}
-use Rattle.gateway_core.specs.declared.take.body.BodyRefusal.{BodyRefusal}
 use Rattle.gateway_core.specs.declared.take.body.BodyRefusal.TheVariants as because
 use Rattle.gateway_core.specs.declared.take.kept.KeptFault.{KeptFault}
 use Rattle.gateway_core.specs.declared.take.kept.KeptFault.TheVariants.{Differential, Feed, Full, Memory, NotDelivery, NotJson, TooManyCalls, Unkept}
@@ -63,7 +62,7 @@ pub first_left : (rest : List KeptBody) (at next : ℕ) (of : Kind) (moment : �
 first_left [] at next of moment read gives = absurd (cc)
 first_left (first ∷ others) at next of moment read gives =
     let same : ◌≡◌ {A = Kind × ℤ × ℕ} (of, moment, next) (first.kind, first.moment, at + 14 + length first.body) =
-        same_Some (of, moment, next) (first.kind, first.moment, at + 14 + length first.body) gives.0 in (
+    same_Some (of, moment, next) (first.kind, first.moment, at + 14 + length first.body) gives.0 in (
       others,
       (λ i. record { kind = (sym same i).0; moment = (sym same i).1; body = sym gives.1 i } ∷ others),
       ap (λ (t : Kind × ℤ × ℕ). t.2) same ∙ ap (λ (b : List ℕ). at + 14 + length b) (sym gives.1),

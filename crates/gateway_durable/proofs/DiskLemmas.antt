@@ -1,5 +1,5 @@
 -- What a crash may have left over calls that change nothing of a disk.
-use Rattle.std.proofs.Common.{inl, inr, ⊎_elim, ℕ, ◌≤◌, List, Option, refl, ◌∙◌, arith}
+use Rattle.std.proofs.Common.{inl, inr, ⊎_elim, ℕ, List, Option, refl, ◌∙◌, arith}
 use Rattle.delivery_journal.specs.Disk.{ReadsOnly, Survives}
 
 module _ {D : Type 0} (told : D → Option (List ℕ)) (may_leave : D → List ℕ → Type 0) (clock : D → ℕ) (left_since : D → ℕ → List ℕ → Type 0) where

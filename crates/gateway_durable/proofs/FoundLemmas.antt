@@ -1,13 +1,12 @@
 -- What is found in a file is what it holds, and the places of gates.
-use Rattle.std.proofs.Common.{◌≡◌, ℕ, ◌+◌, ◌≤◌, Bool, true, false, nat_le, List, [], ◌∷◌, ◌++◌, length, take, drop, Option, Some, None, Result, Ok, Err, refl, sym, ◌∙◌, ap, arith, length-drop}
+use Rattle.std.proofs.Common.{◌≡◌, ℕ, ◌+◌, ◌≤◌, Bool, true, false, nat_le, List, [], ◌∷◌, ◌++◌, length, take, drop, Option, Some, None, Result, Ok, Err, refl, sym, ap, arith, length-drop}
 use Rattle.std.proofs.lemmas.Bool.{leb-true}
 use Rattle.std.specs.Prelude.{◌==◌, if◌then◌else◌}
 use Rattle.std.specs.Option.{option_map_or}
 use Rattle.std.specs.Str.{bytes_eq}
 use Rattle.gw_base.specs.Chains.{ok_map}
-use Rattle.delivery_journal.specs.declared.open_fault.OpenFault.{OpenFault}
 use Rattle.delivery_journal.specs.declared.open_fault.OpenFault.TheVariants.{Damaged, NotJournal}
-use Rattle.delivery_journal.specs.Kept.{Found, KeptBody, found, found_from, kept, magic, place_after, record_of, size_of, with_first}
+use Rattle.delivery_journal.specs.Kept.{Found, KeptBody, found, found_from, kept, magic, record_of, size_of, with_first}
 
 same_ok : {A E : Type 0} (a b : A) → ◌≡◌ {A = Result A E} (Ok a) (Ok b) → a ≡ b
 same_ok a b e = cc

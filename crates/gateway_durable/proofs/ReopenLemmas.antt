@@ -1,5 +1,5 @@
 -- Why a durable gateway isn't opened again, and what one stands for that is.
-use Rattle.std.proofs.Common.{◌≡◌, ◌≢◌, inl, inr, ⊎_elim, ℕ, ◌≤◌, List, Option, Some, Result, Ok, Err, refl, sym, ◌∙◌, ap, subst, arith}
+use Rattle.std.proofs.Common.{◌≡◌, ◌≢◌, inl, inr, ⊎_elim, ℕ, ◌≤◌, List, Option, Result, Ok, Err, refl, sym, ◌∙◌, ap, subst, arith}
 use Rattle.std.proofs.lemmas.Option.{same_Some}
 use Rattle.std.specs.Result.{result_err, result_ok}
 use Rattle.gw_base.specs.Count.{Rose}
@@ -11,8 +11,7 @@ use Rattle.delivery_journal.specs.declared.open_fault.OpenFault.TheVariants as o
 use Rattle.gateway_core.specs.Standing.{Kept}
 use Rattle.gateway_core.specs.declared.setting.Setting.{Setting}
 use Rattle.gateway_durable.specs.Reopening.{CanReplay, FileCanReplay, IsRefusedAt, RefusesBodies, RefusesFile, StandsForBodies, of_open}
-use Rattle.gateway_durable.specs.Replays.{Replays}
-use Rattle.gateway_durable.specs.Standing.{DurableStandsOn, IsDurable}
+use Rattle.gateway_durable.specs.Standing.{DurableStandsOn}
 use Rattle.gateway_durable.specs.declared.reopen_fault.ReopenFault.{ReopenFault}
 use Rattle.gateway_durable.specs.declared.reopen_fault.ReopenFault.TheVariants.{Damaged, Disk, Memory, NotJournal, Replay}
 use Rattle.gateway_durable.proofs.FoundLemmas.{found_kept}

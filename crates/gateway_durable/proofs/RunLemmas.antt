@@ -8,7 +8,6 @@ use Rattle.delivery_journal.specs.Disk.{Survives, WhereTold}
 use Rattle.delivery_journal.specs.Kept.{KeptBody, kept}
 use Rattle.delivery_journal.specs.Standing.{appended_file}
 use Rattle.gateway_core.specs.Arrivals.{Arrival}
-use Rattle.gateway_core.specs.KeptFirst.{CanBeTaken}
 use Rattle.gateway_core.specs.declared.accepted.Accepted.{Accepted}
 use Rattle.gateway_core.specs.declared.setting.Setting.{Setting}
 use Rattle.gateway_core.specs.declared.take.kept.KeptFault.{KeptFault}
@@ -55,7 +54,7 @@ module _ (setting : Setting) (bodies added : List KeptBody) (new : KeptBody) (im
   with_it held can =
       let all = length (added ++ new ∷ []) in
       let same : bodies ++ added ++ new ∷ [] ≡ bodies ++ take (length (added ++ new ∷ [])) (added ++ new ∷ []) =
-          append_assoc bodies added (new ∷ []) ∙ ap (λ (l : List KeptBody). bodies ++ l) (sym (take_all (length (added ++ new ∷ [])) (added ++ new ∷ []) (omega arith))) in (
+      append_assoc bodies added (new ∷ []) ∙ ap (λ (l : List KeptBody). bodies ++ l) (sym (take_all (length (added ++ new ∷ [])) (added ++ new ∷ []) (omega arith))) in (
         length (added ++ new ∷ []),
         omega arith,
         held ∙ ap Ok same,
@@ -70,7 +69,7 @@ module _ (setting : Setting) (bodies added : List KeptBody) (new : KeptBody) (im
       (λ both. with_it both.0 (
         record { moment = new.moment; gives = both.1.1 } ∷ arrivals,
         replays_joined setting [] (bodies ++ added) (new ∷ []) arrivals (record { moment = new.moment; gives = both.1.1 } ∷ arrivals) replays
-        (both.1.0, both.1.1, both.1.2, refl),
+            (both.1.0, both.1.1, both.1.2, refl),
       ))
       holds
 
@@ -91,7 +90,7 @@ module _ (setting : Setting) (bodies added : List KeptBody) (new : KeptBody) (im
         (
           record { moment = new.moment; gives = both.1.1 } ∷ arrivals,
           replays_joined setting [] bodies (new ∷ []) arrivals (record { moment = new.moment; gives = both.1.1 } ∷ arrivals) replays
-          (both.1.0, both.1.1, both.1.2, refl),
+              (both.1.0, both.1.1, both.1.2, refl),
         ),
       ))
       holds
@@ -173,9 +172,9 @@ module _ {D : Type 0} (told : D → Option (List ℕ)) (may_leave : D → List �
         let was = held_before in
         let is : told after ≡ Some (appended_file old.journal.end new was.0) = takes.bytes ∙ ap (option_map (appended_file old.journal.end new)) was.1 in
         let at_first : WhereTold (told before) (λ f. kept f ≡ Ok (bodies ++ taken)) =
-            λ f t. ap kept (same_Some f was.0 (sym t ∙ was.1)) ∙ was.2 in
+        λ f t. ap kept (same_Some f was.0 (sym t ∙ was.1)) ∙ was.2 in
         let held : kept (appended_file old.journal.end new was.0) ≡ Ok ((bodies ++ taken) ++ new ∷ []) =
-            takes.added (bodies ++ taken) at_first (appended_file old.journal.end new was.0) is in
+        takes.added (bodies ++ taken) at_first (appended_file old.journal.end new was.0) is in
         let one : IsDurable (may_leave after) now (appended_file old.journal.end new was.0) = takes.stands (λ e. cc) (appended_file old.journal.end new was.0) is in
         let all : kept (appended_file old.journal.end new was.0) ≡ Ok (bodies ++ (taken ++ new ∷ [])) = held ∙ ap Ok (append_assoc bodies taken (new ∷ [])) in record {
           any_moment =
@@ -193,7 +192,7 @@ module _ {D : Type 0} (told : D → Option (List ℕ)) (may_leave : D → List �
         let was = held_before in
         let one : IsDurable (may_leave before) old was.0 = stands was.0 was.1 in
         let meanwhile : Survives clock left_since before after (HoldsTaken old.gate.setting one.arrivals (bodies ++ taken) new) =
-            takes.any_moment was.0 was.1 (bodies ++ taken) was.2 one.arrivals one.stands in
+        takes.any_moment was.0 was.1 (bodies ++ taken) was.2 one.arrivals one.stands in
         subst (λ (t : List KeptBody). HasKept told may_leave clock left_since first after old.gate.setting bodies t (new ∷ [])) (sym (append-nil taken))
         (record {
           any_moment = goes_on_prefix faults first before after old now new (Err Unkept) was.0 bodies taken stands was.1 was.2 prefix_before takes;

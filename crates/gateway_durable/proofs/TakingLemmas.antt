@@ -5,7 +5,7 @@ use Rattle.std.proofs.lemmas.Option.{same_Some}
 use Rattle.std.specs.Prelude.{IfSome, IsSomeAnd, nat_lt, option_map, if◌then◌else◌}
 use Rattle.std.specs.Result.{result_ok}
 use Rattle.gw_base.specs.Count.{Counts}
-use Rattle.delivery_journal.specs.Disk.{LeavesThis, Survives, WhereTold}
+use Rattle.delivery_journal.specs.Disk.{Survives, WhereTold}
 use Rattle.delivery_journal.specs.Kept.{KeptBody, kept}
 use Rattle.delivery_journal.specs.Standing as journals
 use Rattle.delivery_journal.specs.Standing.{HoldsWithOrWithout}
@@ -134,10 +134,10 @@ module _ {D : Type 0} (told : D → Option (List ℕ)) (may_leave : D → List �
         let from = was_told file is appends.added in
         let was : IsDurable (may_leave before) old from.0 = stood from.0 from.1 in
         let held : WhereTold (told before) (λ f. kept f ≡ Ok was.bodies) =
-            λ f t. ap kept (same_Some f from.0 (sym t ∙ from.1)) ∙ found_kept from.0 (record { bodies = was.bodies; end = old.journal.end }) was.holds in
+        λ f t. ap kept (same_Some f from.0 (sym t ∙ from.1)) ∙ found_kept from.0 (record { bodies = was.bodies; end = old.journal.end }) was.holds in
         let rest = appends.stands file is in
         let same : rest.bodies ≡ was.bodies ++ new ∷ [] =
-            same_ok rest.bodies (was.bodies ++ new ∷ []) (sym (found_kept file (record { bodies = rest.bodies; end = journal.end }) rest.holds) ∙ appends.added was.bodies held file is) in
+        same_ok rest.bodies (was.bodies ++ new ∷ []) (sym (found_kept file (record { bodies = rest.bodies; end = journal.end }) rest.holds) ∙ appends.added was.bodies held file is) in
         let took = takes was.arrivals was.stands in
         record {
           bodies = rest.bodies;
@@ -176,7 +176,7 @@ module _ {D : Type 0} (told : D → Option (List ℕ)) (may_leave : D → List �
         → answer ≡ Err Unkept → journal.is_sound ≡ false
     unsound answer keeps is =
         let appends : KeptBy new old.journal before (keep_answer {A = Accepted} (Err Unkept)) journal after =
-            subst (λ (a : Result Accepted KeptFault). KeptBy new old.journal before (keep_answer a) journal after) is keeps in
+        subst (λ (a : Result Accepted KeptFault). KeptBy new old.journal before (keep_answer a) journal after) is keeps in
         appends.unsound tt
 
     added : (answer : Result Accepted KeptFault) → KeptBy new old.journal before (keep_answer answer) journal after

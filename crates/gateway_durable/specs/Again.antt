@@ -51,7 +51,8 @@ TakesAgain setting arrivals new number (Err (Damaged at)) now = ⊥
 TakesAgain setting arrivals new number (Err (Replay n)) now = (n ≡ number) × IsRefused setting arrivals new
 TakesAgain setting arrivals new number (Err Memory) now = ⊤
 
--- so many of these bodies were taken again, and the gateway stands for what they gave; the gate behind them stands there
+-- so many of these bodies were taken again, and the gateway stands for what they gave; the gate behind them stands
+-- there
 pub record HasReplayed (setting : Setting) (bodies : List KeptBody) (at count : ℕ) (gate : Kept) : Type 0 where
   pub before : List KeptBody
   pub rest : List KeptBody

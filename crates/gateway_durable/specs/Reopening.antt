@@ -1,5 +1,5 @@
 -- What a durable gateway is after its journal was opened again, or why there is none.
-use Rattle.std.specs.Prelude.{◌≡◌, ◌≢◌, ◌+◌, ℕ, List, [], ◌∷◌, ◌++◌, length, Result, Ok, Err, ⊤}
+use Rattle.std.specs.Prelude.{◌≡◌, ◌≢◌, ◌+◌, ℕ, List, [], ◌∷◌, ◌++◌, length, Ok, Err, ⊤}
 use Rattle.delivery_journal.specs.Kept.{KeptBody, kept}
 use Rattle.delivery_journal.specs.declared.next_fault.NextFault.{NextFault}
 use Rattle.delivery_journal.specs.declared.next_fault.NextFault.TheVariants as next_fault
@@ -27,7 +27,8 @@ of_next next_fault.Memory = Memory
 
 -- a gateway stands for what these bodies give, taken one after the other over a setting
 abbrev pub StandsForBodies : Setting → List KeptBody → Kept → Type 0
-StandsForBodies setting bodies gate = (arrivals : List Arrival) × Replays setting [] bodies arrivals × Stands gate arrivals
+StandsForBodies setting bodies gate =
+    (arrivals : List Arrival) × Replays setting [] bodies arrivals × Stands gate arrivals
 
 -- and for the bodies that a file holds
 abbrev pub StandsForFile : Setting → List ℕ → Kept → Type 0

@@ -15,8 +15,8 @@ use Rattle.gateway_core.specs.declared.take.kept.KeptFault.TheVariants.{Differen
 use Rattle.gateway_durable.specs.Appending.{journal_limit}
 use Rattle.gateway_durable.specs.Standing.{DurableGate, DurableStandsOn}
 
--- Full comes exactly where the file would be longer than a journal's file may be, among the answers to a body that would
--- be taken: the gate behind the list stands at `end`, and the body has so many bytes
+-- Full comes exactly where the file would be longer than a journal's file may be, among the answers to a body that
+-- would be taken: the gate behind the list stands at `end`, and the body has so many bytes
 abbrev pub IsFullExactly : ℕ → ℕ → Result Accepted KeptFault → Type 0
 IsFullExactly end count (Ok accepted) = end + 15 + count ≤ journal_limit
 IsFullExactly end count (Err Unkept) = end + 15 + count ≤ journal_limit
@@ -35,9 +35,9 @@ HoldsTaken setting arrivals bodies new image =
     (kept image ≡ Ok bodies)
     ⊎ ((kept image ≡ Ok (bodies ++ new ∷ [])) × CanBeTaken setting arrivals new.moment new.kind new.body)
 
--- A durable gateway and its disk before a body is taken, what is answered, and both after. After Ok the body is on the
--- disk: every crash from then on leaves it, since the gateway stands on the disk again. After Unkept the journal has to be
--- opened again.
+-- A durable gateway and its disk before a body is taken, what is answered, and both after. After Ok the body is on
+-- the disk: every crash from then on leaves it, since the gateway stands on the disk again. After Unkept the journal
+-- has to be opened again.
 pub record TakesDurably {D : Type 0} (told : D → Option (List ℕ)) (may_leave : D → List ℕ → Type 0) (clock : D → ℕ)
     (left_since : D → ℕ → List ℕ → Type 0) (faults : D → ℕ) (old : DurableGate) (before : D) (new : KeptBody)
     (answer : Result Accepted KeptFault) (now : DurableGate) (after : D) : Type 0 where
@@ -47,7 +47,6 @@ pub record TakesDurably {D : Type 0} (told : D → Option (List ℕ)) (may_leave
   pub text : IfOk answer (λ accepted. accepted.text ≡ report_json accepted.report)
   pub setting_is : now.gate.setting ≡ old.gate.setting
   pub refused : OnErr answer (now.gate ≡ old.gate)
-
   -- the disk: the body stands behind those from before, or nothing was done, unless the disk failed
   pub added : OnOk answer (Adds new (told before) (told after))
   pub bytes : OnOk answer (told after ≡ option_map (appended_file old.journal.end new) (told before))
@@ -58,7 +57,6 @@ pub record TakesDurably {D : Type 0} (told : D → Option (List ℕ)) (may_leave
   pub unsound : answer ≡ Err Unkept → now.journal.is_sound ≡ false
   pub full : IsFullExactly old.journal.end (length new.body) answer
   pub counts : Counts (answer ≡ Err Unkept) (faults before) (faults after)
-
   -- a crash at any moment of the call
   pub any_moment : WhereTold (told before) (λ file. (bodies : List KeptBody) → kept file ≡ Ok bodies
       → (arrivals : List Arrival) → Stands old.gate arrivals

@@ -45,10 +45,11 @@ impl Model for Durable {
 }
 
 impl Durable {
-    /// Opens the journal on a disk, which makes a file of at most 9 bytes anew, and takes the bodies that it holds one
-    /// after the other, each with its kind and its moment, at a gateway of this setting. Err with Disk only where the
-    /// disk failed; NotJournal and Damaged as `Journal::open` has them; Replay with the number, from 1, of the first body
-    /// that is refused after those before it, which comes never where all can be taken; Memory for want of memory.
+    /// Opens the journal on a disk, which makes a file of at most 9 bytes anew, and takes the bodies that it holds
+    /// one after the other, each with its kind and its moment, at a gateway of this setting. Err with Disk only where
+    /// the disk failed; NotJournal and Damaged as `Journal::open` has them; Replay with the number, from 1, of the
+    /// first body that is refused after those before it, which comes never where all can be taken; Memory for want of
+    /// memory.
     pub fn reopen<K: Disk>(
         alloc: Global,
         setting: Setting,
@@ -90,11 +91,12 @@ impl Durable {
         }
     }
 
-    /// Takes a body of a kind that arrives at a moment, of at most 16,777,216 bytes, as `Gateway::take` does, once it is on
-    /// the disk: the journal appends it only where it would be taken, after all memory is taken. After Ok every crash
-    /// leaves it. Err as `take` refuses a body; Full where it would be taken and the file would have more than 1 TiB, and
-    /// then nothing was done; Unkept where it would be taken and the disk failed, and then the journal isn't sound any
-    /// more and has to be opened again; Memory for want of memory. After each of them the gateway is as before.
+    /// Takes a body of a kind that arrives at a moment, of at most 16,777,216 bytes, as `Gateway::take` does, once it
+    /// is on the disk: the journal appends it only where it would be taken, after all memory is taken. After Ok every
+    /// crash leaves it. Err as `take` refuses a body; Full where it would be taken and the file would have more than
+    /// 1 TiB, and then nothing was done; Unkept where it would be taken and the disk failed, and then the journal
+    /// isn't sound any more and has to be opened again; Memory for want of memory. After each of them the gateway is
+    /// as before.
     pub fn take<K: Disk>(
         &mut self,
         alloc: Global,

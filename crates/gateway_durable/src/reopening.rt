@@ -139,8 +139,8 @@ pub fn replay_all<K: Disk>(
     requires sound { journal.now.is_sound ≡ true }
     requires stands { StandsOn K.told K.may_leave journal.now disk.old }
     requires nothing { Stands gate.old [] }
-    ensures replays { OnOk result (WhereTold (K.told disk.old) (λ file. (bodies : Values KeptBody) → kept file ≡ Ok bodies
-        → StandsForBodies gate.old.setting bodies gate.new)) }
+    ensures replays { OnOk result (WhereTold (K.told disk.old) (λ file. (bodies : Values KeptBody)
+        → kept file ≡ Ok bodies → StandsForBodies gate.old.setting bodies gate.new)) }
     ensures fault { IfErr result (λ why. WhereTold (K.told disk.old) (λ file. (bodies : Values KeptBody)
         → kept file ≡ Ok bodies → RefusesBodies gate.old.setting bodies why)) }
     ensures gate { (arrivals : Values Arrival) × Stands gate.new arrivals }

@@ -1,5 +1,5 @@
 -- The bodies of connections that were kept, or of which keeping failed.
-use Rattle.std.proofs.Common.{◌≡◌, ◌∙◌, ◌++◌, ◌∷◌, [], ℕ, ℤ, Bool, true, false, List, Option, Some, None, Result, Ok, Err, inl, inr, ap, append-nil, append_assoc, refl, subst, sym}
+use Rattle.std.proofs.Common.{◌≡◌, ◌∙◌, ◌++◌, ◌∷◌, [], ℕ, ℤ, Bool, true, false, List, Option, Some, None, Err, inl, inr, ap, append-nil, append_assoc, refl, subst, sym}
 use Rattle.std.proofs.lemmas.Bool.{true≢false}
 use Rattle.std.proofs.lemmas.List.{append_cancel_left}
 use Rattle.std.proofs.lemmas.Option.{same_Some}
@@ -13,7 +13,6 @@ use Rattle.gw_base.specs.declared.kind.Kind.{Kind}
 use Rattle.gw_base.specs.declared.kind.Kind.TheVariants as kind
 use Rattle.http_talk.specs.declared.refusal.BodyFault.{BodyFault}
 use Rattle.delivery_journal.specs.Kept.{KeptBody}
-use Rattle.gateway_core.specs.declared.accepted.Accepted.{Accepted}
 use Rattle.gateway_server.specs.Bodies.{fault_of, mark_for, refused_mark, taken_mark}
 use Rattle.gateway_server.specs.Crashes.{AreBodies, HoldsOfBodies, IsPostedIn}
 use Rattle.gateway_server.specs.Holding.{Held, IsLeft, Room, failed_of, taken_of}
@@ -116,10 +115,10 @@ logged_one mid new output ends moment told left entry tells input log logs logge
     subst (λ (t : Option Connections). MatchOption t (new.told ≡ None) (λ told. (last : List ℕ) × IsOutput output last × (new.told ≡ Some (record { coming = told.coming; input = []; unread = []; log = told.log ++ record { input = told.input; mark = ends; moment = moment; output = last } ∷ [] })))) tells logs.1 in
     let last : List ℕ = found.0 in
     let same : ◌≡◌ {A = Connections} (record { coming = left.coming; input = []; unread = []; log = left.log ++ record { input = left.input; mark = ends; moment = moment; output = found.0 } ∷ [] })
-        (record { coming = told.coming; input = []; unread = []; log = told.log ++ entry ∷ [] }) =
-        same_Some _ _ (sym found.2 ∙ logged.log) in
+    (record { coming = told.coming; input = []; unread = []; log = told.log ++ entry ∷ [] }) =
+    same_Some _ _ (sym found.2 ∙ logged.log) in
     let logs_same : told.log ++ record { input = told.input; mark = ends; moment = moment; output = found.0 } ∷ [] ≡ told.log ++ entry ∷ [] =
-        (λ i. sym log i ++ record { input = sym input i; mark = ends; moment = moment; output = found.0 } ∷ []) ∙ ap (λ (c : Connections). c.log) same in
+    (λ i. sym log i ++ record { input = sym input i; mark = ends; moment = moment; output = found.0 } ∷ []) ∙ ap (λ (c : Connections). c.log) same in
     (found.0, append_cancel_left told.log (record { input = told.input; mark = ends; moment = moment; output = found.0 } ∷ []) (entry ∷ []) logs_same)
 
 -- ---- connections, one after the other
@@ -151,7 +150,7 @@ pub one_more_kept : (Mid Keeps : List KeptBody → List KeptBody → Type 0) (be
 one_more_kept Mid Keeps before was_sound is_sound entries entry sound so_far next =
     let none : so_far.failed ≡ [] = so_far.none_failed sound in
     let one : HoldsOfBodies (λ (taken failed : List KeptBody). Keeps ((before ++ so_far.taken) ++ taken) failed) is_sound (entry ∷ []) =
-        next (before ++ so_far.taken) (subst (λ (failed : List KeptBody). Mid (before ++ so_far.taken) failed) none so_far.holds) in record {
+    next (before ++ so_far.taken) (subst (λ (failed : List KeptBody). Mid (before ++ so_far.taken) failed) none so_far.holds) in record {
       taken = so_far.taken ++ one.taken;
       failed = one.failed;
       taken_are = are_joined is_taken entries (entry ∷ []) so_far.taken one.taken so_far.taken_are one.taken_are;

@@ -12,7 +12,8 @@ use Rattle.gateway_server.specs.Holding.{Held, Room}
 use Rattle.gateway_server.specs.declared.not_taken.NotTaken.{NotTaken}
 use Rattle.gateway_server.specs.declared.not_taken.NotTaken.TheVariants as not_taken
 
--- the room in a journal's file: a body has its gate and 13 bytes before it, and a closed gate stands behind the last one
+-- the room in a journal's file: a body has its gate and 13 bytes before it, and a closed gate stands behind the last
+-- one
 abbrev pub journal_room : Room
 journal_room = record {
   is_full = λ end size. nat_lt journal_limit (end + 15 + size);

@@ -1,5 +1,5 @@
-//! What a durable gateway does with a posted body, over the disk on which its journal stands. The definitions are those of
-//! `specs/Durable.antt`.
+//! What a durable gateway does with a posted body, over the disk on which its journal stands. The definitions are
+//! those of `specs/Durable.antt`.
 ghost use Rattle.std.specs.Prelude.{◌≡◌};
 ghost use Rattle.gateway_server.specs.Durable as spec;
 

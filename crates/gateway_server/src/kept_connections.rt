@@ -70,14 +70,14 @@ pub fn serve_kept<D: Door, C: Clock, K: Disk>(
     serve_one_with(alloc, durable, disk, reader, body, door, clock);
 }
 
-/// Serves connections over a durable gateway whose journal is sound, until none is to come, so many were served or the
-/// journal isn't sound any more; Failed is a fault of the door in `next`, which ends it. Where the door and the disk
-/// tell, each connection has its entry in the log, which is lawful after what there was before it, so that one marked
-/// Unkept is the last one; and a crash at any moment of the call leaves a file with the bodies that it held before, and
-/// behind them a prefix of those of the entries marked Taken, Fed or Unkept, in their order. At the end every crash leaves
-/// all the bodies of the entries marked Taken or Fed. The entries that are lost or cut short are, with that fault of the
-/// door, no more than the faults that the door counted, and those for which the clock failed no more than the clock
-/// counted.
+/// Serves connections over a durable gateway whose journal is sound, until none is to come, so many were served or
+/// the journal isn't sound any more; Failed is a fault of the door in `next`, which ends it. Where the door and the
+/// disk tell, each connection has its entry in the log, which is lawful after what there was before it, so that one
+/// marked Unkept is the last one; and a crash at any moment of the call leaves a file with the bodies that it held
+/// before, and behind them a prefix of those of the entries marked Taken, Fed or Unkept, in their order. At the end
+/// every crash leaves all the bodies of the entries marked Taken or Fed. The entries that are lost or cut short are,
+/// with that fault of the door, no more than the faults that the door counted, and those for which the clock failed
+/// no more than the clock counted.
 pub fn serve_all_kept<D: Door, C: Clock, K: Disk>(
     alloc: Global,
     durable: &mut Durable,
@@ -124,14 +124,5 @@ pub fn serve_all_kept<D: Door, C: Clock, K: Disk>(
 {
     a_crash_leaves_a_prefix_law::<K>();
     body.clear();
-    serve_with(
-        alloc,
-        durable,
-        disk,
-        reader,
-        body,
-        door,
-        clock,
-        connections,
-    )
+    serve_with(alloc, durable, disk, reader, body, door, clock, connections)
 }

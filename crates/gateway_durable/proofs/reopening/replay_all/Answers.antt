@@ -1,5 +1,5 @@
 -- One step more, over the setting of the gateway at which the first body was taken.
-use Rattle.std.proofs.Common.{◌≡◌, ◌<◌, ℕ, Option, Ok, Err, ◌∙◌, subst, arith}
+use Rattle.std.proofs.Common.{◌<◌, ℕ, Option, Ok, Err, ◌∙◌, subst, arith}
 use Rattle.std.specs.Prelude.{IfSome}
 use Rattle.gateway_durable.specs.Again.{ReplaysNext}
 use Rattle.gateway_durable.proofs.AgainLemmas.{next_over}

@@ -8,7 +8,6 @@ use Rattle.gw_base.specs.declared.door.Mark.TheVariants as mark
 use Rattle.gw_base.proofs.CountLemmas.{rose-before}
 use Rattle.delivery_journal.specs.Kept.{KeptBody}
 use Rattle.gateway_server.specs.Crashes.{HoldsOfBodies}
-use Rattle.gateway_server.specs.Steps.{entry_at}
 use Rattle.gateway_server.proofs.CrashLemmas.{logged_one, none_posted}
 use Rattle.gateway_server.proofs.EndLemmas.{had_read, serves_at}
 use Rattle.gateway_server.proofs.connection.serve_one_with.Goals as goal

@@ -1,5 +1,5 @@
 -- What the file held is what the gateway stands for, over the setting that was handed in.
-use Rattle.std.proofs.Common.{◌≡◌, ◌⊎◌, ◌≤◌, ℕ, List, Some, Err, ◌∙◌, ap, subst, sym, arith}
+use Rattle.std.proofs.Common.{◌≡◌, ◌⊎◌, ℕ, List, Some, Err, ◌∙◌, ap, subst, sym, arith}
 use Rattle.std.specs.Prelude.{option_map}
 use Rattle.delivery_journal.specs.Kept.{kept}
 use Rattle.delivery_journal.specs.Standing.{opened_file}
@@ -37,7 +37,7 @@ returns-in-Ok-replay_all-clause-list g c = λ file is.
       held.0,
       held.1,
       subst (λ (s : Setting). StandsForBodies s held.0 c.replay_all.new.gate) c.in-Ok-start.ensures.setting
-      (c.in-Ok-replay_all.ensures.replays (opened_file file) told held.0 held.2),
+          (c.in-Ok-replay_all.ensures.replays (opened_file file) told held.0 held.2),
     )
 
 pub returns-in-Ok-replay_all-clause-any_moment : goal.returns-in-Ok-replay_all-clause-any_moment
