@@ -1,5 +1,5 @@
 -- What became of a body that was to be appended to a journal before a gateway takes it.
-use Rattle.std.specs.Prelude.{◌≡◌, ◌+◌, ℕ, true, false, nat_lt, List, Option, Some, None, Result, Ok, Err, OnOk, option_map, ⊤, if◌then◌else◌}
+use Rattle.std.specs.Prelude.{◌≡◌, ◌+◌, ℕ, true, false, nat_lt, List, length, Option, Some, None, Result, Ok, Err, OnOk, option_map, ⊤, if◌then◌else◌}
 use Rattle.delivery_journal.specs.Disk.{Survives, WhereTold}
 use Rattle.delivery_journal.specs.Kept.{KeptBody, kept}
 use Rattle.delivery_journal.specs.Standing.{Adds, HoldsWithOrWithout, Standing, StandsOn, appended_file}

@@ -113,7 +113,6 @@ pub logged_one : (mid new : Beside) (output : Option (List ℕ)) (ends : Mark) (
 logged_one mid new output ends moment told left entry tells input log logs logged =
     let found : (last : List ℕ) × IsOutput output last × (new.told ≡ Some (record { coming = left.coming; input = []; unread = []; log = left.log ++ record { input = left.input; mark = ends; moment = moment; output = last } ∷ [] })) =
     subst (λ (t : Option Connections). MatchOption t (new.told ≡ None) (λ told. (last : List ℕ) × IsOutput output last × (new.told ≡ Some (record { coming = told.coming; input = []; unread = []; log = told.log ++ record { input = told.input; mark = ends; moment = moment; output = last } ∷ [] })))) tells logs.1 in
-    let last : List ℕ = found.0 in
     let same : ◌≡◌ {A = Connections} (record { coming = left.coming; input = []; unread = []; log = left.log ++ record { input = left.input; mark = ends; moment = moment; output = found.0 } ∷ [] })
     (record { coming = told.coming; input = []; unread = []; log = told.log ++ entry ∷ [] }) =
     same_Some _ _ (sym found.2 ∙ logged.log) in

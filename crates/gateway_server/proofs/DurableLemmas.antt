@@ -1,5 +1,5 @@
 -- What a durable gateway does with a posted body, by what it answers.
-use Rattle.std.proofs.Common.{◌≡◌, ◌∙◌, ◌+◌, ◌≤◌, ◌<◌, ◌++◌, ◌∷◌, [], ℕ, ℤ, Bool, true, false, nat_lt, List, Option, Some, Result, Ok, Err, OnOk, length, ap, refl, subst, sym, arith}
+use Rattle.std.proofs.Common.{◌≡◌, ◌∙◌, ◌+◌, ◌≤◌, ◌<◌, ◌++◌, ◌∷◌, [], ℕ, ℤ, Bool, true, false, nat_lt, List, Option, Some, Result, Ok, Err, IfOk, OnOk, length, ap, refl, subst, sym, arith}
 use Rattle.std.proofs.lemmas.Bool.{true≢false}
 use Rattle.std.proofs.lemmas.List.{append_cancel_left}
 use Rattle.std.proofs.lemmas.Option.{same_Some}
@@ -58,6 +58,11 @@ takes_first old now arrivals moment of bytes (Err (TooManyCalls calls)) takes fu
 takes_first old now arrivals moment of bytes (Err Unkept) takes full end = takes
 takes_first old now arrivals moment of bytes (Err (Full at)) takes full end = (longer journal_limit (old.journal.end + 15 + length bytes) full.1, takes)
 takes_first old now arrivals moment of bytes (Err Memory) takes full end = refuses_memory (schedule_at old.gate.setting (moment ∷ moments_of arrivals)) of bytes
+
+-- what is said of a body that is taken
+pub says_text : (P : Accepted → Type 0) (answer : Result Accepted KeptFault) → IfOk answer P → IfOk (answer_for answer) P
+says_text P (Ok accepted) says = says
+says_text P (Err why) says = tt
 
 -- keeping it failed where the durable gateway said so
 unkept_said : (answer : Result Accepted KeptFault) → IsUnkept (answer_for answer) → answer ≡ Err Unkept
