@@ -94,6 +94,15 @@ module _ {D : Type 0} (told : D → Option (List ℕ)) (may_leave : D → List �
   kept_by new old now None keeps = (ap (λ (k : Keeper D). k.journal.now) keeps, ap (λ (k : Keeper D). k.disk.now) keeps)
   kept_by new old now (Some answer) keeps = keeps.0
 
+  -- the references in it stay
+  pub names_kept : (new : KeptBody) (old now : Keeper D) (answer : Option (Result (Unit {0}) KeepFault))
+      → KeepsOnce (λ (o : Keeper D) (a : Result (Unit {0}) KeepFault) (n : Keeper D).
+      Appends told may_leave clock left_since o.journal.now o.disk.now new a n.journal.now n.disk.now
+      × (n.journal.ghost_name ≡ o.journal.ghost_name) × (n.disk.ghost_name ≡ o.disk.ghost_name)) old answer now
+      → (now.journal.ghost_name ≡ old.journal.ghost_name) × (now.disk.ghost_name ≡ old.disk.ghost_name)
+  names_kept new old now None keeps = (ap (λ (k : Keeper D). k.journal.ghost_name) keeps, ap (λ (k : Keeper D). k.disk.ghost_name) keeps)
+  names_kept new old now (Some answer) keeps = (keeps.1, keeps.2)
+
   module _ (only_now : (disk : D) (image : List ℕ) → left_since disk (clock disk) image → may_leave disk image)
       (old : DurableGate) (before : D) (new : KeptBody) (gate : Kept) (journal : journals.Standing) (after : D) where
     same_durable : gate ≡ old.gate → journal ≡ old.journal → ◌≡◌ {A = DurableGate} (record { gate = gate; journal = journal }) old
