@@ -43,3 +43,4 @@ impl Setting {
         }
     }
 }
+// (a line of this clone alone)
