@@ -63,8 +63,8 @@ pub record IsFullFeed (name : List ℕ) (files : Directory) (feed : Feed) : Type
   pub means : MeansFeed body feed
   pub full : is_differential feed ≡ false
 
--- standard output got the delivery that says what the file's feed says: each call has the propagated time and place of its
--- stop, and read again it gives just the journeys of the feed with their readings
+-- standard output got the delivery that says what the file's feed says: each call has the propagated time and place of
+-- its stop, and read again it gives just the journeys of the feed with their readings
 pub record PublishesSiri (command : ToSiri) (files : Directory) (before now : Option (List ℕ)) : Type 0 where
   pub setting : Setting
   pub has_setting : IsSetting command.scope None files setting
