@@ -5,7 +5,7 @@ use gw_base::Member;
 use journey_model::{Context, Fault, JourneyReading, JourneyRecord, StopReading, fault_text};
 use siri_calls::{Delivery, DeliveryFault, Item, read_delivery};
 use std::alloc::{AllocError, Global};
-use timetable::{Timetable, TripNo};
+use timetable::{StopNo, StopRow, Timetable, TripNo};
 
 // What a body says. Its clauses are in no caller's goals.
 fn read(alloc: Global, body: &[u8], context: &Context<'_>) -> Result<Delivery, DeliveryFault> {
@@ -88,35 +88,76 @@ fn add_record(
     push_day(record.day, into)?;
     let at = format!(in alloc; " {}.{}", record.at.secs, record.at.nanos)?;
     into.push_str(at.as_str())?;
-    push_reading(alloc, &record.reading, into)?;
+    push_reading(alloc, rows_of(table, record.trip), &record.reading, into)?;
     into.push_str("\n")
+}
+
+// The scheduled stops of a trip.
+fn rows_of(table: &Timetable, trip: TripNo) -> &[StopRow] {
+    if trip.0 < table.trips() {
+        table.stops_of(trip)
+    } else {
+        &[]
+    }
 }
 
 fn push_reading(
     alloc: Global,
+    rows: &[StopRow],
     reading: &JourneyReading,
     into: &mut String,
 ) -> Result<(), AllocError> {
     match reading {
         JourneyReading::Cancelled => into.push_str(" cancelled"),
-        JourneyReading::Stops(stops) => push_stops(alloc, stops.as_slice(), into),
+        JourneyReading::Stops(stops) => push_stops(alloc, rows, stops.as_slice(), into),
     }
 }
 
-fn push_stops(alloc: Global, stops: &[StopReading], into: &mut String) -> Result<(), AllocError> {
-    for stop in stops {
-        push_stop(alloc, stop, into)?;
+fn push_stops(
+    alloc: Global,
+    rows: &[StopRow],
+    stops: &[StopReading],
+    into: &mut String,
+) -> Result<(), AllocError> {
+    for (index, stop) in stops.iter().enumerate() {
+        push_stop(alloc, rows.get(index), stop, into)?;
     }
     Ok(())
 }
 
-fn push_stop(alloc: Global, stop: &StopReading, into: &mut String) -> Result<(), AllocError> {
+fn push_stop(
+    alloc: Global,
+    row: Option<&StopRow>,
+    stop: &StopReading,
+    into: &mut String,
+) -> Result<(), AllocError> {
     match stop {
         StopReading::Absent => into.push_str(" -"),
         StopReading::Skipped => into.push_str(" x"),
-        StopReading::Timed { arrival, departure } => {
+        StopReading::Timed {
+            arrival,
+            departure,
+            place,
+        } => {
             let times = format!(in alloc; " {arrival}/{departure}")?;
-            into.push_str(times.as_str())
+            into.push_str(times.as_str())?;
+            push_place(alloc, row, *place, into)
+        }
+    }
+}
+
+// Adds a place, where it isn't the scheduled stop.
+fn push_place(
+    alloc: Global,
+    row: Option<&StopRow>,
+    place: StopNo,
+    into: &mut String,
+) -> Result<(), AllocError> {
+    match row {
+        Some(row) if row.stop.0 == place.0 => Ok(()),
+        _ => {
+            let at = format!(in alloc; "@{}", place.0)?;
+            into.push_str(at.as_str())
         }
     }
 }

@@ -78,7 +78,13 @@ pub fn add_call(
     let (Some(dated), Some(stop)) = (dated, table.find_stop(words.third)) else {
         return Err(Trouble::Form);
     };
-    match match_call(&dated, small_of(words.after)?, stop, order_of(words.last)?) {
+    match match_call(
+        table,
+        &dated,
+        small_of(words.after)?,
+        stop,
+        order_of(words.last)?,
+    ) {
         Some(place) => Ok(add_place(alloc, place, into)?),
         None => Ok(add_line("none", into)?),
     }
@@ -128,6 +134,7 @@ pub fn add_update(
         small_of(words.after)?,
         small_of(words.third)?,
         named,
+        false,
     );
     Ok(add_match(alloc, found, into)?)
 }

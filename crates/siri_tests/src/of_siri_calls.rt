@@ -5,6 +5,7 @@ use siri_calls::{Delivery, DeliveryFault, Item, read_delivery, write_delivery};
 use std::alloc::{AllocError, Global};
 use std::process::Abort;
 use test_folder::{paris, sample, window};
+use timetable::StopNo;
 
 // A journey with a stop that is late, one that is skipped, and an extra call, and a journey of an unknown trip.
 const DELIVERY: &str = concat!(
@@ -21,6 +22,7 @@ const STOPS: [StopReading; 3] = [
     StopReading::Timed {
         arrival: 1_714_543_260,
         departure: 1_714_543_260,
+        place: StopNo(0),
     },
     StopReading::Skipped,
     StopReading::Absent,
