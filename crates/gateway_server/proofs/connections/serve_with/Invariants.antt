@@ -30,7 +30,7 @@ invariant-loop-left g l = record {
       (g.D.Sink.told l.door) (g.D.Sink.beside l.door) (g.H.HoldsGateway.held l.host) (g.D.Sink.faults l.fn.door) (g.D.Sink.faults l.door)
       (g.C.Clock.faults l.fn.clock) (g.C.Clock.faults l.clock);
   kept : (told : Connections) → Tells (g.D.Sink.told l.fn.door) (g.D.Sink.beside l.fn.door) told → (past : Past) → StandsFor (g.H.HoldsGateway.held l.fn.host) past
-      → (first : g.K) (before : List KeptBody) → g.H.HoldsGateway.keeps first before [] l.fn.host l.fn.beside
+      → (first : g.row.K.Denot) (before : List KeptBody) → g.H.HoldsGateway.keeps first before [] l.fn.host l.fn.beside
       → KeepsSoFar (λ (taken failed : List KeptBody). g.H.HoldsGateway.keeps first taken failed l.host l.beside) before told (g.D.Sink.told l.door) (g.D.Sink.beside l.door) (g.H.HoldsGateway.held l.host);
 }
 

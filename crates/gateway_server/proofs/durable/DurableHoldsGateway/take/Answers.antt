@@ -7,7 +7,7 @@ use Rattle.gateway_server.specs.Durable.{KeepsSince, answer_for, held_of, journa
 use Rattle.gateway_server.specs.Holding.{IsLeft, IsUnkept, TakesFirst, failed_of, taken_of}
 use Rattle.gateway_server.specs.declared.not_taken.NotTaken.{NotTaken}
 use Rattle.gateway_server.proofs.DurableLemmas.{counts_unkept, is_left, keeps_since, says_text, still_ready, takes_first}
-use Rattle.gateway_server.proofs.durable.DurableHoldsGatewayK.take.Goals as goal
+use Rattle.gateway_server.proofs.durable.DurableHoldsGateway.take.Goals as goal
 
 pub returns-clause-takes : goal.returns-clause-takes
 returns-clause-takes g c = λ arrivals stands bytes posts.
