@@ -227,7 +227,7 @@ after_wider P Q U V room setting past entry wider also (sound, lawful) =
     (sound, lawful_wider P Q U V (λ (body : List ℕ). room.is_full past.end (length body)) setting past.arrivals entry wider also lawful)
 
 -- what is told of a door after a part of the input was read
-had_read : (old mid : Beside) (bytes : List ℕ) (told : Connections) → old.told ≡ Some told → HasRead old mid bytes
+pub had_read : (old mid : Beside) (bytes : List ℕ) (told : Connections) → old.told ≡ Some told → HasRead old mid bytes
     → (rest : List ℕ) × (mid.told ≡ Some (record { coming = told.coming; input = told.input; unread = rest; log = told.log }))
 had_read old mid bytes told tells read =
     let found : (rest : List ℕ) × (told.unread ≡ bytes ++ rest) × (mid.told ≡ Some (record { coming = told.coming; input = told.input; unread = rest; log = told.log })) =

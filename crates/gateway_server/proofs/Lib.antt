@@ -1,5 +1,7 @@
 mod CauseLemmas
 pub mod CompletenessLemmas
+mod CrashLemmas
+mod DurableLemmas
 mod EndLemmas
 mod LoopLemmas
 mod PutLemmas

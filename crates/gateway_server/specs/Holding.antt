@@ -1,7 +1,8 @@
 -- What holds a gateway, as contracts see it, and what it does with a body that was posted and came whole. It may keep
 -- the body before that is taken, as a journal does.
-use Rattle.std.specs.Prelude.{◌≡◌, ℕ, ℤ, Bool, true, false, List, length, Result, Ok, Err, ⊤}
+use Rattle.std.specs.Prelude.{◌≡◌, ℕ, ℤ, Bool, true, false, List, [], ◌∷◌, length, Result, Ok, Err, ⊤}
 use Rattle.gw_base.specs.declared.kind.Kind.{Kind}
+use Rattle.delivery_journal.specs.Kept.{KeptBody}
 use Rattle.gateway_core.specs.Arrivals.{Arrival}
 use Rattle.gateway_core.specs.Bodies.{Takes}
 use Rattle.gateway_core.specs.KeptFirst.{CanBeTaken}
@@ -60,6 +61,17 @@ IsUnkept (Ok accepted) = ⊥
 IsUnkept (Err (Refused why)) = ⊥
 IsUnkept (Err Unkept) = ⊤
 IsUnkept (Err Full) = ⊥
+
+-- what a body adds to those that were taken, by what is answered, and to those of which keeping failed
+abbrev pub taken_of : Result Accepted NotTaken → KeptBody → List KeptBody
+taken_of (Ok accepted) new = new ∷ []
+taken_of (Err why) new = []
+
+abbrev pub failed_of : Result Accepted NotTaken → KeptBody → List KeptBody
+failed_of (Ok accepted) new = []
+failed_of (Err (Refused why)) new = []
+failed_of (Err Unkept) new = new ∷ []
+failed_of (Err Full) new = []
 
 -- what a gateway answers that keeps no bodies
 abbrev pub unless_refused : Result Accepted BodyRefusal → Result Accepted NotTaken

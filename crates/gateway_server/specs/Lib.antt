@@ -1,6 +1,8 @@
 pub mod Answers
 pub mod Bodies
 pub mod Completeness
+pub mod Crashes
+pub mod Durable
 pub mod Holding
 pub mod Log
 pub mod Past

@@ -1,5 +1,5 @@
 -- What a GET and a POST put, and what a connection is by its end.
-use Rattle.std.specs.Prelude.{◌≡◌, ℕ, ℤ, true, false, List, ◌∷◌, length, Option, Some}
+use Rattle.std.specs.Prelude.{◌≡◌, ℕ, ℤ, Bool, true, false, List, [], ◌∷◌, length, Option, Some}
 use Rattle.gw_base.specs.Told.{PutsUnless}
 use Rattle.gw_base.specs.declared.door.Entry.{Entry}
 use Rattle.gw_base.specs.declared.door.Mark.{Mark}
@@ -11,6 +11,7 @@ use Rattle.http_talk.specs.declared.target.Resource.{Resource}
 use Rattle.http_talk.specs.declared.target.Resource.TheVariants as resource
 use Rattle.gw_base.specs.declared.kind.Kind.{Kind}
 use Rattle.journey_model.specs.declared.report.Report.{Report}
+use Rattle.delivery_journal.specs.Kept.{KeptBody}
 use Rattle.gateway_core.specs.Arrivals.{Arrival, Given, moments_of, schedule_at}
 use Rattle.gateway_core.specs.KeptFirst.{CanBeTaken}
 use Rattle.gateway_core.specs.Standing.{IsLastSiri, Stands}
@@ -54,6 +55,11 @@ pub data PutsTaken (Cause Unkept : Type 0) (room : Room) (held : Held) (arrivals
   full : CanBeTaken held.gate.setting arrivals moment of body → room.is_full held.end (length body) ≡ true
       → ends ≡ mark.Refused 500 → PutsUnless Cause before now (refused_with refusal.JournalFull) → after ≡ held
       → PutsTaken Cause Unkept room held arrivals moment of body ends before now after
+
+-- a body, where it is one of some
+abbrev pub body_where : Bool → KeptBody → List KeptBody
+body_where true one = one ∷ []
+body_where false one = []
 
 -- the entry of a connection that has a moment
 abbrev pub entry_at : List ℕ → ℤ → Mark → List ℕ → Entry

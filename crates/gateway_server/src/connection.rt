@@ -1,18 +1,22 @@
 //! One connection, from its first read to its entry in the log. The definitions are those of `specs/Serving.antt`.
-ghost use Rattle.std.specs.Prelude.{◌≡◌, ◌≤◌, true, false, ℕ, List, length};
+ghost use Rattle.std.specs.Prelude.{◌≡◌, ◌≤◌, ◌++◌, ◌∷◌, [], true, false, ℕ, List, length};
 ghost use Rattle.gw_base.specs.Changes.{change};
 ghost use Rattle.gw_base.specs.Connections.{Connections};
 ghost use Rattle.gw_base.specs.Count.{Rose};
 ghost use Rattle.gw_base.specs.Limits.{body_limit};
 ghost use Rattle.gw_base.specs.Told.{PutsUnless};
+ghost use Rattle.gw_base.specs.declared.door.Entry.{Entry};
+ghost use Rattle.delivery_journal.specs.Kept.{KeptBody};
 ghost use Rattle.door_talk.specs.Requests.{HasRead, IsWithin};
 ghost use Rattle.gateway_core.specs.Arrivals.{Arrival};
 ghost use Rattle.gateway_core.specs.Standing.{Stands};
 ghost use Rattle.gateway_server.specs.Answers.{refused_with};
 ghost use Rattle.gateway_server.specs.Bodies as bodies;
-ghost use Rattle.gateway_server.specs.Past.{Past, StandsFor};
-ghost use Rattle.gateway_server.specs.Serving.{IsFresh, Serves, ServesAfter};
-ghost use Rattle.gateway_server.specs.Steps.{Answers, PutsShown, PutsTaken};
+ghost use Rattle.gateway_server.specs.Crashes.{HoldsOfBodies};
+ghost use Rattle.gateway_server.specs.Log.{is_taken};
+ghost use Rattle.gateway_server.specs.Past.{Past, StandsFor, is_unkept};
+ghost use Rattle.gateway_server.specs.Serving.{IsFresh, IsLogged, Serves, ServesAfter};
+ghost use Rattle.gateway_server.specs.Steps.{Answers, PutsShown, PutsTaken, body_where, entry_at};
 
 use crate::answers::{put_answer, put_feed, put_refusal, put_siri};
 use crate::holds_gateway::HoldsGateway;
@@ -113,6 +117,12 @@ fn take<K, H: HoldsGateway<K>, S: Sink>(
         → PutsTaken (Rose (S.faults sink.old) (S.faults sink.new)) (Rose (H.faults beside.old) (H.faults beside.new))
         H.room (H.held host.old) arrivals moment kind bytes result (S.told sink.old) (S.told sink.new)
         (H.held host.new) }
+    ensures keeps { (bytes : List ℕ) → H.Body.stands (H.held host.old).gate posted.old moment kind bytes
+        → (first : K) (before : List KeptBody) → H.keeps first before [] host.old beside.old
+        → H.keeps first
+        (before ++ body_where (is_taken result) (record { kind = kind; moment = moment; body = bytes }))
+        (body_where (is_unkept result) (record { kind = kind; moment = moment; body = bytes })) host.new beside.new }
+    ensures unkept { (H.held host.new).is_sound ≡ true → is_unkept result ≡ false }
     ensures setting { (H.held host.new).gate.setting ≡ (H.held host.old).gate.setting }
     ensures small { H.Body.taken posted.new ≤ H.Body.taken posted.old }
     ensures ready { (H.held host.new).is_sound ≡ true → H.is_ready host.new beside.new }
@@ -148,6 +158,10 @@ fn answer<K, H: HoldsGateway<K>, D: Door>(
         → (past : Past) → StandsFor (H.held host.old) past
         → Answers (Rose (D.faults door.old) (D.faults door.new)) (Rose (H.faults beside.old) (H.faults beside.new))
         H.room (H.held host.old).gate.setting past told.input moment result (D.told door.new) (H.held host.new) }
+    ensures keeps { (told : Connections) → IsFresh (D.told door.old) (D.beside door.old) told
+        → (first : K) (before : List KeptBody) → H.keeps first before [] host.old beside.old → (written : List ℕ)
+        → HoldsOfBodies (λ taken failed. H.keeps first (before ++ taken) failed host.new beside.new)
+        (H.held host.new).is_sound (entry_at told.input moment result written ∷ []) }
     ensures reads { (bytes : List ℕ) × HasRead (D.beside door.old) (D.beside door.new) bytes × IsWithin bytes }
     ensures small { H.Body.taken posted.new ≤ body_limit }
     ensures setting { (H.held host.new).gate.setting ≡ (H.held host.old).gate.setting }
@@ -195,6 +209,11 @@ pub fn serve_one_with<K, H: HoldsGateway<K>, D: Door, C: Clock>(
         → ServesAfter (Rose (D.faults door.old) (D.faults door.new)) (Rose (H.faults beside.old) (H.faults beside.new))
         H.room (H.held host.old) past told (change C.told C.faults clock.old clock.new) (D.told door.new)
         (D.beside door.new) (H.held host.new) }
+    ensures keeps { (told : Connections) → IsFresh (D.told door.old) (D.beside door.old) told
+        → (entry : Entry) → IsLogged told (D.beside door.new) entry
+        → (first : K) (before : List KeptBody) → H.keeps first before [] host.old beside.old
+        → HoldsOfBodies (λ taken failed. H.keeps first (before ++ taken) failed host.new beside.new)
+        (H.held host.new).is_sound (entry ∷ []) }
     ensures small { H.Body.taken posted.new ≤ body_limit }
     ensures ended { (D.beside door.new).present ≡ false }
     ensures setting { (H.held host.new).gate.setting ≡ (H.held host.old).gate.setting }

@@ -1,12 +1,14 @@
 //! Connections, one after the other. The definitions are those of `specs/Serving.antt`.
-ghost use Rattle.std.specs.Prelude.{◌≡◌, ◌≤◌, ◌⊎◌, ◌++◌, true, false, ℕ, List, length, Some, OnOk, IsErr};
+ghost use Rattle.std.specs.Prelude.{◌≡◌, ◌≤◌, ◌⊎◌, ◌++◌, [], true, false, ℕ, List, length, Some, OnOk, IsErr};
 ghost use Rattle.gw_base.specs.Changes.{change};
 ghost use Rattle.gw_base.specs.Connections.{Connections};
 ghost use Rattle.gw_base.specs.Count.{Counts, Rose};
 ghost use Rattle.gw_base.specs.declared.door.Entry as entries;
 ghost use Rattle.gw_base.specs.Limits.{body_limit};
+ghost use Rattle.delivery_journal.specs.Kept.{KeptBody};
 ghost use Rattle.gateway_core.specs.Arrivals.{Arrival};
 ghost use Rattle.gateway_core.specs.Standing.{Stands};
+ghost use Rattle.gateway_server.specs.Crashes.{HoldsOfBodies};
 ghost use Rattle.gateway_server.specs.Past.{Past, StandsFor};
 ghost use Rattle.gateway_server.specs.Serving.{CountsCauses, CountsCausesAfter, IsEnd, ServesAll, ServesAllAfter, Tells, failures};
 
@@ -51,6 +53,13 @@ pub fn serve_with<K, H: HoldsGateway<K>, D: Door, C: Clock>(
         → CountsCausesAfter (Rose (H.faults beside.old) (H.faults beside.new)) H.room
         (H.held host.old).gate.setting past logged (failures result) (D.faults door.old) (D.faults door.new)
         (C.faults clock.old) (C.faults clock.new) }
+    ensures keeps { (told left : Connections) → Tells (D.told door.old) (D.beside door.old) told
+        → (D.beside door.new).told ≡ Some left
+        → (past : Past) → StandsFor (H.held host.old) past
+        → (logged : List entries.Entry) → left.log ≡ told.log ++ logged
+        → (first : K) (before : List KeptBody) → H.keeps first before [] host.old beside.old
+        → HoldsOfBodies (λ taken failed. H.keeps first (before ++ taken) failed host.new beside.new)
+        (H.held host.new).is_sound logged }
     ensures small { H.Body.taken posted.new ≤ body_limit }
     ensures absent { (D.beside door.new).present ≡ false }
     ensures setting { (H.held host.new).gate.setting ≡ (H.held host.old).gate.setting }

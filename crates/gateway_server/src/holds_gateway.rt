@@ -1,5 +1,5 @@
 //! What holds a gateway. The definitions are those of `specs/Holding.antt`.
-ghost use Rattle.std.specs.Prelude.{◌≡◌, ◌≤◌, true, List, IfOk};
+ghost use Rattle.std.specs.Prelude.{◌≡◌, ◌≤◌, ◌++◌, true, List, [], IfOk};
 ghost use Rattle.gw_base.specs.Count.{Counts};
 ghost use Rattle.gw_base.specs.Limits.{body_limit};
 ghost use Rattle.gateway_core.specs.Arrivals.{Arrival};
@@ -16,7 +16,8 @@ use std::alloc::Global;
 /// What holds a gateway: it lends it, and takes for it a body that was posted and came whole. What that needs besides
 /// is `K`, as a disk on which bodies are kept before they are taken; a gateway by itself keeps none and needs nothing.
 pub trait HoldsGateway<K> {
-    ghost use Rattle.std.specs.Prelude.{◌≡◌, ◌≤◌, ℕ, ℤ, true, List, IfOk};
+    ghost use Rattle.std.specs.Prelude.{◌≡◌, ◌≤◌, ◌++◌, ℕ, ℤ, true, List, [], IfOk};
+    ghost use Rattle.delivery_journal.specs.Kept.{KeptBody};
     ghost use Rattle.gateway_server.specs.Holding.{Held, Room};
 
     /// What takes the body of a POST while it arrives.
@@ -33,6 +34,10 @@ pub trait HoldsGateway<K> {
 
     /// How many faults were met of what it needs. The count never falls, and stands still at the last value of a u64.
     ghost faults: { K → ℕ };
+
+    /// What became of what it needs since a moment, while these bodies were taken one after the other, and then keeping
+    /// those failed, of which there is one at most: as what a crash leaves of a disk.
+    ghost keeps: { K → List KeptBody → List KeptBody → Self → K → Type 0 };
 
     /// The gateway, lent to who reads from it.
     fn gateway(&self) -> &Gateway
@@ -66,6 +71,10 @@ pub trait HoldsGateway<K> {
         ensures setting { (held self.new).gate.setting ≡ (held self.old).gate.setting }
         ensures small { Self.Body.taken posted.new ≤ Self.Body.taken posted.old }
         ensures ready { (held self.new).is_sound ≡ true → is_ready self.new beside.new }
+        ensures keeps { (bytes : List ℕ) → Self.Body.stands (held self.old).gate posted.old moment kind bytes
+            → (first : K) (taken : List KeptBody) → keeps first taken [] self.old beside.old
+            → keeps first (taken ++ spec.taken_of result (record { kind = kind; moment = moment; body = bytes }))
+            (spec.failed_of result (record { kind = kind; moment = moment; body = bytes })) self.new beside.new }
         ensures counts { Counts (spec.IsUnkept result) (faults beside.old) (faults beside.new) };
 
     /// Lets go of what was posted, and leaves what is used again for the next body.

@@ -107,6 +107,8 @@ impl HoldsGateway<()> for Gateway {
 
     ghost faults = { λ _. 0 };
 
+    ghost keeps = { λ _ _ _ _ _. ⊤ };
+
     fn gateway(&self) -> &Gateway {
         self
     }

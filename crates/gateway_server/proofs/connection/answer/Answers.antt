@@ -1,12 +1,14 @@
 -- By what the connection asks for.
-use Rattle.std.proofs.Common.{◌∙◌, ℕ, List, subst, sym}
+use Rattle.std.proofs.Common.{◌∙◌, ℕ, List, refl, subst, sym}
 use Rattle.gw_base.specs.Count.{Rose}
 use Rattle.gw_base.specs.declared.door.Mark.TheVariants as mark
 use Rattle.gw_base.proofs.CountLemmas.{rose-after}
 use Rattle.door_talk.specs.Requests.{AsksFor, IsPosted}
 use Rattle.door_talk.specs.declared.asked.Asked.TheVariants as asked
+use Rattle.delivery_journal.specs.Kept.{KeptBody}
 use Rattle.gateway_core.specs.Standing.{Kept}
-use Rattle.gateway_server.specs.Steps.{Answers}
+use Rattle.gateway_server.specs.Steps.{Answers, entry_at}
+use Rattle.gateway_server.proofs.CrashLemmas.{none_posted, one_posted}
 use Rattle.gateway_server.proofs.EndLemmas.{answers_lost, answers_no_room, answers_refused, answers_shown, answers_taken, answers_wider, asked_of}
 use Rattle.gateway_server.proofs.connection.answer.Goals as goal
 
@@ -79,3 +81,33 @@ returns-in-Lost-clause-answers g c = λ told fresh past stands.
     g.H.HoldsGateway.room (g.H.HoldsGateway.held c.args.host.now) past stands c.requires.sound told.input c.args.moment
     (g.D.Sink.told c.args.door.now) (g.D.Sink.told c.read_request.new.door) fresh.unwritten
     (c.read_request.ensures.output ∙ fresh.unwritten) (c.read_request.ensures.lost c.in-Lost.is)
+
+pub returns-in-Get-clause-keeps : goal.returns-in-Get-clause-keeps
+returns-in-Get-clause-keeps g c = λ told fresh first before keeps written.
+    none_posted (λ (taken failed : List KeptBody). g.H.HoldsGateway.keeps first taken failed c.args.host.now c.args.beside.now) before (g.H.HoldsGateway.held c.args.host.now).is_sound
+    (entry_at told.input c.args.moment mark.Shown written) refl refl keeps
+
+pub returns-in-Refused-clause-keeps : goal.returns-in-Refused-clause-keeps
+returns-in-Refused-clause-keeps g c = λ told fresh first before keeps written.
+    none_posted (λ (taken failed : List KeptBody). g.H.HoldsGateway.keeps first taken failed c.args.host.now c.args.beside.now) before (g.H.HoldsGateway.held c.args.host.now).is_sound
+    (entry_at told.input c.args.moment (mark.Refused _) written) refl refl keeps
+
+pub returns-in-NoRoom-clause-keeps : goal.returns-in-NoRoom-clause-keeps
+returns-in-NoRoom-clause-keeps g c = λ told fresh first before keeps written.
+    none_posted (λ (taken failed : List KeptBody). g.H.HoldsGateway.keeps first taken failed c.args.host.now c.args.beside.now) before (g.H.HoldsGateway.held c.args.host.now).is_sound
+    (entry_at told.input c.args.moment mark.Memory written) refl refl keeps
+
+pub returns-in-Lost-clause-keeps : goal.returns-in-Lost-clause-keeps
+returns-in-Lost-clause-keeps g c = λ told fresh first before keeps written.
+    none_posted (λ (taken failed : List KeptBody). g.H.HoldsGateway.keeps first taken failed c.args.host.now c.args.beside.now) before (g.H.HoldsGateway.held c.args.host.now).is_sound
+    (entry_at told.input c.args.moment mark.Lost written) refl refl keeps
+
+pub returns-in-Post-clause-keeps : goal.returns-in-Post-clause-keeps
+returns-in-Post-clause-keeps g c = λ told fresh first before keeps written.
+    let asks : AsksFor (g.H.Body.TakesBody.stands c.gateway.result.now c.read_request.new.taker c.args.moment) told.input (asked.Post c.in-Post.kind) =
+    asked_of (g.H.Body.TakesBody.stands c.gateway.result.now c.read_request.new.taker c.args.moment) (g.D.Sink.told c.args.door.now) (g.D.Sink.beside c.args.door.now) told c.read_request.result (asked.Post c.in-Post.kind) fresh c.read_request.ensures.asks c.in-Post.is in
+    one_posted (λ (taken failed : List KeptBody). g.H.HoldsGateway.keeps first taken failed c.take.new.host c.take.new.beside) before (g.H.HoldsGateway.held c.take.new.host).is_sound
+    (entry_at told.input c.args.moment c.take.result written) (record { kind = c.in-Post.kind; moment = c.args.moment; body = asks.0 })
+    (record { asks = asks.1; moment = refl }) c.take.ensures.unkept
+    (c.take.ensures.keeps asks.0
+    (subst (λ (k : Kept). g.H.Body.TakesBody.stands k c.read_request.new.taker c.args.moment c.in-Post.kind asks.0) c.gateway.ensures.lends asks.2) first before keeps)

@@ -1,8 +1,10 @@
 -- By what was done with the body.
-use Rattle.std.proofs.Common.{◌∙◌, subst, sym}
+use Rattle.std.proofs.Common.{◌∙◌, List, subst, sym}
 use Rattle.gw_base.specs.Count.{Rose}
 use Rattle.gw_base.specs.declared.door.Mark.{Mark}
+use Rattle.delivery_journal.specs.Kept.{KeptBody}
 use Rattle.gateway_server.specs.Steps.{PutsTaken}
+use Rattle.gateway_server.proofs.CrashLemmas.{keeps_not_taken, keeps_taken, kept_not_taken, kept_taken}
 use Rattle.gateway_server.proofs.TakeLemmas.{puts_not_taken, puts_taken}
 use Rattle.gateway_server.proofs.connection.take.Goals as goal
 
@@ -25,3 +27,20 @@ returns-in-Err-clause-takes g c = λ arrivals stands bytes posts.
     g.H.HoldsGateway.room (g.H.HoldsGateway.held c.args.host.now) arrivals c.args.moment c.args.kind bytes
     (g.S.Sink.told c.args.sink.now) (g.S.Sink.told c.turn_away.new.sink) (g.H.HoldsGateway.held c.take.new.self) c.in-Err.why c.turn_away.result c.turn_away.ensures.mark
     (c.in-Err.ensures.takes arrivals stands bytes posts) c.in-Err.ensures.left c.in-Err.ensures.counts.cause c.turn_away.ensures.puts
+
+pub returns-in-Ok-clause-keeps : goal.returns-in-Ok-clause-keeps
+returns-in-Ok-clause-keeps g c = λ bytes posts first before keeps.
+    keeps_taken (λ (taken failed : List KeptBody). g.H.HoldsGateway.keeps first taken failed c.take.new.self c.take.new.beside) before (record { kind = c.args.kind; moment = c.args.moment; body = bytes }) c.args.kind c.taken_mark.result c.taken_mark.ensures
+    (c.in-Ok.ensures.keeps bytes posts first before keeps)
+
+pub returns-in-Ok-clause-unkept : goal.returns-in-Ok-clause-unkept
+returns-in-Ok-clause-unkept g c = λ sound. kept_taken c.args.kind c.taken_mark.result c.taken_mark.ensures
+
+pub returns-in-Err-clause-keeps : goal.returns-in-Err-clause-keeps
+returns-in-Err-clause-keeps g c = λ bytes posts first before keeps.
+    keeps_not_taken (λ (taken failed : List KeptBody). g.H.HoldsGateway.keeps first taken failed c.take.new.self c.take.new.beside) before (record { kind = c.args.kind; moment = c.args.moment; body = bytes }) c.in-Err.why c.turn_away.result c.turn_away.ensures.mark
+    (c.in-Err.ensures.keeps bytes posts first before keeps)
+
+pub returns-in-Err-clause-unkept : goal.returns-in-Err-clause-unkept
+returns-in-Err-clause-unkept g c =
+    kept_not_taken (g.H.HoldsGateway.held c.args.host.now) (g.H.HoldsGateway.held c.take.new.self) c.in-Err.why c.turn_away.result c.turn_away.ensures.mark c.in-Err.ensures.left

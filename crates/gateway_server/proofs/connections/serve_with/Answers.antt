@@ -1,11 +1,13 @@
 -- No connection yet, one more, and the end.
-use Rattle.std.proofs.Common.{◌≡◌, ◌≤◌, ◌∙◌, ◌+◌, ◌-◌, Bool, true, false, ℕ, inl, inr, Result, Ok, Err, ap, arith, refl, subst, sym}
+use Rattle.std.proofs.Common.{◌≡◌, ◌≤◌, ◌∙◌, ◌+◌, ◌-◌, Bool, List, true, false, ℕ, inl, inr, Result, Ok, Err, ap, arith, refl, subst, sym}
 use Rattle.gw_base.specs.Changes.{change}
 use Rattle.gw_base.specs.Count.{Rose}
 use Rattle.gw_base.specs.declared.sink.Failed.{Failed}
 use Rattle.gw_base.proofs.CountLemmas.{rose-after, rose-before}
+use Rattle.delivery_journal.specs.Kept.{KeptBody}
 use Rattle.gateway_server.specs.Serving.{ServesAllAfter}
 use Rattle.gateway_server.proofs.CauseLemmas.{counts_end, counts_more, counts_none, no_further, one_further}
+use Rattle.gateway_server.proofs.CrashLemmas.{kept_end, kept_more, kept_none}
 use Rattle.gateway_server.proofs.LoopLemmas.{is_end, serves_end, serves_more, serves_none}
 use Rattle.gateway_server.proofs.connections.serve_with.Goals as goal
 
@@ -59,6 +61,8 @@ loop-left-init g c = record {
       (g.D.Sink.told c.args.door.now) (g.D.Sink.beside c.args.door.now) tells stands);
   counted = λ told tells past stands.
       counts_none (Rose (g.H.HoldsGateway.faults c.args.beside.now) (g.H.HoldsGateway.faults c.args.beside.now)) g.H.HoldsGateway.room (g.H.HoldsGateway.held c.args.host.now) past told (g.D.Sink.told c.args.door.now) (g.D.Sink.beside c.args.door.now) (g.D.Sink.faults c.args.door.now) (g.C.Clock.faults c.args.clock.now) tells stands;
+  kept = λ told tells past stands first before keeps.
+      kept_none (λ (taken failed : List KeptBody). g.H.HoldsGateway.keeps first taken failed c.args.host.now c.args.beside.now) before (g.H.HoldsGateway.held c.args.host.now) past told (g.D.Sink.told c.args.door.now) (g.D.Sink.beside c.args.door.now) tells stands keeps;
 }
 
 pub loop-left-preserved : goal.loop-left-preserved
@@ -97,6 +101,15 @@ loop-left-preserved g c = record {
       kept_before kept_after
       c.loop-left.invariant.setting c.next.ensures.counts.never_falls c.serve_one_with.ensures.counts c.serve_one_with.ensures.clock
       (c.in-Ok-true.ensures.came (ap Ok c.in-Ok-true.field-0-test)) (c.in-Ok-true.ensures.fresh (ap Ok c.in-Ok-true.field-0-test)) c.serve_one_with.ensures.serves;
+  kept = λ told tells past stands first before keeps.
+      kept_more (Rose (g.D.Sink.faults c.next.new.self) (g.D.Sink.faults c.serve_one_with.new.door)) (Rose (g.H.HoldsGateway.faults c.loop-left.beside) (g.H.HoldsGateway.faults c.serve_one_with.new.beside)) g.H.HoldsGateway.room
+      (λ (taken failed : List KeptBody). g.H.HoldsGateway.keeps first taken failed c.loop-left.host c.loop-left.beside) (λ (taken failed : List KeptBody). g.H.HoldsGateway.keeps first taken failed c.serve_one_with.new.host c.serve_one_with.new.beside) before
+      (g.H.HoldsGateway.held c.loop-left.host) (g.H.HoldsGateway.held c.serve_one_with.new.host) told (change g.C.Clock.told g.C.Clock.faults c.loop-left.clock c.serve_one_with.new.clock)
+      (g.D.Sink.beside c.loop-left.door) (g.D.Sink.beside c.next.new.self) (g.D.Sink.beside c.serve_one_with.new.door)
+      (g.D.Sink.told c.loop-left.door) (g.D.Sink.told c.next.new.self) (g.D.Sink.told c.serve_one_with.new.door) (c.loop-left.invariant.kept told tells past stands first before keeps)
+      (sym c.is_sound.ensures.value ∙ c.if-not-is_sound.false)
+      (c.in-Ok-true.ensures.came (ap Ok c.in-Ok-true.field-0-test)) (c.in-Ok-true.ensures.fresh (ap Ok c.in-Ok-true.field-0-test)) c.serve_one_with.ensures.serves
+      (λ one is_fresh entry logged kept so. c.serve_one_with.ensures.keeps one is_fresh entry logged first kept so);
 }
   where
     came : g.D.Sink.faults c.args.door.now ≤ g.D.Sink.faults c.next.new.self
@@ -177,3 +190,23 @@ returns-clause-causes g c = λ told left tells ends past stands logged log.
     (g.D.Sink.faults c.args.door.now) (g.D.Sink.faults c.loop-left.door) (g.D.Sink.faults c.loop-left.door) (g.C.Clock.faults c.args.clock.now) (g.C.Clock.faults c.loop-left.clock)
     (c.loop-left.invariant.counted told tells past stands) refl ends log
     (no_further (g.D.Sink.faults c.args.door.now) (g.D.Sink.faults c.loop-left.door) (g.D.Sink.faults c.loop-left.door) (le_self (g.D.Sink.faults c.loop-left.door)))
+
+pub returns-then-not-is_sound-clause-keeps : goal.returns-then-not-is_sound-clause-keeps
+returns-then-not-is_sound-clause-keeps g c = λ told left tells ends past stands logged log first before keeps.
+    kept_end (λ (taken failed : List KeptBody). g.H.HoldsGateway.keeps first taken failed c.loop-left.host c.loop-left.beside) before told left (g.D.Sink.told c.loop-left.door) (g.D.Sink.beside c.loop-left.door) (g.D.Sink.beside c.loop-left.door) (g.H.HoldsGateway.held c.loop-left.host) logged
+    (c.loop-left.invariant.kept told tells past stands first before keeps) refl ends log
+
+pub returns-in-Ok-false-clause-keeps : goal.returns-in-Ok-false-clause-keeps
+returns-in-Ok-false-clause-keeps g c = λ told left tells ends past stands logged log first before keeps.
+    kept_end (λ (taken failed : List KeptBody). g.H.HoldsGateway.keeps first taken failed c.loop-left.host c.loop-left.beside) before told left (g.D.Sink.told c.loop-left.door) (g.D.Sink.beside c.loop-left.door) (g.D.Sink.beside c.next.new.self) (g.H.HoldsGateway.held c.loop-left.host) logged
+    (c.loop-left.invariant.kept told tells past stands first before keeps) (c.in-Ok-false.ensures.none (ap Ok c.in-Ok-false.field-0-test)).0 ends log
+
+pub returns-in-Err-clause-keeps : goal.returns-in-Err-clause-keeps
+returns-in-Err-clause-keeps g c = λ told left tells ends past stands logged log first before keeps.
+    kept_end (λ (taken failed : List KeptBody). g.H.HoldsGateway.keeps first taken failed c.loop-left.host c.loop-left.beside) before told left (g.D.Sink.told c.loop-left.door) (g.D.Sink.beside c.loop-left.door) (g.D.Sink.beside c.next.new.self) (g.H.HoldsGateway.held c.loop-left.host) logged
+    (c.loop-left.invariant.kept told tells past stands first before keeps) c.in-Err.ensures.failed ends log
+
+pub returns-clause-keeps : goal.returns-clause-keeps
+returns-clause-keeps g c = λ told left tells ends past stands logged log first before keeps.
+    kept_end (λ (taken failed : List KeptBody). g.H.HoldsGateway.keeps first taken failed c.loop-left.host c.loop-left.beside) before told left (g.D.Sink.told c.loop-left.door) (g.D.Sink.beside c.loop-left.door) (g.D.Sink.beside c.loop-left.door) (g.H.HoldsGateway.held c.loop-left.host) logged
+    (c.loop-left.invariant.kept told tells past stands first before keeps) refl ends log

@@ -1,12 +1,14 @@
 -- the connections so far
-use Rattle.std.proofs.Common.{◌≡◌, ◌≤◌, ◌-◌, true, false}
+use Rattle.std.proofs.Common.{◌≡◌, ◌≤◌, ◌-◌, [], List, true, false}
 use Rattle.gw_base.specs.Changes.{change}
 use Rattle.gw_base.specs.Connections.{Connections}
 use Rattle.gw_base.specs.Count.{Rose}
 use Rattle.gw_base.specs.Limits.{body_limit}
+use Rattle.delivery_journal.specs.Kept.{KeptBody}
 use Rattle.gateway_server.specs.Past.{Past, StandsFor}
 use Rattle.gateway_server.specs.Serving.{ServesAllAfter, Tells}
 use Rattle.gateway_server.proofs.CauseLemmas.{CountsSoFar}
+use Rattle.gateway_server.proofs.CrashLemmas.{KeepsSoFar}
 use Rattle.gateway_server.proofs.connections.serve_with.Given as goal
 
 abbrev pub invariant-loop-left : goal.invariant-loop-left
@@ -27,6 +29,9 @@ invariant-loop-left g l = record {
       → CountsSoFar (Rose (g.H.HoldsGateway.faults l.fn.beside) (g.H.HoldsGateway.faults l.beside)) g.H.HoldsGateway.room (g.H.HoldsGateway.held l.fn.host).gate.setting past told
       (g.D.Sink.told l.door) (g.D.Sink.beside l.door) (g.H.HoldsGateway.held l.host) (g.D.Sink.faults l.fn.door) (g.D.Sink.faults l.door)
       (g.C.Clock.faults l.fn.clock) (g.C.Clock.faults l.clock);
+  kept : (told : Connections) → Tells (g.D.Sink.told l.fn.door) (g.D.Sink.beside l.fn.door) told → (past : Past) → StandsFor (g.H.HoldsGateway.held l.fn.host) past
+      → (first : g.K) (before : List KeptBody) → g.H.HoldsGateway.keeps first before [] l.fn.host l.fn.beside
+      → KeepsSoFar (λ (taken failed : List KeptBody). g.H.HoldsGateway.keeps first taken failed l.host l.beside) before told (g.D.Sink.told l.door) (g.D.Sink.beside l.door) (g.H.HoldsGateway.held l.host);
 }
 
 abbrev pub decreases-loop-left : goal.decreases-loop-left

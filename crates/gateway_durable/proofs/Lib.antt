@@ -1,0 +1,8 @@
+mod AgainLemmas
+mod DiskLemmas
+mod FoundLemmas
+mod ReopenLemmas
+mod ReplayLemmas
+mod ReplayRows
+mod RunLemmas
+mod TakingLemmas
