@@ -1,5 +1,5 @@
 -- What a lawful log shows.
-use Rattle.std.proofs.Common.{◌≡◌, ◌⊎◌, ◌++◌, ◌∷◌, [], ℕ, ℤ, List, Option, Some, None, Result, Ok, Err, IfSome, inl, inr, refl, subst, sym, ◌∙◌, length, rules}
+use Rattle.std.proofs.Common.{Bool, false, ◌≡◌, ◌⊎◌, ◌++◌, ◌∷◌, [], ℕ, ℤ, List, Option, Some, None, Result, Ok, Err, IfSome, inl, inr, refl, subst, sym, ◌∙◌, length, rules}
 use Rattle.std.specs.Prelude.{IsOk, OnOk, ◌≤◌}
 use Rattle.gw_base.specs.Changes.{Change}
 use Rattle.gw_base.specs.Connections.{Beside, Connections}
@@ -9,7 +9,9 @@ use Rattle.gateway_core.specs.Arrivals.{Arrival, Given, feed, journeys, situatio
 use Rattle.gateway_core.specs.Standing.{Kept}
 use Rattle.gateway_core.specs.declared.setting.Setting.{Setting}
 use Rattle.gateway_server.specs.Answers.{IsAnswered, body_refused, feed_shown, mark_of, refused, taken, text_shown}
-use Rattle.gateway_server.specs.Log.{IsFront, IsLawful, IsLawfulLog, answered, full, lost, no_clock, no_memory, unkept}
+use Rattle.gateway_server.specs.Log.{IsFront, IsLawfulBy, IsLawfulLog, IsLogBy, answered, full, lost, no_clock, no_memory, unkept}
+use Rattle.gateway_server.specs.Holding.{Room}
+use Rattle.gateway_server.specs.Past.{IsLawfulAfter, LeavesPast, Past}
 use Rattle.gateway_server.specs.Serving.{IsEnd, ServesAll, Tells}
 use Rattle.gw_base.specs.Answers.{UnlessFree}
 use Rattle.gateway_top.specs.Exits.{is_free, status_of}
@@ -51,23 +53,36 @@ answer_shows Cause setting arrivals entry moment bytes at (taken target body rep
     not_shown (situations all) e = cc
     not_shown (feed one) e = cc
 
-entry_shows : (Cause : Type 0) (setting : Setting) (arrivals : List Arrival) (entry : Entry) → IsLawful Cause setting arrivals entry → entry.mark ≡ mark.Shown
+entry_shows : (Cause Unkept : Type 0) (is_full : List ℕ → Bool) (setting : Setting) (arrivals : List Arrival) (entry : Entry) → IsLawfulBy Cause Unkept is_full setting arrivals entry → entry.mark ≡ mark.Shown
     → ServesFeed Cause setting arrivals entry ⊎ ServesText Cause setting arrivals entry
-entry_shows Cause setting arrivals entry (no_clock ends at front) shown = absurd cc
-entry_shows Cause setting arrivals entry (lost moment ends at output cause) shown = absurd cc
-entry_shows Cause setting arrivals entry (no_memory moment ends at posted front) shown = absurd cc
-entry_shows Cause setting arrivals entry (unkept moment of body ends at asked would cause front) shown = absurd cause
-entry_shows Cause setting arrivals entry (full moment of body ends at asked would no_room front) shown = absurd cc
-entry_shows Cause setting arrivals entry (answered moment bytes at is fits front) shown = answer_shows Cause setting arrivals entry moment bytes at is front shown
+entry_shows Cause Unkept is_full setting arrivals entry (no_clock ends at front) shown = absurd cc
+entry_shows Cause Unkept is_full setting arrivals entry (lost moment ends at output cause) shown = absurd cc
+entry_shows Cause Unkept is_full setting arrivals entry (no_memory moment ends at posted front) shown = absurd cc
+entry_shows Cause Unkept is_full setting arrivals entry (unkept moment of body ends at asked would cause front) shown = absurd cc
+entry_shows Cause Unkept is_full setting arrivals entry (full moment of body ends at asked would no_room front) shown = absurd cc
+entry_shows Cause Unkept is_full setting arrivals entry (answered moment bytes at is fits front) shown = answer_shows Cause setting arrivals entry moment bytes at is front shown
 
 -- each entry of a lawful log is lawful after what arrived of the entries before it
 log_shows : (Cause : Type 0) (setting : Setting) (before now : List Arrival) (earlier : List Entry) (entry : Entry) (later : List Entry)
     → IsLawfulLog Cause setting before (earlier ++ entry ∷ later) now → entry.mark ≡ mark.Shown
     → (arrivals : List Arrival) × HasArrived setting before earlier arrivals × (ServesFeed Cause setting arrivals entry ⊎ ServesText Cause setting arrivals entry)
-log_shows Cause setting before now [] entry later lawful shown = (before, refl, entry_shows Cause setting before entry lawful.0 shown)
+log_shows Cause setting before now [] entry later lawful shown = (before, refl, entry_shows Cause ⊥ (λ body. false) setting before entry lawful.0 shown)
 log_shows Cause setting before now (one ∷ earlier) entry later (is, after, leaves, more) shown =
     let rest = log_shows Cause setting after now earlier entry later more shown in
     (rest.0, (after, leaves, rest.1), rest.2)
+
+-- the same of a log over what holds a gateway
+pub after_shows : (Cause Unkept : Type 0) (room : Room) (setting : Setting) (before now : Past) (earlier : List Entry) (entry : Entry) (later : List Entry)
+    → IsLogBy (IsLawfulAfter Cause Unkept room setting) (LeavesPast room setting) before (earlier ++ entry ∷ later) now → entry.mark ≡ mark.Shown
+    → Shows Cause setting before.arrivals earlier entry
+after_shows Cause Unkept room setting before now [] entry later lawful shown = record {
+  arrivals = before.arrivals;
+  arrived = refl;
+  served = entry_shows Cause Unkept (λ body. room.is_full before.end (length body)) setting before.arrivals entry lawful.0.1 shown;
+}
+after_shows Cause Unkept room setting before now (one ∷ earlier) entry later (is, after, leaves, more) shown =
+    let rest = after_shows Cause Unkept room setting after now earlier entry later more shown in
+    record { arrivals = rest.arrivals; arrived = (after.arrivals, leaves.arrived, rest.arrived); served = rest.served }
 
 pub shows : (Cause : Type 0) (setting : Setting) (past : List Arrival) (entries : List Entry) (now : List Arrival) → IsLawfulLog Cause setting past entries now
     → (earlier : List Entry) (entry : Entry) (later : List Entry) → entries ≡ earlier ++ entry ∷ later → entry.mark ≡ mark.Shown

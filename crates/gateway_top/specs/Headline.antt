@@ -62,15 +62,18 @@ pub record ShowsAsTold (optional : List Pair) (Cause : Type 0) (words : List (Li
   pub has_setting : IsSetting command.scope (Some command.keep) files setting
   pub shows : Shows Cause setting past earlier entry
 
--- over any connections, after what had arrived before them: the log got entries, and each that is marked Shown shows
--- what it is to
-pub record HeadlineWith (optional : List Pair) (Cause : Type 0) (words : List (List ℕ)) (files : Directory)
-    (past : List Arrival) (told : Connections) (now : Beside) : Type 0 where
+-- over any connections: the log got entries, and each that is marked Shown shows what it is to, after those before it
+pub record HeadlineBy (ShowsThis : List Entry → Entry → Type 0) (told : Connections) (now : Beside) : Type 0 where
   pub entries : List Entry
   pub left : Connections
   pub logged : HasLogged told now entries left
   pub shown : (earlier : List Entry) (entry : Entry) (later : List Entry) → entries ≡ earlier ++ entry ∷ later
-      → entry.mark ≡ mark.Shown → ShowsAsTold optional Cause words files past earlier entry
+      → entry.mark ≡ mark.Shown → ShowsThis earlier entry
+
+-- after what had arrived before them
+abbrev pub HeadlineWith : List Pair → Type 0 → List (List ℕ) → Directory → List Arrival → Connections → Beside → Type 0
+HeadlineWith optional Cause words files past told now =
+    HeadlineBy (ShowsAsTold optional Cause words files past) told now
 
 -- of a server without a journal
 abbrev pub Headline : Type 0 → List (List ℕ) → Directory → List Arrival → Connections → Beside → Type 0
