@@ -1,11 +1,12 @@
 -- Of the feed of the latest records nothing is set aside, and what is passed over are its alerts.
-use Rattle.std.proofs.Common.{◌≡◌, ◌∙◌, ◌++◌, ◌∷◌, ◌+◌, ℕ, List, [], Bool, true, false, map, Result, Ok, Option, Some, None, refl, sym, ap, ap₂, subst, arith}
-use Rattle.std.specs.Prelude.{if◌then◌else◌}
-use Rattle.std.specs.List.{AllByRecursion, count_by, flat_map}
+use Rattle.std.proofs.Common.{◌≡◌, ◌∙◌, ◌++◌, ◌∷◌, ◌+◌, ℕ, List, [], Bool, true, false, map, Result, Ok, Option, Some, None, refl, sym, ap, ap₂, subst}
+use Rattle.std.specs.Prelude.{is_none, if◌then◌else◌}
+use Rattle.std.specs.List.{AllByRecursion, flat_map}
 use Rattle.alert_map.specs.Alerts.{alert_message}
 use Rattle.gw_base.specs.declared.messages.Entity.{Entity}
 use Rattle.gw_base.specs.declared.messages.Feed.{Feed}
-use Rattle.journey_model.specs.FeedReadings.{aside_all, entity_said, fault_said, passed_count}
+use Rattle.journey_model.specs.FeedReadings.{aside_all, entity_said, fault_said}
+use Rattle.journey_model.specs.Ids.{id_of}
 use Rattle.journey_model.specs.Records.{Recorded}
 use Rattle.journey_model.specs.Reports.{aside_from}
 use Rattle.journey_model.specs.Runs.{Run}
@@ -40,40 +41,31 @@ fine_append : (xs ys : List Said) → AllByRecursion IsFine xs → AllByRecursio
 fine_append [] ys before after = after
 fine_append (x ∷ xs) ys before after = (before.0, fine_append xs ys before.1 after)
 
-passed_append : (xs ys : List Said) → passed_count (xs ++ ys) ≡ passed_count xs + passed_count ys
-passed_append [] ys = refl
-passed_append (None ∷ xs) ys = let rest = passed_append xs ys in omega (arith, rest)
-passed_append (Some x ∷ xs) ys = passed_append xs ys
-
-count_append : {X : Type 0} (test : X → Bool) (xs ys : List X) → count_by test (xs ++ ys) ≡ count_by test xs + count_by test ys
-count_append test [] ys = refl
-count_append test (x ∷ xs) ys = by (test x) (count_append test xs ys)
-  where
-    by : (passes : Bool) → count_by test (xs ++ ys) ≡ count_by test xs + count_by test ys
-        → (if passes then count_by test (xs ++ ys) + 1 else count_by test (xs ++ ys)) ≡ (if passes then count_by test xs + 1 else count_by test xs) + count_by test ys
-    by true rest = omega (arith, rest)
-    by false rest = rest
-
 -- ---- journeys: each is given, and none is an alert's
+
+-- a reading, as an entity says it
+abbrev as_said : DatedReading → Said
+as_said reading = Some (Ok reading)
 
 given_fine : (reading : DatedReading) (entities : List Entity) → AllByRecursion IsFine (map (λ (entity : Entity). Some (Ok reading)) entities)
 given_fine reading [] = tt
 given_fine reading (entity ∷ entities) = (refl, given_fine reading entities)
 
-given_passes : (reading : DatedReading) (entities : List Entity) → passed_count (map (λ (entity : Entity). Some (Ok reading)) entities) ≡ 0
-given_passes reading [] = refl
-given_passes reading (entity ∷ entities) = given_passes reading entities
+-- the entity of a record, where it has one, is given, and isn't an alert's
+one_given : (reading : DatedReading) (id : List ℕ) (run : Run) (one : Recorded) (silent : Bool)
+    → map is_none (map (λ (entity : Entity). as_said reading) (if silent then [] else message id run one ∷ []))
+    ≡ map is_alert (if silent then [] else message id run one ∷ [])
+one_given reading id run one true = refl
+one_given reading id run one false = refl
 
-no_alert : (schedule : Schedule) (one : Recorded) → count_by is_alert (messages schedule one) ≡ 0
-no_alert schedule one = by (run_on schedule one.trip one.day)
+own_given : (schedule : Schedule) (reading : DatedReading) (one : Recorded)
+    → map is_none (map (λ (entity : Entity). as_said reading) (messages schedule one)) ≡ map is_alert (messages schedule one)
+own_given schedule reading one = by (run_on schedule one.trip one.day)
   where
-    by : (run : Option Run) → count_by is_alert (messages_on schedule one run) ≡ 0
+    by : (run : Option Run)
+        → map is_none (map (λ (entity : Entity). as_said reading) (messages_on schedule one run)) ≡ map is_alert (messages_on schedule one run)
     by None = refl
-    by (Some run) = on (is_silent one.reading)
-      where
-        on : (silent : Bool) → count_by is_alert (if silent then [] else message _ run one ∷ []) ≡ 0
-        on true = refl
-        on false = refl
+    by (Some run) = one_given reading (id_of schedule.table.trips one.trip) run one (is_silent one.reading)
 
 journeys_fine : (schedule : Schedule) (feed : Feed) (records : List Recorded) → AllByRecursion (SaysItself schedule) records
     → AllByRecursion IsFine (map (entity_said schedule feed) (flat_map (messages schedule) records))
@@ -87,16 +79,15 @@ journeys_fine schedule feed (one ∷ others) says =
     (journeys_fine schedule feed others says.1))
 
 journeys_pass : (schedule : Schedule) (feed : Feed) (records : List Recorded) → AllByRecursion (SaysItself schedule) records
-    → passed_count (map (entity_said schedule feed) (flat_map (messages schedule) records)) ≡ count_by is_alert (flat_map (messages schedule) records)
+    → map is_none (map (entity_said schedule feed) (flat_map (messages schedule) records)) ≡ map is_alert (flat_map (messages schedule) records)
 journeys_pass schedule feed [] says = refl
 journeys_pass schedule feed (one ∷ others) says =
     let own = messages schedule one in
     let rest = flat_map (messages schedule) others in
-    ap passed_count (map_append (entity_said schedule feed) own rest)
-    ∙ passed_append (map (entity_said schedule feed) own) (map (entity_said schedule feed) rest)
-    ∙ ap₂ ◌+◌ (ap passed_count (says.0 feed) ∙ given_passes (dated_reading one) own ∙ sym (no_alert schedule one))
-    (journeys_pass schedule feed others says.1)
-    ∙ sym (count_append is_alert own rest)
+    ap (map is_none) (map_append (entity_said schedule feed) own rest)
+    ∙ map_append is_none (map (entity_said schedule feed) own) (map (entity_said schedule feed) rest)
+    ∙ ap₂ ◌++◌ (ap (map is_none) (says.0 feed) ∙ own_given schedule (dated_reading one) one) (journeys_pass schedule feed others says.1)
+    ∙ sym (map_append is_alert own rest)
 
 -- ---- alerts: each is passed over
 
@@ -111,14 +102,14 @@ alerts_fine schedule feed (one ∷ others) = by one.served (alerts_fine schedule
     by false rest = rest
 
 alerts_pass : (schedule : Schedule) (feed : Feed) (situations : List Situation)
-    → passed_count (map (entity_said schedule feed) (flat_map (alerts schedule.table) situations)) ≡ count_by is_alert (flat_map (alerts schedule.table) situations)
+    → map is_none (map (entity_said schedule feed) (flat_map (alerts schedule.table) situations)) ≡ map is_alert (flat_map (alerts schedule.table) situations)
 alerts_pass schedule feed [] = refl
 alerts_pass schedule feed (one ∷ others) = by one.served (alerts_pass schedule feed others)
   where
-    by : (served : Bool) → passed_count (map (entity_said schedule feed) (flat_map (alerts schedule.table) others)) ≡ count_by is_alert (flat_map (alerts schedule.table) others)
-        → passed_count (map (entity_said schedule feed) ((if served then alert_message schedule.table one ∷ [] else []) ++ flat_map (alerts schedule.table) others))
-        ≡ count_by is_alert ((if served then alert_message schedule.table one ∷ [] else []) ++ flat_map (alerts schedule.table) others)
-    by true rest = ap (λ (n : ℕ). n + 1) rest
+    by : (served : Bool) → map is_none (map (entity_said schedule feed) (flat_map (alerts schedule.table) others)) ≡ map is_alert (flat_map (alerts schedule.table) others)
+        → map is_none (map (entity_said schedule feed) ((if served then alert_message schedule.table one ∷ [] else []) ++ flat_map (alerts schedule.table) others))
+        ≡ map is_alert ((if served then alert_message schedule.table one ∷ [] else []) ++ flat_map (alerts schedule.table) others)
+    by true rest = ap (λ (others : List Bool). true ∷ others) rest
     by false rest = rest
 
 -- ---- the feed
@@ -134,11 +125,11 @@ nothing_aside schedule feed records situations says =
     (journeys_fine schedule feed records says) (alerts_fine schedule feed situations)))
 
 pub alerts_passed : (schedule : Schedule) (feed : Feed) (records : List Recorded) (situations : List Situation) → AllByRecursion (SaysItself schedule) records
-    → passed_count (map (entity_said schedule feed) (entities_of schedule records situations)) ≡ count_by is_alert (entities_of schedule records situations)
+    → map is_none (map (entity_said schedule feed) (entities_of schedule records situations)) ≡ map is_alert (entities_of schedule records situations)
 alerts_passed schedule feed records situations says =
     let journeys = flat_map (messages schedule) records in
     let after = flat_map (alerts schedule.table) situations in
-    ap passed_count (map_append (entity_said schedule feed) journeys after)
-    ∙ passed_append (map (entity_said schedule feed) journeys) (map (entity_said schedule feed) after)
-    ∙ ap₂ ◌+◌ (journeys_pass schedule feed records says) (alerts_pass schedule feed situations)
-    ∙ sym (count_append is_alert journeys after)
+    ap (map is_none) (map_append (entity_said schedule feed) journeys after)
+    ∙ map_append is_none (map (entity_said schedule feed) journeys) (map (entity_said schedule feed) after)
+    ∙ ap₂ ◌++◌ (journeys_pass schedule feed records says) (alerts_pass schedule feed situations)
+    ∙ sym (map_append is_alert journeys after)

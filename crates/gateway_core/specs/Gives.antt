@@ -1,10 +1,9 @@
 -- What a feed gives, in the words of the two standards (SIRI 2.0, EstimatedVehicleJourney; GTFS Realtime 2.0,
 -- FeedMessage).
-use Rattle.std.specs.Prelude.{◌≡◌, ℕ, ℤ, Bool, List, [], Option, is_some, option_map}
-use Rattle.std.specs.List.{count_by}
+use Rattle.std.specs.Prelude.{◌≡◌, ℕ, ℤ, Bool, List, [], Option, is_none, is_some, map, option_map}
 use Rattle.gw_base.specs.declared.messages.Entity.{Entity}
 use Rattle.feed_reading.specs.Tables.{MeansFeed, full_dataset}
-use Rattle.journey_model.specs.FeedReadings.{aside_all, nothing_known, or_nothing, passed_count, readings, reads}
+use Rattle.journey_model.specs.FeedReadings.{aside_all, nothing_known, or_nothing, readings, reads}
 use Rattle.journey_model.specs.Records.{Recorded}
 use Rattle.journey_model.specs.Schedules.{Schedule}
 use Rattle.latest_store.specs.Latest.{HasLatest}
@@ -22,10 +21,10 @@ abbrev pub is_alert : Entity → Bool
 is_alert entity = is_some entity.alert
 
 -- bytes mean a full dataset, made at that moment, that gives each trip on each day just this; nothing of it is set
--- aside, and what is passed over are its alerts
+-- aside, and the entities that are passed over are just its alerts
 pub record GivesEach (at : ℤ) (schedule : Schedule) (records : List Recorded) (feed : List ℕ) : Type 0 where
   pub entities : List Entity
   pub means : MeansFeed feed (full_dataset at entities)
   pub gives : (trip : ℕ) (day : ℤ) → GivesLatest schedule at entities records trip day
   pub aside : aside_all (readings schedule (full_dataset at entities)) ≡ []
-  pub passed : passed_count (readings schedule (full_dataset at entities)) ≡ count_by is_alert entities
+  pub passed : map is_none (readings schedule (full_dataset at entities)) ≡ map is_alert entities
