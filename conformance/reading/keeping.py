@@ -12,7 +12,7 @@ from .files import NotReadable
 from .journal import EMPTY, Kept, Replay, appended, end_of, is_full, kept, opened, size_of
 from .outcome import Outcome, ended
 from .requests import Refused, read_request
-from .server import TAKES, Entry, Setting, State, answered, clock_failed, entry_of, refusal, started
+from .server import TAKES, Entry, Setting, State, answered, clock_failed, entry_of, refusal, served, started
 
 
 class Disk:
@@ -74,11 +74,14 @@ def kept_answered(setting, keeping, disk, moment, data):
 
 
 def keeping_run(raw_words, files, clock, inputs, disk):
-    """The run of a server's words with their journal, as `server_run`; where an append fails, the run ends with it."""
+    """The run of a server's words, which may have a journal, as `server_run`; where an append fails, the run ends with it.
+    Without a journal the disk isn't called."""
     log = []
 
     def serve():
         setting = Setting(raw_words, files, keeps=True)
+        if setting.journal is None:
+            return served(setting, clock, inputs, log)
         keeping = reopened(setting, disk.open())
         for data in inputs[: setting.connections]:
             entry, keeping = kept_answered(setting, keeping, disk, clock(), data)

@@ -42,6 +42,7 @@ class Setting:
         self.table = read_folder(files, work.gtfs)
         self.zone = read_zone(work, files)
         self.first, self.days, self.keep, self.connections = work.first, work.days, work.keep, work.connections
+        self.journal = work.journal
 
     def context(self, first):
         return Context(self.table, self.zone, [first + timedelta(days=n) for n in range(self.days)])
@@ -102,15 +103,16 @@ def server_run(raw_words, files, clock, inputs):
     where it fails, at each call."""
     log = []
 
-    def serve():
-        setting = Setting(raw_words, files)
-        state = started(setting)
-        for data in inputs[: setting.connections]:
-            entry, state = logged(setting, state, clock(), data)
-            log.append(entry)
-        return Outcome(0)
+    return ended(lambda: served(Setting(raw_words, files), clock, inputs, log)), log
 
-    return ended(serve), log
+
+def served(setting, clock, inputs, log):
+    """How a server without a journal ends, whose connections have these inputs; their entries are added to the log."""
+    state = started(setting)
+    for data in inputs[: setting.connections]:
+        entry, state = logged(setting, state, clock(), data)
+        log.append(entry)
+    return Outcome(0)
 
 
 def logged(setting, state, moment, data):

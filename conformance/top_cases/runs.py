@@ -3,9 +3,9 @@
 from dataclasses import dataclass, field
 
 from reading.files import CaseFiles, NotReadable
+from reading.keeping import Disk, keeping_run
 from reading.moments import moment_text, read_utc
 from reading.outcome import outcome
-from reading.server import server_run
 
 from .content import MARKS, content_of, first_word, shown, shown_answer
 
@@ -41,6 +41,7 @@ class Given:
     rooms: dict = field(default_factory=dict)
     rounds: list = field(default_factory=list)
     kept: bytes = b""
+    journal: bytes = b""
     runs: int = 0
 
 
@@ -50,7 +51,7 @@ class Cases:
     def __init__(self):
         self.common, self.pieces, self.shown = {}, {}, {}
         self.given, self.case, self.moment = Given(), None, 0
-        self.target, self.content = None, b""
+        self.target, self.content, self.left_on_disk = None, b"", b""
 
     def take(self, text):
         self.case = None
@@ -92,6 +93,8 @@ class Cases:
             (self.common if self.case is None else self.given.own)[name] = content
         elif kind == "piece":
             self.pieces[name] = content
+        elif kind == "disk":
+            self.given.journal = content
         elif kind == "post":
             self.add_input(f"POST {name} HTTP/1.1\r\nContent-Length: {len(content)}\r\n\r\n".encode() + content)
         else:
@@ -120,6 +123,9 @@ class Cases:
 
     def take_input(self, _):
         self.target = "input", ""
+
+    def take_disk(self, _):
+        self.target = "disk", ""
 
     def take_get(self, path):
         self.add_input(f"GET {path} HTTP/1.1\r\n\r\n".encode())
@@ -175,6 +181,7 @@ class Cases:
             lines += self.rounds_shown()
         else:
             lines += self.run_shown(0)
+            given.journal = self.left_on_disk
         given.words = []
 
     def rounds_shown(self):
@@ -191,11 +198,14 @@ class Cases:
     def run_shown(self, number):
         given = self.given
         files = {name: data for name, data in (self.common | given.own).items() if name not in given.without}
+        disk = Disk(given.journal)
         if b"serve" in given.words[:1]:
             clock = clock_of(given.moments, self.fails_of("clock", number))
-            left, log = server_run(given.words, Files(files, self.fails_of("files", number)), clock, given.inputs)
+            left, log = keeping_run(given.words, Files(files, self.fails_of("files", number)), clock, given.inputs, disk)
         else:
             left, log = outcome(given.words, Files(files, self.fails_of("files", number))), []
+        if self.fails_of("disk", number) and b"--journal" in given.words:
+            raise NotCovered
         if self.fails_of("door", number) or self.may_fail("out", left.out, number) or self.may_fail("err", left.err, number):
             raise NotCovered
         given.kept = left.out
@@ -205,6 +215,9 @@ class Cases:
         for place, entry in enumerate(log, 1):
             at = "" if entry.moment is None else f" at {moment_text(entry.moment)}"
             lines += [f"connection {place} {entry.mark}{at}", *shown_answer(entry.answer)]
+        if disk.data != given.journal:
+            lines += ["disk", *shown(disk.data)]
+        self.left_on_disk = disk.data
         return lines
 
     def may_fail(self, device, data, number):

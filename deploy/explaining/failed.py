@@ -1,10 +1,13 @@
 """`gateway: failed` (74): which file or address it is. It looks."""
 
 import contextlib
+import fcntl
 import os
 import re
 import shutil
 import socket
+
+from reading.journal import kept
 
 LEAST_ROOM = 1 << 20
 
@@ -80,6 +83,33 @@ def sockets_of(process):
     except OSError:
         pass
     return found
+
+
+def journal_fails(path):
+    """Why a journal can't be opened, or None. Nothing is made or written."""
+    folder = os.path.dirname(path) or "."
+    if not os.path.isdir(folder):
+        return f"the folder {folder} isn't there"
+    if not os.path.lexists(path):
+        return None if os.access(folder, os.W_OK | os.X_OK) else f"this user may not make a file in {folder}"
+    if not os.path.isfile(path):
+        return "it is no file"
+    if not os.access(path, os.R_OK | os.W_OK):
+        return "this user may not read and write it"
+    with open(path, "rb") as file:
+        try:
+            fcntl.flock(file, fcntl.LOCK_EX | fcntl.LOCK_NB)
+        except OSError:
+            return "another server has it"
+    return None
+
+
+def journal_of(path):
+    """The bodies that it holds; one that isn't there holds none."""
+    if not os.path.exists(path):
+        return []
+    with open(path, "rb") as file:
+        return kept(file.read())
 
 
 def output_lines():

@@ -36,11 +36,11 @@ COMMANDS = {
     "make": [("--seed",), SEED, ("--trips",), TRIPS, ("--stops",), STOPS],
 }
 # Pairs that may follow, once and in this order; and such as may follow any number of times.
-ONCE = {}
+ONCE = {"serve": [("--journal",), FILE]}
 FURTHER = {"to-gtfsrt": [("--et", "--sx"), FILE]}
 ALONE = ("--help", "--version")
 USAGE = {
-    "serve": "--gtfs DIR ZONE --from DAY --days N --keep K --listen ADDRESS --connections C",
+    "serve": "--gtfs DIR ZONE --from DAY --days N --keep K --listen ADDRESS --connections C [--journal FILE]",
     "to-gtfsrt": "--gtfs DIR ZONE --from DAY --days N --at MOMENT [--et FILE | --sx FILE]...",
     "to-siri": "--gtfs DIR ZONE --from DAY --days N --at MOMENT --feed FILE",
     "to-siri-sx": "--gtfs DIR ZONE --from DAY --days N --at MOMENT --feed FILE",
@@ -64,7 +64,7 @@ def wanted_at(words, place):
 def bad_place(raw):
     """The place of the first word that can't stand where it does, or None."""
     try:
-        read_words(raw)
+        read_words(raw, keeps=True)
     except BadWord as bad:
         return bad.at
     return None

@@ -6,6 +6,7 @@ import sys
 from reading import folder as folder_reading
 from reading.files import NotReadable, TooLong
 from reading.folder import FileMissing, FolderFault, read_folder
+from reading.journal import JournalFault
 from reading.outcome import MOST_BODY_BYTES, MOST_ZONE_BYTES, read_zone
 from reading.outcome import FurtherFault as LongFile
 from reading.readings import Context
@@ -15,7 +16,7 @@ from reading.zones import ZoneRefused
 from . import bodies, checking, failed, folders, grammar, seen, telling
 from .disk import DiskFiles
 from .placed import use_places
-from .rules import BODY, FOLDER
+from .rules import BODY, FOLDER, JOURNAL
 from .words import KNOWN_USE, Use, read_own, schedule_of
 
 USAGE = """\
@@ -87,7 +88,7 @@ def tell_usage(said, _):
 def tell_command(said, use):
     """What the gateway says to words."""
     try:
-        work = read_words([os.fsencode(word) for word in use.words])
+        work = read_words([os.fsencode(word) for word in use.words], keeps=True)
     except BadWord as bad:
         if use.words in (["--help"], ["--version"]):
             said.tell(f"{use.words[0]} is answered by the program itself, with status 0")
@@ -191,6 +192,9 @@ def tell_body(said, work, files, context, kind, path, kept):
 
 
 def tell_serve(said, work):
+    status = WELL if work.journal is None else tell_journal(said, work.journal)
+    if status != WELL:
+        return status
     why = failed.address_fails(work.listen)
     if why is None:
         said.tell(f"--listen {work.listen}: the address is free now")
@@ -198,6 +202,23 @@ def tell_serve(said, work):
     said.tell("gateway: failed (status 74)")
     said.tell(f"--listen {work.listen}: {why}", 1)
     return FAILS
+
+
+def tell_journal(said, path):
+    """What a server says of its journal before it serves, but for a body that it would refuse."""
+    why = failed.journal_fails(path)
+    if why is not None:
+        said.tell("gateway: failed (status 74)")
+        said.tell(f"--journal {path}: {why}", 1)
+        return FAILS
+    try:
+        held = len(failed.journal_of(path))
+    except JournalFault as fault:
+        said.tell(f"gateway: {fault} (status 65)")
+        said.tell(f"--journal {path}: {JOURNAL[str(fault).split()[0]]}", 1)
+        return REFUSED
+    said.tell(f"--journal {path}: it holds {held} {'body' if held == 1 else 'bodies'}")
+    return WELL
 
 
 def tell_report(said, use):

@@ -63,6 +63,11 @@ COLUMN = {
     "any": "any text",
 }
 
+JOURNAL = {
+    "NotJournal": "it has 10 bytes or more, and doesn't begin as a journal does: name another file",
+    "Damaged": "from that byte on it isn't what was written: see the disk; deploy/journal bodies gives what stands before it",
+}
+
 HTTP = {
     "Cut": "The sender ended before as many bytes as its Content-Length says: see why it stopped, and post again.",
     "Length": "Content-Length isn't a number, or stands there twice with different ones.",
@@ -75,4 +80,5 @@ HTTP = {
     "Clock": "The machine's clock is outside the years that the gateway serves: set it.",
     "Memory": "The gateway had no memory for this body: post it again.",
     "Journal": "The journal's disk failed: see the disk.",
+    "JournalFull": "The journal has no more room: make a shorter one of it, by deploy/journal trim.",
 }

@@ -6,6 +6,7 @@ use std::env::{Env, FillError};
 /// What `--help` prints. The launcher shows it from here before the program is proved.
 pub const USAGE: &str = "\
 usage: gateway serve      SCHEDULE --keep K --listen ADDRESS --connections C
+                          [--journal F]
        gateway to-gtfsrt  SCHEDULE --at MOMENT [--et FILE | --sx FILE]...
        gateway to-siri    SCHEDULE --at MOMENT --feed FILE
        gateway to-siri-sx SCHEDULE --at MOMENT --feed FILE
@@ -23,6 +24,7 @@ DAY       YYYY-MM-DD; of serve, any day that is over
 K         how many past days the window keeps, below N and at most 31
 ADDRESS   where connections are taken, such as 127.0.0.1:8080
 C         how many connections are served, from 1 to 4294967295
+F         a file that keeps each accepted body, so that a start goes on from them
 MOMENT    the moment of the result, in UTC: YYYY-MM-DDThh:mm:ssZ
 FILE      a delivery in JSON (--et, --sx), or a feed in protobuf (--feed)
 X, T, S   the numbers of a sample: a seed, from 0 to 2147483647, how many trips,

@@ -1,6 +1,7 @@
 //! The program `gateway`: deliveries of SIRI 2.0 over one GTFS Schedule folder become a GTFS Realtime 2.0
-//! feed, and a feed becomes a delivery or lines; a server takes both and answers both; and a sample that is made
-//! shows on any machine that it works. `main` hands the real words and devices to the top call.
+//! feed, and a feed becomes a delivery or lines; a server takes both and answers both, and may keep what it took in a
+//! journal; and a sample that is made shows on any machine that it works. `main` hands the real words and devices to
+//! the top call.
 #![tactic(auto)]
 
 ghost use Rattle.std.specs.Prelude.{◌≡◌, false};
@@ -8,7 +9,9 @@ ghost use Rattle.std.specs.Prelude.{◌≡◌, false};
 mod command_line;
 
 use command_line::{USAGE, words_of};
-use gateway_top::{DirFiles, StdSink, address, gateway, no_memory, print};
+use delivery_journal::Disk;
+use file_disk::FileDisk;
+use gateway_top::{DirFiles, StdSink, address, gateway_kept, journal, no_memory, print};
 use gw_base::{Clock, Door, Files, Sink, Text};
 use std::alloc::Global;
 use std::process::ExitCode;
@@ -17,7 +20,7 @@ use tcp_door::{Limits, SystemClock, TcpDoor};
 const VERSION: &str = concat!("gateway ", "0.1.0", "\n");
 
 // The status of the top call. `main` needs none of its clauses, which make a proof long.
-fn status_of<F: Files, D: Door, C: Clock, S: Sink, E: Sink>(
+fn status_of<F: Files, D: Door, C: Clock, S: Sink, E: Sink, K: Disk>(
     alloc: Global,
     words: &[Text],
     files: &mut F,
@@ -25,10 +28,11 @@ fn status_of<F: Files, D: Door, C: Clock, S: Sink, E: Sink>(
     clock: &mut C,
     out: &mut S,
     err: &mut E,
+    disk: &mut K,
 ) -> u8
     requires { (D.beside door.old).present ≡ false }
 {
-    gateway(alloc, words, files, door, clock, out, err)
+    gateway_kept(alloc, words, files, door, clock, out, err, disk)
 }
 
 fn main(rt: HostRuntime) -> ExitCode {
@@ -47,6 +51,7 @@ fn main(rt: HostRuntime) -> ExitCode {
                 &mut SystemClock::new(&rt),
                 &mut out,
                 &mut err,
+                &mut FileDisk::new(&rt, journal(words).unwrap_or("")),
             ),
         },
         Err(_) => no_memory(&mut err),

@@ -2,6 +2,7 @@
 ghost use Rattle.std.specs.Prelude.{◌≡◌, ◌≤◌, false, IfOk};
 
 use crate::pieces::{Named, bytes_of};
+use delivery_journal::MemoryDisk;
 use gw_base::{Bytes, List, MemoryClock, MemoryDoor, MemoryFiles, MemorySink, Moment, Text};
 use std::alloc::{AllocError, Global};
 
@@ -13,6 +14,7 @@ pub enum Device {
     Err,
     Door,
     Clock,
+    Disk,
 }
 
 /// The device of that name.
@@ -23,6 +25,7 @@ pub fn device_of(name: &str) -> Option<Device> {
         "err" => Some(Device::Err),
         "door" => Some(Device::Door),
         "clock" => Some(Device::Clock),
+        "disk" => Some(Device::Disk),
         _ => None,
     }
 }
@@ -80,6 +83,8 @@ pub struct Given {
     /// The connections' inputs, and the moments of the clock.
     pub inputs: List<Bytes>,
     pub moments: List<Moment>,
+    /// The journal's file before the next run.
+    pub journal: Bytes,
     /// The calls that fail, each of a device.
     pub fails: List<(Device, Number)>,
     /// How many bytes standard output, standard error and each connection have room for.
@@ -98,6 +103,11 @@ const ROOM: Number = Number::Of(100_000);
 
 const ONCE: Number = Number::Of(65_536);
 
+// How many bytes are written to the disk at most, and how many calls it has.
+const DISK_ROOM: u32 = 1_000_000;
+
+const DISK_CALLS: u32 = 10_000;
+
 impl Given {
     /// Nothing yet.
     pub fn new(alloc: Global) -> Given {
@@ -108,6 +118,7 @@ impl Given {
             without: List::new(alloc),
             inputs: List::new(alloc),
             moments: List::new(alloc),
+            journal: Bytes::new(alloc),
             fails: List::new(alloc),
             out_room: ROOM,
             err_room: ROOM,
@@ -125,6 +136,7 @@ impl Given {
         self.without.clear();
         self.inputs.clear();
         self.moments.clear();
+        self.journal.clear();
         self.fails.clear();
         self.out_room = ROOM;
         self.err_room = ROOM;
@@ -211,6 +223,12 @@ impl Given {
             moments.push(*moment)?;
         }
         Ok(MemoryClock::make(moments, self.fails_of(alloc, Device::Clock, round)?))
+    }
+
+    /// The journal's disk in a round.
+    pub fn disk(&self, alloc: Global, round: u64) -> Result<MemoryDisk, AllocError> {
+        let fails = self.fails_of(alloc, Device::Disk, round)?;
+        MemoryDisk::make(alloc, self.journal.as_slice(), DISK_ROOM, DISK_CALLS, fails)
     }
 
     /// The door in a round, to which no connection came yet. It reads and writes at least a byte at a time.

@@ -15,6 +15,7 @@ enum Target {
     Piece(Text),
     Input,
     Post(Text),
+    Disk,
 }
 
 /// What was read so far, and the lines of the transcript.
@@ -100,6 +101,7 @@ impl Cases {
             "file" => self.aim(Target::File(Text::copied(alloc, rest)?)),
             "piece" => self.aim(Target::Piece(Text::copied(alloc, rest)?)),
             "input" => self.aim(Target::Input),
+            "disk" => self.aim(Target::Disk),
             "post" => self.aim(Target::Post(Text::copied(alloc, rest)?)),
             "get" => self.get(alloc, rest),
             _ => self.take_setting(alloc, word, rest),
@@ -150,6 +152,10 @@ impl Cases {
             Target::Piece(name) => Ok(self.pieces.push((name, content))?),
             Target::Input => self.add_input(content),
             Target::Post(path) => self.post(alloc, &path, &content),
+            Target::Disk => {
+                self.given.journal = content;
+                Ok(())
+            }
         }
     }
 
@@ -273,8 +279,10 @@ impl Cases {
         let line = format!(in alloc; "run {}\n", self.run)?;
         self.shown.push_str(line.as_str())?;
         if self.given.rounds.is_empty() {
-            let left = self.run_once(alloc, 0)?;
-            self.shown.push_str(left.as_str())?;
+            let left = run(alloc, &self.given, 0)?;
+            self.last = left.out;
+            self.given.journal = left.disk;
+            self.shown.push_str(left.lines.as_str())?;
         } else {
             self.run_rounds(alloc)?;
         }

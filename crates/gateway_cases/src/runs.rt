@@ -3,7 +3,8 @@ ghost use Rattle.std.specs.Prelude.{◌≡◌, false};
 
 use crate::given::{Device, Given};
 use crate::printing::{add_answer, add_bytes};
-use gateway_top::gateway;
+use delivery_journal::{Disk, MemoryDisk};
+use gateway_top::gateway_kept;
 use gw_base::{
     Bytes, Clock, Door, Entry, Files, Mark, MemoryClock, MemoryDoor, MemoryFiles, Moment, Sink,
     Text,
@@ -12,7 +13,7 @@ use service_day::write_moment;
 use std::alloc::{AllocError, Global};
 
 // The top call over any devices. Neither its clauses nor what devices in memory do are in a caller's goals.
-fn call<F: Files, D: Door, C: Clock, S: Sink, E: Sink>(
+fn call<F: Files, D: Door, C: Clock, S: Sink, E: Sink, K: Disk>(
     alloc: Global,
     words: &[Text],
     files: &mut F,
@@ -20,16 +21,18 @@ fn call<F: Files, D: Door, C: Clock, S: Sink, E: Sink>(
     clock: &mut C,
     out: &mut S,
     err: &mut E,
+    disk: &mut K,
 ) -> u8
     requires { (D.beside door.old).present ≡ false }
 {
-    gateway(alloc, words, files, door, clock, out, err)
+    gateway_kept(alloc, words, files, door, clock, out, err, disk)
 }
 
-/// What a run left: the bytes of standard output, and the lines of all that it left.
+/// What a run left: the bytes of standard output, the journal's file, and the lines of all that it left.
 #[derive(Drop)]
 pub struct Left {
     pub out: Bytes,
+    pub disk: Bytes,
     pub lines: String,
 }
 
@@ -56,11 +59,28 @@ fn run_at(
     files: &mut MemoryFiles,
     clock: &mut MemoryClock,
 ) -> Result<Left, AllocError> {
-    let mut door = given.door(alloc, round)?;
+    let mut disk = given.disk(alloc, round)?;
     let mut lines = String::new(alloc);
-    let out = run_door(alloc, given, round, files, clock, &mut door, &mut lines)?;
-    add_entries(alloc, given.inputs.as_slice(), door.log(), &mut lines)?;
-    Ok(Left { out, lines })
+    let out = run_kept(alloc, given, round, files, clock, &mut disk, &mut lines)?;
+    add_disk(alloc, given.journal.as_slice(), disk.file(), &mut lines)?;
+    let disk = Bytes::copied(alloc, disk.file())?;
+    Ok(Left { out, disk, lines })
+}
+
+// Answers what standard output got, and adds the lines of all but the disk.
+fn run_kept(
+    alloc: Global,
+    given: &Given,
+    round: u64,
+    files: &mut MemoryFiles,
+    clock: &mut MemoryClock,
+    disk: &mut MemoryDisk,
+    lines: &mut String,
+) -> Result<Bytes, AllocError> {
+    let mut door = given.door(alloc, round)?;
+    let out = run_door(alloc, given, round, files, clock, disk, &mut door, lines)?;
+    add_entries(alloc, given.inputs.as_slice(), door.log(), lines)?;
+    Ok(out)
 }
 
 // Answers what standard output got, and adds the lines of the status and of both outputs.
@@ -70,6 +90,7 @@ fn run_door(
     round: u64,
     files: &mut MemoryFiles,
     clock: &mut MemoryClock,
+    disk: &mut MemoryDisk,
     door: &mut MemoryDoor,
     lines: &mut String,
 ) -> Result<Bytes, AllocError>
@@ -78,7 +99,7 @@ fn run_door(
     let mut out = given.out(alloc, round)?;
     let mut err = given.err(alloc, round)?;
     let words = given.words.as_slice();
-    let status = call(alloc, words, files, door, clock, &mut out, &mut err);
+    let status = call(alloc, words, files, door, clock, &mut out, &mut err, disk);
     add_status(alloc, status, lines)?;
     add_output(alloc, given, Device::Out, out.written(), lines)?;
     add_output(alloc, given, Device::Err, err.written(), lines)?;
@@ -108,6 +129,20 @@ fn add_output(
     }
     into.push_str("\n")?;
     add_bytes(alloc, got, into)
+}
+
+// Adds the journal's file, if it isn't what it was.
+fn add_disk(
+    alloc: Global,
+    before: &[u8],
+    now: &[u8],
+    into: &mut String,
+) -> Result<(), AllocError> {
+    if now == before {
+        return Ok(());
+    }
+    into.push_str("disk\n")?;
+    add_bytes(alloc, now, into)
 }
 
 // Adds the entries of the log, to which these inputs belong.

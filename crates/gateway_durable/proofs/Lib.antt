@@ -1,6 +1,6 @@
 mod AgainLemmas
-mod DiskLemmas
-mod FoundLemmas
+pub mod DiskLemmas
+pub mod FoundLemmas
 mod ReopenLemmas
 mod ReplayLemmas
 mod ReplayRows

@@ -123,7 +123,7 @@ log_more {T} Lawful LeavesThis before (first ∷ later) (one ∷ causes) mid ent
     (law, after, left, log_more Lawful LeavesThis after later causes mid entry cause now rest lawful leaves)
 
 -- a cause of keeping may be a wider one in all entries
-caused_wider : (U V : Type 0) (room : Room) (setting : Setting) (before : Past) (entries : List Entry) (causes : List Bool) (now : Past) → (U → V)
+pub caused_wider : (U V : Type 0) (room : Room) (setting : Setting) (before : Past) (entries : List Entry) (causes : List Bool) (now : Past) → (U → V)
     → IsCausedLogBy (λ (P : Type 0). IsLawfulAfter P U room setting) (LeavesPast room setting) before entries causes now
     → IsCausedLogBy (λ (P : Type 0). IsLawfulAfter P V room setting) (LeavesPast room setting) before entries causes now
 caused_wider U V room setting before [] [] now also is = is

@@ -73,6 +73,15 @@ kept_not_taken held now why ends is left sound = ap is_unkept is ∙ by why left
     by not_taken.Unkept left = absurd (true≢false (sym sound ∙ left.1))
     by not_taken.Full left = refl
 
+-- more can be taken, unless the count of faults rose
+pub failed_so : (held now : Held) (why : NotTaken) (Risen : Type 0) → held.is_sound ≡ true → IsLeft held (Err why) now → (IsUnkept (Err why) → Risen) → now.is_sound ≡ false → Risen
+failed_so held now why Risen sound left cause is = by why left cause
+  where
+    by : (why : NotTaken) → IsLeft held (Err why) now → (IsUnkept (Err why) → Risen) → Risen
+    by (not_taken.Refused why) left cause = absurd (true≢false (sym sound ∙ ap (λ (h : Held). h.is_sound) (sym left) ∙ is))
+    by not_taken.Unkept left cause = cause tt
+    by not_taken.Full left cause = absurd (true≢false (sym sound ∙ ap (λ (h : Held). h.is_sound) (sym left) ∙ is))
+
 -- ---- a connection
 
 are_where : (is_one : Mark → Bool) (entry : Entry) (one : KeptBody) → IsPostedIn entry one → (b : Bool) → is_one entry.mark ≡ b

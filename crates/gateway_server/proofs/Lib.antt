@@ -1,9 +1,9 @@
-mod CauseLemmas
+pub mod CauseLemmas
 pub mod CompletenessLemmas
 mod CrashLemmas
 mod DurableLemmas
 mod EndLemmas
-mod LoopLemmas
+pub mod LoopLemmas
 mod PutLemmas
 mod RoomLeft
 mod TakeLemmas

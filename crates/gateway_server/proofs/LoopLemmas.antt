@@ -20,7 +20,7 @@ use Rattle.gateway_server.specs.Serving.{AsksClock, CountsCauses, CountsCausesAf
 use Rattle.gateway_server.proofs.EndLemmas.{after_wider, lawful_wider}
 
 -- the causes may be wider ones
-log_wider : (P Q U V : Type 0) (room : Room) (setting : Setting) (before : Past) (entries : List Entry) (now : Past) → (P → Q) → (U → V)
+pub log_wider : (P Q U V : Type 0) (room : Room) (setting : Setting) (before : Past) (entries : List Entry) (now : Past) → (P → Q) → (U → V)
     → IsLogBy (IsLawfulAfter P U room setting) (LeavesPast room setting) before entries now → IsLogBy (IsLawfulAfter Q V room setting) (LeavesPast room setting) before entries now
 log_wider P Q U V room setting before [] now wider also is = is
 log_wider P Q U V room setting before (entry ∷ later) now wider also (lawful, after, leaves, rest) =

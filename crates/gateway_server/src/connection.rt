@@ -127,6 +127,7 @@ fn take<K, H: HoldsGateway<K>, S: Sink>(
     ensures small { H.Body.taken posted.new ≤ H.Body.taken posted.old }
     ensures ready { (H.held host.new).is_sound ≡ true → H.is_ready host.new beside.new }
     ensures keeping { H.faults beside.old ≤ H.faults beside.new }
+    ensures failed { (H.held host.new).is_sound ≡ false → Rose (H.faults beside.old) (H.faults beside.new) }
     ensures counts { S.faults sink.old ≤ S.faults sink.new }
     ensures others { S.beside sink.new ≡ S.beside sink.old }
 {
@@ -167,6 +168,7 @@ fn answer<K, H: HoldsGateway<K>, D: Door>(
     ensures setting { (H.held host.new).gate.setting ≡ (H.held host.old).gate.setting }
     ensures ready { (H.held host.new).is_sound ≡ true → H.is_ready host.new beside.new }
     ensures keeping { H.faults beside.old ≤ H.faults beside.new }
+    ensures failed { (H.held host.new).is_sound ≡ false → Rose (H.faults beside.old) (H.faults beside.new) }
     ensures counts { D.faults door.old ≤ D.faults door.new }
 {
     match read_request(alloc, reader, host.gateway(), moment, posted, door) {
@@ -219,6 +221,7 @@ pub fn serve_one_with<K, H: HoldsGateway<K>, D: Door, C: Clock>(
     ensures setting { (H.held host.new).gate.setting ≡ (H.held host.old).gate.setting }
     ensures ready { (H.held host.new).is_sound ≡ true → H.is_ready host.new beside.new }
     ensures keeping { H.faults beside.old ≤ H.faults beside.new }
+    ensures failed { (H.held host.new).is_sound ≡ false → Rose (H.faults beside.old) (H.faults beside.new) }
     ensures counts { D.faults door.old ≤ D.faults door.new }
     ensures clock { C.faults clock.old ≤ C.faults clock.new }
 {

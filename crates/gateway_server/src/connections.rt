@@ -65,6 +65,8 @@ pub fn serve_with<K, H: HoldsGateway<K>, D: Door, C: Clock>(
     ensures setting { (H.held host.new).gate.setting ≡ (H.held host.old).gate.setting }
     ensures ready { (H.held host.new).is_sound ≡ true → H.is_ready host.new beside.new }
     ensures keeping { H.faults beside.old ≤ H.faults beside.new }
+    ensures failed { (H.held host.old).is_sound ≡ true → (H.held host.new).is_sound ≡ false
+        → Rose (H.faults beside.old) (H.faults beside.new) }
     ensures counts { Counts (IsErr result) (D.faults door.old) (D.faults door.new) }
     ensures clock { C.faults clock.old ≤ C.faults clock.new }
 {

@@ -77,7 +77,7 @@ pub fn serve_kept<D: Door, C: Clock, K: Disk>(
 /// before, and behind them a prefix of those of the entries marked Taken, Fed or Unkept, in their order. At the end
 /// every crash leaves all the bodies of the entries marked Taken or Fed. The entries that are lost or cut short are,
 /// with that fault of the door, no more than the faults that the door counted, and those for which the clock failed
-/// no more than the clock counted.
+/// no more than the clock counted. The journal isn't sound any more only where the disk's count of faults rose.
 pub fn serve_all_kept<D: Door, C: Clock, K: Disk>(
     alloc: Global,
     durable: &mut Durable,
@@ -119,6 +119,7 @@ pub fn serve_all_kept<D: Door, C: Clock, K: Disk>(
     ensures absent { (D.beside door.new).present ≡ false }
     ensures setting { durable.new.gate.setting ≡ durable.old.gate.setting }
     ensures keeping { K.faults disk.old ≤ K.faults disk.new }
+    ensures failed { durable.new.journal.is_sound ≡ false → Rose (K.faults disk.old) (K.faults disk.new) }
     ensures counts { Counts (IsErr result) (D.faults door.old) (D.faults door.new) }
     ensures clock { C.faults clock.old ≤ C.faults clock.new }
 {

@@ -108,17 +108,20 @@ form_met form.Seed = seed_met
 form_met form.TripCount = trip_count_met
 form_met form.StopCount = stop_count_met
 
-pairs_met : (pairs : List Pair) → list_all (λ pair. nat_lt 0 (length pair.flags.now)) pairs ≡ true → AllByRecursion CanStand (map pair_of pairs)
+pairs_met : (pairs : List Pair) → list_all has_flag pairs ≡ true → AllByRecursion CanStand (map pair_of pairs)
 pairs_met [] h = tt
 pairs_met (pair ∷ pairs) h =
     let parts : (nat_lt 0 (length pair.flags.now) ≡ true) × _ = and_parts _ _ h in
     ((simp length-map (grind (arith, nat_tests, parts.0)), form_met pair.form), pairs_met pairs parts.1)
 
-rows_met : (rows : List Command) → list_all (λ row. list_all (λ pair. nat_lt 0 (length pair.flags.now)) row.pairs.now) rows ≡ true
+rows_met : (rows : List Command) → list_all (λ row. list_all has_flag (row.pairs.now ++ row.optional.now)) rows ≡ true
     → AllByRecursion IsSatisfiable (map row_of rows)
 rows_met [] h = tt
 rows_met (row ∷ rows) h =
-    let parts = and_parts _ _ h in (record { pairs = pairs_met row.pairs.now parts.0; repeated = form_met row.repeated.form }, rows_met rows parts.1)
+    let parts = and_parts (list_all has_flag (row.pairs.now ++ row.optional.now)) _ h in
+    let all = subst (λ pairs. AllByRecursion CanStand pairs) (map-append pair_of row.pairs.now row.optional.now)
+    (pairs_met (row.pairs.now ++ row.optional.now) parts.0) in
+    (record { pairs = all; repeated = form_met row.repeated.form }, rows_met rows parts.1)
 
 -- so any table of pairs with flags can be met
 pub satisfiable : (rows : List Command) → have_flags rows ≡ true → AreSatisfiable (map row_of rows)

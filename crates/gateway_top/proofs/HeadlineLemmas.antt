@@ -1,5 +1,5 @@
 -- What a lawful log shows.
-use Rattle.std.proofs.Common.{◌≡◌, ◌⊎◌, ◌++◌, ◌∷◌, [], ℕ, ℤ, List, Option, Some, None, Result, Ok, Err, IfSome, inl, inr, refl, subst, sym, ◌∙◌, length, rules}
+use Rattle.std.proofs.Common.{Bool, false, ◌≡◌, ◌⊎◌, ◌++◌, ◌∷◌, [], ℕ, ℤ, List, Option, Some, None, Result, Ok, Err, IfSome, inl, inr, refl, subst, sym, ◌∙◌, length, rules}
 use Rattle.std.specs.Prelude.{IsOk, OnOk, ◌≤◌}
 use Rattle.gw_base.specs.Changes.{Change}
 use Rattle.gw_base.specs.Connections.{Beside, Connections}
@@ -9,15 +9,18 @@ use Rattle.gateway_core.specs.Arrivals.{Arrival, Given, feed, journeys, situatio
 use Rattle.gateway_core.specs.Standing.{Kept}
 use Rattle.gateway_core.specs.declared.setting.Setting.{Setting}
 use Rattle.gateway_server.specs.Answers.{IsAnswered, body_refused, feed_shown, mark_of, refused, taken, text_shown}
-use Rattle.gateway_server.specs.Log.{IsFront, IsLawful, IsLawfulLog, answered, full, lost, no_clock, no_memory, unkept}
+use Rattle.gateway_server.specs.Log.{IsFront, IsLawfulBy, IsLawfulLog, IsLogBy, answered, full, lost, no_clock, no_memory, unkept}
+use Rattle.gateway_server.specs.Holding.{Room}
+use Rattle.gateway_server.specs.Past.{IsLawfulAfter, LeavesPast, Past}
 use Rattle.gateway_server.specs.Serving.{IsEnd, ServesAll, Tells}
 use Rattle.gw_base.specs.Answers.{UnlessFree}
 use Rattle.gateway_top.specs.Exits.{is_free, status_of}
-use Rattle.gateway_top.specs.Headline.{HasArrived, Headline, ServesFeed, ServesText, Shows}
+use Rattle.gateway_top.specs.Headline.{HasArrived, HeadlineWith, ServesFeed, ServesText, Shows}
 use Rattle.gateway_top.specs.Runs.{Doorway, EndsServer, HasFailed, RunsServer}
 use Rattle.gateway_top.specs.Serving.{Served}
 use Rattle.gateway_top.specs.Work.{Directory, IsSettingOf}
-use Rattle.gateway_top.specs.Words.{IsJob, Serve, serve_job}
+use Rattle.gateway_top.specs.Tables.{Pair}
+use Rattle.gateway_top.specs.Words.{IsJobWith, Serve, serve_job}
 use Rattle.gateway_top.proofs.PublishedLemmas.{is_setting}
 use Rattle.gateway_top.specs.declared.exit.Exit.{Exit}
 use Rattle.gateway_top.specs.declared.exit.Exit.TheVariants.{Failed, Memory, Missing, Refused}
@@ -50,37 +53,50 @@ answer_shows Cause setting arrivals entry moment bytes at (taken target body rep
     not_shown (situations all) e = cc
     not_shown (feed one) e = cc
 
-entry_shows : (Cause : Type 0) (setting : Setting) (arrivals : List Arrival) (entry : Entry) → IsLawful Cause setting arrivals entry → entry.mark ≡ mark.Shown
+entry_shows : (Cause Unkept : Type 0) (is_full : List ℕ → Bool) (setting : Setting) (arrivals : List Arrival) (entry : Entry) → IsLawfulBy Cause Unkept is_full setting arrivals entry → entry.mark ≡ mark.Shown
     → ServesFeed Cause setting arrivals entry ⊎ ServesText Cause setting arrivals entry
-entry_shows Cause setting arrivals entry (no_clock ends at front) shown = absurd cc
-entry_shows Cause setting arrivals entry (lost moment ends at output cause) shown = absurd cc
-entry_shows Cause setting arrivals entry (no_memory moment ends at posted front) shown = absurd cc
-entry_shows Cause setting arrivals entry (unkept moment of body ends at asked would cause front) shown = absurd cause
-entry_shows Cause setting arrivals entry (full moment of body ends at asked would no_room front) shown = absurd cc
-entry_shows Cause setting arrivals entry (answered moment bytes at is fits front) shown = answer_shows Cause setting arrivals entry moment bytes at is front shown
+entry_shows Cause Unkept is_full setting arrivals entry (no_clock ends at front) shown = absurd cc
+entry_shows Cause Unkept is_full setting arrivals entry (lost moment ends at output cause) shown = absurd cc
+entry_shows Cause Unkept is_full setting arrivals entry (no_memory moment ends at posted front) shown = absurd cc
+entry_shows Cause Unkept is_full setting arrivals entry (unkept moment of body ends at asked would cause front) shown = absurd cc
+entry_shows Cause Unkept is_full setting arrivals entry (full moment of body ends at asked would no_room front) shown = absurd cc
+entry_shows Cause Unkept is_full setting arrivals entry (answered moment bytes at is fits front) shown = answer_shows Cause setting arrivals entry moment bytes at is front shown
 
 -- each entry of a lawful log is lawful after what arrived of the entries before it
 log_shows : (Cause : Type 0) (setting : Setting) (before now : List Arrival) (earlier : List Entry) (entry : Entry) (later : List Entry)
     → IsLawfulLog Cause setting before (earlier ++ entry ∷ later) now → entry.mark ≡ mark.Shown
     → (arrivals : List Arrival) × HasArrived setting before earlier arrivals × (ServesFeed Cause setting arrivals entry ⊎ ServesText Cause setting arrivals entry)
-log_shows Cause setting before now [] entry later lawful shown = (before, refl, entry_shows Cause setting before entry lawful.0 shown)
+log_shows Cause setting before now [] entry later lawful shown = (before, refl, entry_shows Cause ⊥ (λ body. false) setting before entry lawful.0 shown)
 log_shows Cause setting before now (one ∷ earlier) entry later (is, after, leaves, more) shown =
     let rest = log_shows Cause setting after now earlier entry later more shown in
     (rest.0, (after, leaves, rest.1), rest.2)
 
-pub shows : (Cause : Type 0) (setting : Setting) (entries : List Entry) (now : List Arrival) → IsLawfulLog Cause setting [] entries now
+-- the same of a log over what holds a gateway
+pub after_shows : (Cause Unkept : Type 0) (room : Room) (setting : Setting) (before now : Past) (earlier : List Entry) (entry : Entry) (later : List Entry)
+    → IsLogBy (IsLawfulAfter Cause Unkept room setting) (LeavesPast room setting) before (earlier ++ entry ∷ later) now → entry.mark ≡ mark.Shown
+    → Shows Cause setting before.arrivals earlier entry
+after_shows Cause Unkept room setting before now [] entry later lawful shown = record {
+  arrivals = before.arrivals;
+  arrived = refl;
+  served = entry_shows Cause Unkept (λ body. room.is_full before.end (length body)) setting before.arrivals entry lawful.0.1 shown;
+}
+after_shows Cause Unkept room setting before now (one ∷ earlier) entry later (is, after, leaves, more) shown =
+    let rest = after_shows Cause Unkept room setting after now earlier entry later more shown in
+    record { arrivals = rest.arrivals; arrived = (after.arrivals, leaves.arrived, rest.arrived); served = rest.served }
+
+pub shows : (Cause : Type 0) (setting : Setting) (past : List Arrival) (entries : List Entry) (now : List Arrival) → IsLawfulLog Cause setting past entries now
     → (earlier : List Entry) (entry : Entry) (later : List Entry) → entries ≡ earlier ++ entry ∷ later → entry.mark ≡ mark.Shown
-    → Shows Cause setting [] earlier entry
-shows Cause setting entries now lawful earlier entry later is shown =
-    let found = log_shows Cause setting [] now earlier entry later (subst (λ (all : List Entry). IsLawfulLog Cause setting [] all now) is lawful) shown in
+    → Shows Cause setting past earlier entry
+shows Cause setting past entries now lawful earlier entry later is shown =
+    let found = log_shows Cause setting past now earlier entry later (subst (λ (all : List Entry). IsLawfulLog Cause setting past all now) is lawful) shown in
     record { arrivals = found.0; arrived = found.1; served = found.2 }
 
 -- connections that were served over the setting of the words show as told
-pub headline : (Cause End : Type 0) (words : List (List ℕ)) (files : Directory) (command : Serve) (setting : Setting) (told : Connections) (clock : Change (List ℤ)) (now : Beside)
-    → IsJob words (serve_job command) → IsSettingOf command.scope (Some command.keep) files (Ok setting)
-    → Served Cause End command.connections setting [] told clock now
-    → Headline Cause words files [] told now
-headline Cause End words files command setting told clock now accepted setting_is served = record {
+pub headline : (optional : List Pair) (Cause End : Type 0) (words : List (List ℕ)) (files : Directory) (command : Serve) (setting : Setting) (past : List Arrival) (told : Connections) (clock : Change (List ℤ)) (now : Beside)
+    → IsJobWith optional words (serve_job command) → IsSettingOf command.scope (Some command.keep) files (Ok setting)
+    → Served Cause End command.connections setting past told clock now
+    → HeadlineWith optional Cause words files past told now
+headline optional Cause End words files command setting past told clock now accepted setting_is served = record {
   entries = served.entries;
   left = served.left;
   logged = served.logged;
@@ -89,14 +105,14 @@ headline Cause End words files command setting told clock now accepted setting_i
     accepted = accepted;
     setting = setting;
     has_setting = is_setting command.scope (Some command.keep) files setting setting_is;
-    shows = shows Cause setting served.entries served.arrived served.lawful earlier entry later is shown;
+    shows = shows Cause setting past served.entries served.arrived served.lawful earlier entry later is shown;
   };
 }
 
 -- where no connection was served nothing is shown
-pub no_headline : (Cause : Type 0) (words : List (List ℕ)) (files : Directory) (told : Connections) (before now : Beside) → before.told ≡ Some told → now ≡ before
-    → Headline Cause words files [] told now
-no_headline Cause words files told before now tells same = record {
+pub no_headline : (optional : List Pair) (Cause : Type 0) (words : List (List ℕ)) (files : Directory) (past : List Arrival) (told : Connections) (before now : Beside) → before.told ≡ Some told → now ≡ before
+    → HeadlineWith optional Cause words files past told now
+no_headline optional Cause words files past told before now tells same = record {
   entries = [];
   left = told;
   logged = record { tells = rw same tells; log = search rules };
@@ -108,26 +124,26 @@ no_headline Cause words files told before now tells same = record {
     none (one ∷ earlier) entry later is = cc
 
 -- where neither door nor clock is called
-pub idle : (Cause : Type 0) (words : List (List ℕ)) (files : Option Directory) (output : Option (List ℕ)) (beside : Beside)
-    → IfSome files (λ folder. (told : Connections) → Tells output beside told → Headline Cause words folder [] told beside)
-idle Cause words None output beside = tt
-idle Cause words (Some folder) output beside = λ told tells. no_headline Cause words folder told beside beside tells.tells refl
+pub idle : (optional : List Pair) (Cause : Type 0) (words : List (List ℕ)) (files : Option Directory) (past : List Arrival) (output : Option (List ℕ)) (beside : Beside)
+    → IfSome files (λ folder. (told : Connections) → Tells output beside told → HeadlineWith optional Cause words folder past told beside)
+idle optional Cause words None past output beside = tt
+idle optional Cause words (Some folder) past output beside = λ told tells. no_headline optional Cause words folder past told beside beside tells.tells refl
 
 -- a run of a server
-pub of_run : (words : List (List ℕ)) (command : Serve) (ended : ℕ) (files : Change Directory) (err : Change (List ℕ)) (doorway : Doorway)
-    → IsJob words (serve_job command) → RunsServer command [] ended files err doorway
+pub of_run : (optional : List Pair) (words : List (List ℕ)) (command : Serve) (past : List Arrival) (ended : ℕ) (files : Change Directory) (err : Change (List ℕ)) (doorway : Doorway)
+    → IsJobWith optional words (serve_job command) → RunsServer command past ended files err doorway
     → IfSome files.before (λ folder. (told : Connections) → Tells doorway.output.before doorway.before told
-    → Headline (HasFailed doorway.output) words folder [] told doorway.now)
-of_run words command ended files err doorway accepted runs = by files.before runs.answer runs.work runs.ends
+    → HeadlineWith optional (HasFailed doorway.output) words folder past told doorway.now)
+of_run optional words command past ended files err doorway accepted runs = by files.before runs.answer runs.work runs.ends
   where
     by : (before : Option Directory) (answer : Result Setting Exit)
-        → IfSome before (λ folder. UnlessFree is_free answer (IsSettingOf command.scope (Some command.keep) folder)) → EndsServer command [] answer ended err doorway
-        → IfSome before (λ folder. (told : Connections) → Tells doorway.output.before doorway.before told → Headline (HasFailed doorway.output) words folder [] told doorway.now)
+        → IfSome before (λ folder. UnlessFree is_free answer (IsSettingOf command.scope (Some command.keep) folder)) → EndsServer command past answer ended err doorway
+        → IfSome before (λ folder. (told : Connections) → Tells doorway.output.before doorway.before told → HeadlineWith optional (HasFailed doorway.output) words folder past told doorway.now)
     by None answer work ends = tt
     by (Some folder) (Ok setting) work ends = λ told tells.
-        headline (HasFailed doorway.output) (ended ≡ 0) words folder command setting told doorway.clock doorway.now accepted work (ends.1 told tells)
+        headline optional (HasFailed doorway.output) (ended ≡ 0) words folder command setting past told doorway.clock doorway.now accepted work (ends.1 told tells)
     by (Some folder) (Err exit) work ends = λ told tells.
-        no_headline (HasFailed doorway.output) words folder told doorway.before doorway.now tells.tells ends.1.connections
+        no_headline optional (HasFailed doorway.output) words folder past told doorway.before doorway.now tells.tells ends.1.connections
 
 -- no early end has the status of words that are no command's
 pub not_turned_away : (exit : Exit) (ended : ℕ) → ended ≡ status_of exit → ended ≡ 2 → ⊥

@@ -2,6 +2,7 @@ mod DeliveryLemmas
 mod FeedSteps
 mod FormLemmas
 mod HeadlineLemmas
+mod KeptLemmas
 mod MomentLemmas
 mod PublishedLemmas
 mod SampleLemmas

@@ -16,8 +16,9 @@ use Rattle.feed_reading.specs.Tables.{MeansFeed}
 use Rattle.journey_model.specs.FeedReadings.{is_differential}
 use Rattle.gateway_top.specs.Bodies.{differential_end}
 use Rattle.gateway_top.specs.Done.{Done}
-use Rattle.gateway_top.specs.Published.{IsFullFeed, IsSetting, IsZone, Publishes, PublishesCounts, PublishesFeed, PublishesLines, PublishesSiri, PublishesSituations, PublishesTask}
-use Rattle.gateway_top.specs.Words.{IsJob, Make, NamedZone, Scope, Serve, Show, Task, ToGtfsrt, ToSiri, by_rule, by_file, gtfsrt_task, make_task, serve_job, show_task, siri_task, sx_task, task_job}
+use Rattle.gateway_top.specs.Published.{IsFullFeed, IsSetting, IsZone, PublishesWith, PublishesCounts, PublishesFeed, PublishesLines, PublishesSiri, PublishesSituations, PublishesTask}
+use Rattle.gateway_top.specs.Tables.{Pair}
+use Rattle.gateway_top.specs.Words.{IsJobWith, Make, NamedZone, Scope, Serve, Show, Task, ToGtfsrt, ToSiri, by_rule, by_file, gtfsrt_task, make_task, serve_job, show_task, siri_task, sx_task, task_job}
 use Rattle.gateway_top.specs.Work.{Directory, IsFileFeed, IsMakeWork, OverFiles, IsSettingOf, IsShowWork, IsTaskWork, IsToGtfsrtWork, IsToSiriSxWork, IsToSiriWork, IsNamedZone, folder, full, further, zone_limit}
 use Rattle.gateway_top.specs.declared.exit.Exit.{Exit}
 use Rattle.gateway_top.specs.declared.exit.Exit.TheVariants.{Refused}
@@ -161,14 +162,14 @@ publishes files (show_task command) done before now work written = told_publishe
 publishes files (make_task command) done before now work written = counts_published command done before now work written
 
 -- the same by the words
-pub by_task : (words : List (List ℕ)) (files : Option Directory) (task : Task) (before now : Option (List ℕ)) → IsJob words (task_job task)
-    → OverFiles task files (λ told. PublishesTask task told before now) → Publishes words files before now
-by_task words files task before now accepted published = record { job = task_job task; accepted = accepted; published = published }
+pub by_task : (optional : List Pair) (words : List (List ℕ)) (files : Option Directory) (task : Task) (before now : Option (List ℕ)) → IsJobWith optional words (task_job task)
+    → OverFiles task files (λ told. PublishesTask task told before now) → PublishesWith optional words files before now
+by_task optional words files task before now accepted published = record { job = task_job task; accepted = accepted; published = published }
 
 -- a server writes nothing
-pub by_server : (words : List (List ℕ)) (files : Option Directory) (command : Serve) (told : Option (List ℕ)) → IsJob words (serve_job command)
-    → Publishes words files told told
-by_server words files command told accepted = record { job = serve_job command; accepted = accepted; published = stays files }
+pub by_server : (optional : List Pair) (words : List (List ℕ)) (files : Option Directory) (command : Serve) (told : Option (List ℕ)) → IsJobWith optional words (serve_job command)
+    → PublishesWith optional words files told told
+by_server optional words files command told accepted = record { job = serve_job command; accepted = accepted; published = stays files }
   where
     stays : (files : Option Directory) → IfSome files (λ folder. told ≡ told)
     stays None = tt

@@ -1,11 +1,12 @@
 -- Words that are right so far start an accepted list, and a wrong word ends that: proved once, of any table.
-use Rattle.std.proofs.Common.{◌≡◌, ◌≢◌, ◌⊎◌, inl, inr, refl, ap, sym, subst, ◌∙◌, ℕ, zero, suc, ◌+◌, ◌<◌, ◌≤◌, List, [], ◌∷◌, Some, None, length, take, drop, get_or, slice_get, map, arith, Bool, true, false, cond, add-one}
+use Rattle.std.proofs.Common.{◌≡◌, ◌≢◌, ◌⊎◌, inl, inr, refl, ap, sym, subst, ◌∙◌, ℕ, zero, suc, ◌+◌, ◌<◌, ◌≤◌, List, [], ◌∷◌, ◌++◌, Some, None, length, take, drop, get_or, slice_get, map, arith, Bool, true, false, cond, add-one}
 use Rattle.std.specs.Prelude.{IsTrue, IfSome, MatchBool, nat_eq, find}
 use Rattle.std.specs.Cmp.Lexicographic.{pointwise}
 use Rattle.std.specs.List.{AllByRecursion, list_any}
 use Rattle.std.specs.Option.{option_map}
 use Rattle.std.proofs.lemmas.Bool.{cases_lt}
 use Rattle.std.proofs.lemmas.Cmp.{nat_list_eq_equiv}
+use Rattle.std.proofs.lemmas.List.{length-append}
 use Rattle.std.proofs.lemmas.Option.{none-some, same_Some}
 use Rattle.gateway_top.specs.Pairs.{HasNoValue, IsWrongAt}
 use Rattle.gateway_top.specs.Tables.{Pair, Command, is_flag, with_name, pair_at, ArePairs, IsAccepted, IsStart, StopsAt, CanBeMet, CanStand, IsSatisfiable}
@@ -55,7 +56,7 @@ flag_at (pair ∷ pairs) repeated zero all below = first pair.flags all.0.0
 flag_at (pair ∷ pairs) repeated (suc k) all below = flag_at pairs repeated k all.1 (omega arith)
 
 value_at : (command : Command) → IsSatisfiable command → (k : ℕ) (before : List ℕ) → (value : List ℕ) × IsTrue ((pair_at command k).form before value)
-value_at command met k before = met_at command.pairs command.repeated k met.pairs met.repeated before
+value_at command met k before = met_at (command.pairs ++ command.optional) command.repeated k met.pairs met.repeated before
 
 completed : (command : Command) → IsSatisfiable command → (n k : ℕ) (before : List ℕ) → length command.pairs ≤ k + n → (rest : Words) × ArePairs command k before rest
 completed command met zero k before h = ([], omega arith)
@@ -63,7 +64,8 @@ completed command met (suc n) k before h =
     elim (cases_lt k (length command.pairs)) [
       | inr all ↦ ([], all)
       | inl below ↦
-          let flag = flag_at command.pairs command.repeated k met.pairs below in
+          let flag = flag_at (command.pairs ++ command.optional) command.repeated k met.pairs
+          (omega (arith, length-append command.pairs command.optional)) in
           let value = value_at command met k before in
           let rest = completed command met n (k + 1) value.0 (omega arith) in
           (flag.0 ∷ value.0 ∷ rest.0, (flag.1, value.1, rest.1))

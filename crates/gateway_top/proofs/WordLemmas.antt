@@ -11,7 +11,7 @@ use Rattle.gateway_top.specs.Forms.{beginning, connection_count, day_count, deci
 use Rattle.gateway_top.specs.Tables.{Command, Pair, with_name, ArePairs, IsAccepted}
 use Rattle.gateway_top.specs.Windowed.{CanRun, HasWindow}
 use Rattle.gateway_top.specs.Work.{reads_files}
-use Rattle.gateway_top.specs.Words.{IsJob, Job, Make, SaysMake, SaysScope, SaysServe, SaysShow, SaysToGtfsrt, SaysToSiri, SaysToSiriSx, Scope, Serve, Show, Task, ToGtfsrt, ToSiri, at_pair, commands, connections_pair, feed_pair, gtfsrt_task, keep_pair, listen_pair, make, make_task, no_pair, over_a_folder, serve, serve_job, show, show_task, siri_task, sx_task, task_job, to_gtfsrt, to_siri, to_siri_sx, zone_by}
+use Rattle.gateway_top.specs.Words.{IsJobWith, Job, Says, Make, SaysMake, SaysScope, SaysServe, SaysShow, SaysToGtfsrt, SaysToSiri, SaysToSiriSx, Scope, Serve, Show, Task, ToGtfsrt, ToSiri, at_pair, commands, connections_pair, feed_pair, gtfsrt_task, keep_pair, listen_pair, make, make_task, no_pair, over_a_folder, serve, serve_job, show, show_task, siri_task, sx_task, task_job, to_gtfsrt, to_siri, to_siri_sx, zone_by}
 use Rattle.gateway_top.proofs.FormLemmas.{beginning_range, cond_then}
 use Rattle.gateway_top.proofs.TableLemmas.{HasPair, pair_of, double}
 use Rattle.service_day.specs.Utc.{utc_of}
@@ -32,18 +32,18 @@ kept None (Some n) h = (n, refl)
 kept (Some m) (Some n) h = (n, refl)
 
 -- a command that works over a folder
-abbrev over_by : List ℕ → List Pair → Pair → Command
-over_by title further repeated = record { name = title; pairs = over_a_folder further; repeated = repeated }
+abbrev over_by : List ℕ → List Pair → List Pair → Pair → Command
+over_by title further optional repeated = record { name = title; pairs = over_a_folder further; optional = optional; repeated = repeated }
 
-pair_in : (title : List ℕ) (further : List Pair) (repeated : Pair) (name : List ℕ) (words : List (List ℕ)) → ArePairs (over_by title further repeated) 0 name words
-    → (k : ℕ) → k < 4 + length further → HasPair (over_by title further repeated) k (name ∷ words) (double k)
-pair_in title further repeated name words pairs k below = pair_of (over_by title further repeated) k k 0 name words (omega arith) (omega (arith, below)) pairs
+pair_in : (title : List ℕ) (further optional : List Pair) (repeated : Pair) (name : List ℕ) (words : List (List ℕ)) → ArePairs (over_by title further optional repeated) 0 name words
+    → (k : ℕ) → k < 4 + length further → HasPair (over_by title further optional repeated) k (name ∷ words) (double k)
+pair_in title further optional repeated name words pairs k below = pair_of (over_by title further optional repeated) k k 0 name words (omega arith) (omega (arith, below)) pairs
 
 -- what it works over
-scoped : (title : List ℕ) (further : List Pair) (repeated : Pair) (name : List ℕ) (words : List (List ℕ)) → ArePairs (over_by title further repeated) 0 name words
+scoped : (title : List ℕ) (further optional : List Pair) (repeated : Pair) (name : List ℕ) (words : List (List ℕ)) → ArePairs (over_by title further optional repeated) 0 name words
     → (scope : Scope) × SaysScope (name ∷ words) scope
-scoped title further repeated name words pairs =
-    let pair = pair_in title further repeated name words pairs in
+scoped title further optional repeated name words pairs =
+    let pair = pair_in title further optional repeated name words pairs in
     let gtfs = pair 0 (omega arith) in
     let zone = pair 1 (omega arith) in
     let from = pair 2 (omega arith) in
@@ -59,24 +59,25 @@ scoped title further repeated name words pairs =
       },
     )
 
-serve_read : (name : List ℕ) (words : List (List ℕ)) → name ≡ codes "serve" → ArePairs serve 0 name words
+serve_read : (optional : List Pair) (name : List ℕ) (words : List (List ℕ)) → name ≡ codes "serve" → ArePairs (serve optional) 0 name words
     → (command : Serve) × SaysServe (name ∷ words) command
 unfolding serve
-serve_read name words named pairs =
-    let scope = scoped (codes "serve") (keep_pair ∷ listen_pair ∷ connections_pair ∷ []) no_pair name words pairs in
-    let pair = pair_in (codes "serve") (keep_pair ∷ listen_pair ∷ connections_pair ∷ []) no_pair name words pairs in
+serve_read optional name words named pairs =
+    let scope = scoped (codes "serve") (keep_pair ∷ listen_pair ∷ connections_pair ∷ []) optional no_pair name words pairs in
+    let pair = pair_in (codes "serve") (keep_pair ∷ listen_pair ∷ connections_pair ∷ []) optional no_pair name words pairs in
     let keep = pair 4 (omega arith) in
     let listen = pair 5 (omega arith) in
     let connections = pair 6 (omega arith) in
     let days = kept (day_count keep.0) (kept_count keep.2) keep.7 in
     let count = some_of (connection_count connections.2) connections.7 in (
-      record { scope = scope.0; keep = days.0; listen = listen.2; connections = count.0 },
+      record { scope = scope.0; keep = days.0; listen = listen.2; connections = count.0; journal = slice_get (name ∷ words) 16 },
       record {
         name = ap Some named;
         scope = scope.1;
         keep = ap (option_and_then kept_count) keep.5 ∙ days.1;
         listen = listen.5;
         connections = ap (option_and_then connection_count) connections.5 ∙ count.1;
+        journal = refl;
       },
     )
 
@@ -84,8 +85,8 @@ gtfsrt_read : (name : List ℕ) (words : List (List ℕ)) → name ≡ codes "to
     → (command : ToGtfsrt) × SaysToGtfsrt (name ∷ words) command
 unfolding to_gtfsrt
 gtfsrt_read name words named pairs =
-    let scope = scoped (codes "to-gtfsrt") (at_pair ∷ []) to_gtfsrt.repeated name words pairs in
-    let at = pair_in (codes "to-gtfsrt") (at_pair ∷ []) to_gtfsrt.repeated name words pairs 4 (omega arith) in
+    let scope = scoped (codes "to-gtfsrt") (at_pair ∷ []) [] to_gtfsrt.repeated name words pairs in
+    let at = pair_in (codes "to-gtfsrt") (at_pair ∷ []) [] to_gtfsrt.repeated name words pairs 4 (omega arith) in
     let second = some_of (utc_of at.2) at.7 in (
       record { scope = scope.0; at = second.0; more = drop 11 (name ∷ words) },
       record { name = ap Some named; scope = scope.1; at = ap (option_and_then utc_of) at.5 ∙ second.1; more = refl },
@@ -95,8 +96,8 @@ siri_read : (name : List ℕ) (words : List (List ℕ)) → name ≡ codes "to-s
     → (command : ToSiri) × SaysToSiri (name ∷ words) command
 unfolding to_siri
 siri_read name words named pairs =
-    let scope = scoped (codes "to-siri") (at_pair ∷ feed_pair ∷ []) no_pair name words pairs in
-    let pair = pair_in (codes "to-siri") (at_pair ∷ feed_pair ∷ []) no_pair name words pairs in
+    let scope = scoped (codes "to-siri") (at_pair ∷ feed_pair ∷ []) [] no_pair name words pairs in
+    let pair = pair_in (codes "to-siri") (at_pair ∷ feed_pair ∷ []) [] no_pair name words pairs in
     let at = pair 4 (omega arith) in
     let feed = pair 5 (omega arith) in
     let second = some_of (utc_of at.2) at.7 in (
@@ -108,8 +109,8 @@ sx_read : (name : List ℕ) (words : List (List ℕ)) → name ≡ codes "to-sir
     → (command : ToSiri) × SaysToSiriSx (name ∷ words) command
 unfolding to_siri_sx
 sx_read name words named pairs =
-    let scope = scoped (codes "to-siri-sx") (at_pair ∷ feed_pair ∷ []) no_pair name words pairs in
-    let pair = pair_in (codes "to-siri-sx") (at_pair ∷ feed_pair ∷ []) no_pair name words pairs in
+    let scope = scoped (codes "to-siri-sx") (at_pair ∷ feed_pair ∷ []) [] no_pair name words pairs in
+    let pair = pair_in (codes "to-siri-sx") (at_pair ∷ feed_pair ∷ []) [] no_pair name words pairs in
     let at = pair 4 (omega arith) in
     let feed = pair 5 (omega arith) in
     let second = some_of (utc_of at.2) at.7 in (
@@ -121,8 +122,8 @@ show_read : (name : List ℕ) (words : List (List ℕ)) → name ≡ codes "show
     → (command : Show) × SaysShow (name ∷ words) command
 unfolding show
 show_read name words named pairs =
-    let scope = scoped (codes "show") (feed_pair ∷ []) no_pair name words pairs in
-    let feed = pair_in (codes "show") (feed_pair ∷ []) no_pair name words pairs 4 (omega arith) in (
+    let scope = scoped (codes "show") (feed_pair ∷ []) [] no_pair name words pairs in
+    let feed = pair_in (codes "show") (feed_pair ∷ []) [] no_pair name words pairs 4 (omega arith) in (
       record { scope = scope.0; feed = feed.2 },
       record { name = ap Some named; scope = scope.1; feed = feed.5 },
     )
@@ -147,10 +148,10 @@ make_read name words named pairs =
     )
 
 -- an accepted list can be read
-pub read : (words : List (List ℕ)) → IsAccepted commands words → (job : Job) × IsJob words job
+pub read : (optional : List Pair) (words : List (List ℕ)) → IsAccepted (commands optional) words → (job : Job) × Says words job
 unfolding commands serve to_gtfsrt to_siri to_siri_sx show make
-read [] is = absurd is
-read (name ∷ words) is =
+read optional [] is = absurd is
+read optional (name ∷ words) is =
     by (pointwise nat_eq (codes "serve") name) (pointwise nat_eq (codes "to-gtfsrt") name) (pointwise nat_eq (codes "to-siri") name)
     (pointwise nat_eq (codes "to-siri-sx") name) (pointwise nat_eq (codes "show") name) (pointwise nat_eq (codes "make") name)
     refl refl refl refl refl refl is
@@ -158,27 +159,27 @@ read (name ∷ words) is =
     by : (s a b x c m : Bool) → pointwise nat_eq (codes "serve") name ≡ s → pointwise nat_eq (codes "to-gtfsrt") name ≡ a
         → pointwise nat_eq (codes "to-siri") name ≡ b → pointwise nat_eq (codes "to-siri-sx") name ≡ x
         → pointwise nat_eq (codes "show") name ≡ c → pointwise nat_eq (codes "make") name ≡ m
-        → IsSomeAnd (cond s (Some serve) (cond a (Some to_gtfsrt) (cond b (Some to_siri) (cond x (Some to_siri_sx)
+        → IsSomeAnd (cond s (Some (serve optional)) (cond a (Some to_gtfsrt) (cond b (Some to_siri) (cond x (Some to_siri_sx)
         (cond c (Some show) (cond m (Some make) None)))))) (λ command. ArePairs command 0 name words)
-        → (job : Job) × IsJob (name ∷ words) job
+        → (job : Job) × Says (name ∷ words) job
     by true a b x c m es ea eb ex ec em pairs =
-        let found = serve_read name words (sym (same_text _ _ (sym es))) pairs in
-        (serve_job found.0, record { accepted = is; says = found.1 })
+        let found = serve_read optional name words (sym (same_text _ _ (sym es))) pairs in
+        (serve_job found.0, found.1)
     by false true b x c m es ea eb ex ec em pairs =
         let found = gtfsrt_read name words (sym (same_text _ _ (sym ea))) pairs in
-        (task_job (gtfsrt_task found.0), record { accepted = is; says = found.1 })
+        (task_job (gtfsrt_task found.0), found.1)
     by false false true x c m es ea eb ex ec em pairs =
         let found = siri_read name words (sym (same_text _ _ (sym eb))) pairs in
-        (task_job (siri_task found.0), record { accepted = is; says = found.1 })
+        (task_job (siri_task found.0), found.1)
     by false false false true c m es ea eb ex ec em pairs =
         let found = sx_read name words (sym (same_text _ _ (sym ex))) pairs in
-        (task_job (sx_task found.0), record { accepted = is; says = found.1 })
+        (task_job (sx_task found.0), found.1)
     by false false false false true m es ea eb ex ec em pairs =
         let found = show_read name words (sym (same_text _ _ (sym ec))) pairs in
-        (task_job (show_task found.0), record { accepted = is; says = found.1 })
+        (task_job (show_task found.0), found.1)
     by false false false false false true es ea eb ex ec em pairs =
         let found = make_read name words (sym (same_text _ _ (sym em))) pairs in
-        (task_job (make_task found.0), record { accepted = is; says = found.1 })
+        (task_job (make_task found.0), found.1)
     by false false false false false false es ea eb ex ec em pairs = absurd pairs
 
 -- ---- which command a list is by its name
@@ -189,19 +190,19 @@ name_differs {a} {b} name here there differ =
     true≢false (sym (nat_list_eq_equiv.refl a) ∙ ap (pointwise nat_eq a) same ∙ differ)
 
 -- words of `serve` are those of no other command
-pub not_both : (words : List (List ℕ)) (command : Serve) (task : Task) → IsJob words (serve_job command) → IsJob words (task_job task) → ⊥
-not_both words command (gtfsrt_task other) is and = name_differs (slice_get words 0) is.says.name and.says.name refl
-not_both words command (siri_task other) is and = name_differs (slice_get words 0) is.says.name and.says.name refl
-not_both words command (sx_task other) is and = name_differs (slice_get words 0) is.says.name and.says.name refl
-not_both words command (show_task other) is and = name_differs (slice_get words 0) is.says.name and.says.name refl
-not_both words command (make_task other) is and = name_differs (slice_get words 0) is.says.name and.says.name refl
+pub not_both : (words : List (List ℕ)) (command : Serve) (task : Task) → Says words (serve_job command) → Says words (task_job task) → ⊥
+not_both words command (gtfsrt_task other) is and = name_differs (slice_get words 0) is.name and.name refl
+not_both words command (siri_task other) is and = name_differs (slice_get words 0) is.name and.name refl
+not_both words command (sx_task other) is and = name_differs (slice_get words 0) is.name and.name refl
+not_both words command (show_task other) is and = name_differs (slice_get words 0) is.name and.name refl
+not_both words command (make_task other) is and = name_differs (slice_get words 0) is.name and.name refl
 
 -- and words of `make` are those of a command that reads no files
-pub reads_none : (words : List (List ℕ)) (task : Task) (command : Make) → IsJob words (task_job task) → IsJob words (task_job (make_task command)) → reads_files task ≡ false
-reads_none words (gtfsrt_task other) command is and = absurd (name_differs (slice_get words 0) is.says.name and.says.name refl)
-reads_none words (siri_task other) command is and = absurd (name_differs (slice_get words 0) is.says.name and.says.name refl)
-reads_none words (sx_task other) command is and = absurd (name_differs (slice_get words 0) is.says.name and.says.name refl)
-reads_none words (show_task other) command is and = absurd (name_differs (slice_get words 0) is.says.name and.says.name refl)
+pub reads_none : (words : List (List ℕ)) (task : Task) (command : Make) → Says words (task_job task) → Says words (task_job (make_task command)) → reads_files task ≡ false
+reads_none words (gtfsrt_task other) command is and = absurd (name_differs (slice_get words 0) is.name and.name refl)
+reads_none words (siri_task other) command is and = absurd (name_differs (slice_get words 0) is.name and.name refl)
+reads_none words (sx_task other) command is and = absurd (name_differs (slice_get words 0) is.name and.name refl)
+reads_none words (show_task other) command is and = absurd (name_differs (slice_get words 0) is.name and.name refl)
 reads_none words (make_task other) command is and = refl
 
 -- what is read at a place where a value is known to be is the value
@@ -217,21 +218,21 @@ read_at f words k known value word is there found = ap (option_and_then f) (at_p
 -- ---- the window of an accepted list
 
 -- its first day and its last one are in time
-windowed : (title : List ℕ) (further : List Pair) (repeated : Pair) (name : List ℕ) (words : List (List ℕ)) (scope : Scope) → ArePairs (over_by title further repeated) 0 name words
+windowed : (title : List ℕ) (further optional : List Pair) (repeated : Pair) (name : List ℕ) (words : List (List ℕ)) (scope : Scope) → ArePairs (over_by title further optional repeated) 0 name words
     → SaysScope (name ∷ words) scope
     → (int_le first_day scope.from ≡ true) × (int_le (scope.from +ℤ pos scope.days -ℤ pos 1) last_day ≡ true)
-windowed title further repeated name words scope pairs is =
-    let days = pair_in title further repeated name words pairs 3 (omega arith) in
+windowed title further optional repeated name words scope pairs is =
+    let days = pair_in title further optional repeated name words pairs 3 (omega arith) in
     let first : beginning days.0 ≡ Some scope.from = sym (ap (option_and_then beginning) days.3) ∙ is.from in
     let count : day_count days.2 ≡ Some scope.days = sym (ap (option_and_then day_count) days.5) ∙ is.days in
     ((beginning_range days.0 scope.from first).0, rw (first, count) at days.7)
 
 -- the pairs of an accepted list of that name
-named_pairs : (known : List ℕ) (command : Command) (name : List ℕ) (words : List (List ℕ)) → with_name commands known ≡ Some command
-    → IsAccepted commands (name ∷ words) → Some name ≡ Some known → ArePairs command 0 name words
-named_pairs known command name words found is e =
+named_pairs : (optional : List Pair) (known : List ℕ) (command : Command) (name : List ℕ) (words : List (List ℕ)) → with_name (commands optional) known ≡ Some command
+    → IsAccepted (commands optional) (name ∷ words) → Some name ≡ Some known → ArePairs command 0 name words
+named_pairs optional known command name words found is e =
     subst (λ (o : Option Command). IsSomeAnd o (λ command. ArePairs command 0 name words)) found
-    (subst (λ n. IsSomeAnd (with_name commands n) (λ command. ArePairs command 0 name words)) (same_Some _ _ e) is)
+    (subst (λ n. IsSomeAnd (with_name (commands optional) n) (λ command. ArePairs command 0 name words)) (same_Some _ _ e) is)
 
 in_range : (least most : ℕ) (word : Option (List ℕ)) (value : ℕ) → option_and_then (number_in least most) word ≡ Some value → (least ≤ value) × (value ≤ most)
 in_range least most word value is =
@@ -242,10 +243,10 @@ in_range least most word value is =
     subst (λ d. (least ≤ d) × (d ≤ most)) (same_Some n value both.1) (grind (arith, nat_tests, range), grind (arith, nat_tests, range))))
 
 -- and it can be made
-has_window : (title : List ℕ) (further : List Pair) (repeated : Pair) (name : List ℕ) (words : List (List ℕ)) (scope : Scope) → ArePairs (over_by title further repeated) 0 name words
+has_window : (title : List ℕ) (further optional : List Pair) (repeated : Pair) (name : List ℕ) (words : List (List ℕ)) (scope : Scope) → ArePairs (over_by title further optional repeated) 0 name words
     → SaysScope (name ∷ words) scope → HasWindow scope.from scope.days
-has_window title further repeated name words scope pairs is =
-    let both = windowed title further repeated name words scope pairs is in
+has_window title further optional repeated name words scope pairs is =
+    let both = windowed title further optional repeated name words scope pairs is in
     let first = both.0 in
     let last = both.1 in
     let count : (1 ≤ scope.days) × (scope.days ≤ 32) = in_range 1 most_days (slice_get (name ∷ words) 8) scope.days is.days in
@@ -258,30 +259,30 @@ has_window title further repeated name words scope pairs is =
     }
 
 -- a server has one
-pub serves : (words : List (List ℕ)) (command : Serve) → IsJob words (serve_job command) → HasWindow command.scope.from command.scope.days
+pub serves : (optional : List Pair) (words : List (List ℕ)) (command : Serve) → IsJobWith optional words (serve_job command) → HasWindow command.scope.from command.scope.days
 unfolding commands serve to_gtfsrt to_siri to_siri_sx show make
-serves [] command is = absurd is.accepted
-serves (name ∷ words) command is =
-    has_window (codes "serve") (keep_pair ∷ listen_pair ∷ connections_pair ∷ []) no_pair name words command.scope
-    (named_pairs (codes "serve") serve name words refl is.accepted is.says.name) is.says.scope
+serves optional [] command is = absurd is.accepted
+serves optional (name ∷ words) command is =
+    has_window (codes "serve") (keep_pair ∷ listen_pair ∷ connections_pair ∷ []) optional no_pair name words command.scope
+    (named_pairs optional (codes "serve") (serve optional) name words refl is.accepted is.says.name) is.says.scope
 
 -- and the other commands can be carried out
-pub can_run : (words : List (List ℕ)) (task : Task) → IsJob words (task_job task) → CanRun task
+pub can_run : (optional : List Pair) (words : List (List ℕ)) (task : Task) → IsJobWith optional words (task_job task) → CanRun task
 unfolding commands serve to_gtfsrt to_siri to_siri_sx show make
-can_run [] task is = absurd is.accepted
-can_run (name ∷ words) (gtfsrt_task command) is =
-    has_window (codes "to-gtfsrt") (at_pair ∷ []) to_gtfsrt.repeated name words command.scope
-    (named_pairs (codes "to-gtfsrt") to_gtfsrt name words refl is.accepted is.says.name) is.says.scope
-can_run (name ∷ words) (siri_task command) is =
-    has_window (codes "to-siri") (at_pair ∷ feed_pair ∷ []) no_pair name words command.scope
-    (named_pairs (codes "to-siri") to_siri name words refl is.accepted is.says.name) is.says.scope
-can_run (name ∷ words) (sx_task command) is =
-    has_window (codes "to-siri-sx") (at_pair ∷ feed_pair ∷ []) no_pair name words command.scope
-    (named_pairs (codes "to-siri-sx") to_siri_sx name words refl is.accepted is.says.name) is.says.scope
-can_run (name ∷ words) (show_task command) is =
-    has_window (codes "show") (feed_pair ∷ []) no_pair name words command.scope
-    (named_pairs (codes "show") show name words refl is.accepted is.says.name) is.says.scope
-can_run (name ∷ words) (make_task command) is = record {
+can_run optional [] task is = absurd is.accepted
+can_run optional (name ∷ words) (gtfsrt_task command) is =
+    has_window (codes "to-gtfsrt") (at_pair ∷ []) [] to_gtfsrt.repeated name words command.scope
+    (named_pairs optional (codes "to-gtfsrt") to_gtfsrt name words refl is.accepted is.says.name) is.says.scope
+can_run optional (name ∷ words) (siri_task command) is =
+    has_window (codes "to-siri") (at_pair ∷ feed_pair ∷ []) [] no_pair name words command.scope
+    (named_pairs optional (codes "to-siri") to_siri name words refl is.accepted is.says.name) is.says.scope
+can_run optional (name ∷ words) (sx_task command) is =
+    has_window (codes "to-siri-sx") (at_pair ∷ feed_pair ∷ []) [] no_pair name words command.scope
+    (named_pairs optional (codes "to-siri-sx") to_siri_sx name words refl is.accepted is.says.name) is.says.scope
+can_run optional (name ∷ words) (show_task command) is =
+    has_window (codes "show") (feed_pair ∷ []) [] no_pair name words command.scope
+    (named_pairs optional (codes "show") show name words refl is.accepted is.says.name) is.says.scope
+can_run optional (name ∷ words) (make_task command) is = record {
   seed_in = (in_range 0 most_seed (slice_get (name ∷ words) 2) command.seed is.says.seed).1;
   some_trip = trips.0;
   trips_in = trips.1;

@@ -17,7 +17,8 @@ use Rattle.gateway_server.specs.Log.{IsFront, Leaves}
 use Rattle.gateway_top.specs.Published.{IsSetting}
 use Rattle.gateway_top.specs.Serving.{HasLogged}
 use Rattle.gateway_top.specs.Work.{Directory}
-use Rattle.gateway_top.specs.Words.{IsJob, Serve, serve_job}
+use Rattle.gateway_top.specs.Tables.{Pair}
+use Rattle.gateway_top.specs.Words.{IsJobWith, Serve, serve_job}
 
 -- what arrived of connections, one after the other, after what had arrived before them
 abbrev pub HasArrived : Setting → List Arrival → List Entry → List Arrival → Type 0
@@ -52,21 +53,28 @@ pub record Shows (Cause : Type 0) (setting : Setting) (past : List Arrival) (ear
   pub arrived : HasArrived setting past earlier arrivals
   pub served : ServesFeed Cause setting arrivals entry ⊎ ServesText Cause setting arrivals entry
 
--- what a server of these words shows, over the setting of its files
-pub record ShowsAsTold (Cause : Type 0) (words : List (List ℕ)) (files : Directory) (past : List Arrival)
-    (earlier : List Entry) (entry : Entry) : Type 0 where
+-- what a server of these words shows, over the setting of its files, where `serve` has these optional pairs
+pub record ShowsAsTold (optional : List Pair) (Cause : Type 0) (words : List (List ℕ)) (files : Directory)
+    (past : List Arrival) (earlier : List Entry) (entry : Entry) : Type 0 where
   pub command : Serve
-  pub accepted : IsJob words (serve_job command)
+  pub accepted : IsJobWith optional words (serve_job command)
   pub setting : Setting
   pub has_setting : IsSetting command.scope (Some command.keep) files setting
   pub shows : Shows Cause setting past earlier entry
 
--- over any connections, after what had arrived before them: the log got entries, and each that is marked Shown shows
--- what it is to
-pub record Headline (Cause : Type 0) (words : List (List ℕ)) (files : Directory) (past : List Arrival)
-    (told : Connections) (now : Beside) : Type 0 where
+-- over any connections: the log got entries, and each that is marked Shown shows what it is to, after those before it
+pub record HeadlineBy (ShowsThis : List Entry → Entry → Type 0) (told : Connections) (now : Beside) : Type 0 where
   pub entries : List Entry
   pub left : Connections
   pub logged : HasLogged told now entries left
   pub shown : (earlier : List Entry) (entry : Entry) (later : List Entry) → entries ≡ earlier ++ entry ∷ later
-      → entry.mark ≡ mark.Shown → ShowsAsTold Cause words files past earlier entry
+      → entry.mark ≡ mark.Shown → ShowsThis earlier entry
+
+-- after what had arrived before them
+abbrev pub HeadlineWith : List Pair → Type 0 → List (List ℕ) → Directory → List Arrival → Connections → Beside → Type 0
+HeadlineWith optional Cause words files past told now =
+    HeadlineBy (ShowsAsTold optional Cause words files past) told now
+
+-- of a server without a journal
+abbrev pub Headline : Type 0 → List (List ℕ) → Directory → List Arrival → Connections → Beside → Type 0
+Headline Cause words files past told now = HeadlineWith [] Cause words files past told now

@@ -5,6 +5,7 @@ pub mod Exits
 pub mod FolderTexts
 pub mod Forms
 pub mod Headline
+pub mod Keeping
 pub mod Outputs
 pub mod Pairs
 pub mod Published

@@ -21,7 +21,8 @@ use Rattle.gateway_core.specs.Arrivals.{moments_of, present, schedule_at}
 use Rattle.gateway_core.specs.Deliveries.{schedule_in}
 use Rattle.gateway_core.specs.Gives.{GivesEach}
 use Rattle.gateway_core.specs.Recording.{IsRebuiltOf}
-use Rattle.gateway_top.specs.Words.{IsJob, Job, Make, NamedZone, Scope, Show, Task, ToGtfsrt, ToSiri, by_rule, by_file, gtfsrt_task, make_task, serve_job, show_task, siri_task, sx_task, task_job}
+use Rattle.gateway_top.specs.Tables.{Pair}
+use Rattle.gateway_top.specs.Words.{IsJobWith, Job, Make, NamedZone, Scope, Show, Task, ToGtfsrt, ToSiri, by_rule, by_file, gtfsrt_task, make_task, serve_job, show_task, siri_task, sx_task, task_job}
 use Rattle.gateway_top.specs.Work.{Arrived, Arrives, Directory, OverFiles, nothing}
 use Rattle.gateway_core.specs.declared.setting.Setting.{Setting}
 use Rattle.sample_run.specs.Counts.{counts_text}
@@ -123,8 +124,12 @@ abbrev pub OverTold : Job → Option Directory → (Directory → Type 0) → Ty
 OverTold (serve_job command) told Says = IfSome told Says
 OverTold (task_job task) told Says = OverFiles task told Says
 
--- what a run of these words published
-pub record Publishes (words : List (List ℕ)) (told : Option Directory) (before now : Option (List ℕ)) : Type 0 where
+-- what a run of these words published, where `serve` has these optional pairs
+pub record PublishesWith (optional : List Pair) (words : List (List ℕ)) (told : Option Directory)
+    (before now : Option (List ℕ)) : Type 0 where
   pub job : Job
-  pub accepted : IsJob words job
+  pub accepted : IsJobWith optional words job
   pub published : OverTold job told (λ files. PublishesOf job files before now)
+
+abbrev pub Publishes : List (List ℕ) → Option Directory → Option (List ℕ) → Option (List ℕ) → Type 0
+Publishes words told before now = PublishesWith [] words told before now

@@ -1,5 +1,5 @@
 -- What the tables of the code say.
-use Rattle.std.specs.Prelude.{◌&&◌, Bool, List, length, map, nat_lt}
+use Rattle.std.specs.Prelude.{◌&&◌, ◌++◌, Bool, List, length, map, nat_lt}
 use Rattle.std.specs.List.{list_all}
 use Rattle.gateway_top.specs.Forms.{is_connection_count, is_day, is_day_count, is_filled, is_kept_count, is_moment, is_seed, is_stop_count, is_trip_count}
 use Rattle.gateway_top.specs.Tables as table
@@ -26,10 +26,19 @@ pair_of pair = record { flags = map (λ flag. flag.now) pair.flags.now; form = f
 
 abbrev pub row_of : Command → table.Command
 row_of command =
-    record { name = command.name.now; pairs = map pair_of command.pairs.now; repeated = pair_of command.repeated }
+    record {
+      name = command.name.now;
+      pairs = map pair_of command.pairs.now;
+      optional = map pair_of command.optional.now;
+      repeated = pair_of command.repeated;
+    }
+
+-- the pair has a flag
+abbrev pub has_flag : Pair → Bool
+has_flag pair = nat_lt 0 (length pair.flags.now)
 
 -- there is a command, and each pair has a flag: what a table owes, since each form can be met
 abbrev pub have_flags : List Command → Bool
 have_flags commands =
-    nat_lt 0 (length commands) && list_all (λ command. list_all
-    (λ pair. nat_lt 0 (length pair.flags.now)) command.pairs.now) commands
+    nat_lt 0 (length commands)
+    && list_all (λ command. list_all has_flag (command.pairs.now ++ command.optional.now)) commands

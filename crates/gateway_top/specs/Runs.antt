@@ -10,7 +10,8 @@ use Rattle.gateway_top.specs.Done.{Done}
 use Rattle.gateway_top.specs.Exits.{is_free, status_of, text_of}
 use Rattle.gateway_top.specs.Serving.{HasCounted, Served}
 use Rattle.gateway_top.specs.Work.{Directory, OverFiles, IsSettingOf, IsTaskWork}
-use Rattle.gateway_top.specs.Words.{IsJob, IsRefusedAt, Serve, Task, serve_job, task_job}
+use Rattle.gateway_top.specs.Tables.{Pair}
+use Rattle.gateway_top.specs.Words.{IsJobWith, IsRefusedWith, Serve, Task, serve_job, task_job}
 use Rattle.gateway_top.specs.declared.exit.Exit.{Exit}
 use Rattle.gateway_top.specs.declared.exit.Exit.TheVariants.{Failed}
 use Rattle.gateway_core.specs.Arrivals.{Arrival}
@@ -62,9 +63,9 @@ EndsEarly status text ended out err = TellsEnd status text ended err × GotNothi
 -- ---- words of no command
 
 -- a run of words that are no command's
-pub record IsTurnedAway (words : List (List ℕ)) (ended : ℕ) (outside : Outside) : Type 0 where
+pub record IsTurnedAway (optional : List Pair) (words : List (List ℕ)) (ended : ℕ) (outside : Outside) : Type 0 where
   pub at : ℕ
-  pub refused : IsRefusedAt words at
+  pub refused : IsRefusedWith optional words at
   pub ends : EndsEarly 2 (codes "bad word " ++ decimal at) ended outside.out outside.err
 
 -- ---- a command that writes its result and ends
@@ -99,9 +100,9 @@ pub record RunsTask (task : Task) (ended : ℕ) (files : Change Directory) (out 
   pub ends : Ends answer ended out err
 
 -- a run of words of such a command
-pub record IsCarriedOut (words : List (List ℕ)) (ended : ℕ) (outside : Outside) : Type 0 where
+pub record IsCarriedOut (optional : List Pair) (words : List (List ℕ)) (ended : ℕ) (outside : Outside) : Type 0 where
   pub task : Task
-  pub accepted : IsJob words (task_job task)
+  pub accepted : IsJobWith optional words (task_job task)
   pub runs : RunsTask task ended outside.files outside.out outside.err
 
 -- ---- a server
@@ -147,14 +148,14 @@ pub record RunsServer (command : Serve) (past : List Arrival) (ended : ℕ) (fil
   pub cause : answer ≡ Err Failed → HasFailed files
   pub ends : EndsServer command past answer ended err doorway
 
--- a run of words of `serve`, before which nothing had arrived
-pub record IsServing (words : List (List ℕ)) (ended : ℕ) (outside : Outside) : Type 0 where
+-- a run of words of `serve` without a journal, before which nothing had arrived
+pub record IsServing (optional : List Pair) (words : List (List ℕ)) (ended : ℕ) (outside : Outside) : Type 0 where
   pub command : Serve
-  pub accepted : IsJob words (serve_job command)
+  pub accepted : IsJobWith optional words (serve_job command)
   pub runs : RunsServer command [] ended outside.files outside.err outside.doorway
   pub nothing : GotNothing outside.out
 
 -- a run of any words, which ended with that status
 abbrev pub IsRun : List (List ℕ) → ℕ → Outside → Type 0
 IsRun words ended outside =
-    IsTurnedAway words ended outside ⊎ IsCarriedOut words ended outside ⊎ IsServing words ended outside
+    IsTurnedAway [] words ended outside ⊎ IsCarriedOut [] words ended outside ⊎ IsServing [] words ended outside

@@ -6,7 +6,7 @@ use Rattle.gw_base.specs.Count.{Rose}
 use Rattle.gw_base.specs.declared.door.Entry.{Entry}
 use Rattle.gateway_core.specs.Arrivals.{Arrival}
 use Rattle.gateway_core.specs.declared.setting.Setting.{Setting}
-use Rattle.gateway_server.specs.Log.{IsLawfulLog, moments_given}
+use Rattle.gateway_server.specs.Log.{IsLawful, IsLogBy, Leaves, moments_given}
 use Rattle.gateway_server.specs.Serving.{CountsCauses}
 
 -- a log got these entries more
@@ -16,9 +16,9 @@ pub record HasLogged (told : Connections) (now : Beside) (entries : List Entry) 
 
 -- the connections that were served: their entries are the door's next inputs in order, at most so many, and where that
 -- came to its end so many or all that were to come; their moments are those that the clock gave, fewer only where its
--- count rose; and each is lawful after what had arrived before them and what arrived of those before it
-pub record Served (Cause End : Type 0) (most : ℕ) (setting : Setting) (past : List Arrival) (told : Connections)
-    (clock : Change (List ℤ)) (now : Beside) : Type 0 where
+-- count rose; and each is lawful after what there was before them and what there is after those before it
+pub record ServedBy {P : Type 0} (Lawful : P → Entry → Type 0) (LeavesThis : P → Entry → P → Type 0) (End : Type 0)
+    (most : ℕ) (past : P) (told : Connections) (clock : Change (List ℤ)) (now : Beside) : Type 0 where
   pub entries : List Entry
   pub left : Connections
   pub logged : HasLogged told now entries left
@@ -27,8 +27,13 @@ pub record Served (Cause End : Type 0) (most : ℕ) (setting : Setting) (past : 
   pub all : End → (length entries ≡ most) ⊎ (left.coming ≡ [])
   pub moments : clock.before ≡ option_map (λ later. moments_given entries ++ later) clock.now
   pub timed : length (moments_given entries) < length entries → Rose clock.faults_before clock.faults_now
-  pub arrived : List Arrival
-  pub lawful : IsLawfulLog Cause setting past entries arrived
+  pub arrived : P
+  pub lawful : IsLogBy Lawful LeavesThis past entries arrived
+
+-- over a gateway that keeps no bodies, after what had arrived before
+abbrev pub Served : Type 0 → Type 0 → ℕ → Setting → List Arrival → Connections → Change (List ℤ) → Beside → Type 0
+Served Cause End most setting past told clock now =
+    ServedBy (IsLawful Cause setting) (Leaves setting) End most past told clock now
 
 -- each entry that is lost or shorter than its answer, and so many faults besides, have a fault of their own in the
 -- count of the door, and each entry for which the clock failed has one in the clock's

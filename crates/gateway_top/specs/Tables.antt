@@ -14,10 +14,12 @@ pub record Pair : Type 0 where
   pub flags : List (List ℕ)
   pub form : Form
 
--- a command: its name, its pairs, and the pair that may be repeated after them (none where that has no flag)
+-- a command: its name, its pairs, those that may follow them, of which the last ones may be missing, and the pair that
+-- may be repeated after all of them (none where that has no flag)
 pub record Command : Type 0 where
   pub name : List ℕ
   pub pairs : List Pair
+  pub optional : List Pair
   pub repeated : Pair
 
 -- a word is a flag of the pair
@@ -26,10 +28,10 @@ is_flag pair word = list_any (λ flag. pointwise nat_eq flag word) pair.flags
 
 -- the pair of that number: after the last one, the repeated one
 abbrev pub pair_at : Command → ℕ → Pair
-pair_at command number = get_or command.pairs number command.repeated
+pair_at command number = get_or (command.pairs ++ command.optional) number command.repeated
 
 -- the words are the pairs of the command from that number on, after the value before: each of its pairs once, in their
--- order, and then any number of repeated ones
+-- order, then those of the optional ones that are there, and then any number of repeated ones
 abbrev pub ArePairs : Command → ℕ → List ℕ → List (List ℕ) → Type 0
 ArePairs command number before [] = length command.pairs ≤ number
 ArePairs command number before (flag ∷ []) = ⊥
@@ -67,5 +69,5 @@ CanStand pair = (0 < length pair.flags) × CanBeMet pair.form
 
 -- each pair has a flag and a form that can be met: then what is right so far is the start of an accepted list
 pub record IsSatisfiable (command : Command) : Type 0 where
-  pub pairs : AllByRecursion CanStand command.pairs
+  pub pairs : AllByRecursion CanStand (command.pairs ++ command.optional)
   pub repeated : CanBeMet command.repeated.form

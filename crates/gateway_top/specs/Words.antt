@@ -1,5 +1,5 @@
 -- The words of the commands: their table, and what the words of each say.
-use Rattle.std.specs.Prelude.{◌≡◌, ℕ, ℤ, List, [], ◌∷◌, drop, codes, Some, option_and_then, slice_get, nat_eq, if◌then◌else◌}
+use Rattle.std.specs.Prelude.{◌≡◌, ℕ, ℤ, List, [], ◌∷◌, drop, codes, Option, Some, option_and_then, slice_get, nat_eq, if◌then◌else◌}
 use Rattle.std.specs.Cmp.Lexicographic.{pointwise}
 use Rattle.gateway_top.specs.Forms.{is_connection_count, is_day, is_day_count, is_filled, is_kept_count, is_moment, is_seed, is_stop_count, is_trip_count, beginning, connection_count, day_count, kept_count, seed_number, stop_count, trip_count}
 use Rattle.gateway_top.specs.Tables.{Command, Pair, IsAccepted, StopsAt}
@@ -29,6 +29,9 @@ listen_pair = record { flags = codes "--listen" ∷ []; form = is_filled }
 abbrev pub connections_pair : Pair
 connections_pair = record { flags = codes "--connections" ∷ []; form = is_connection_count }
 
+abbrev pub journal_pair : Pair
+journal_pair = record { flags = codes "--journal" ∷ []; form = is_filled }
+
 abbrev pub seed_pair : Pair
 seed_pair = record { flags = codes "--seed" ∷ []; form = is_seed }
 
@@ -42,10 +45,12 @@ stops_pair = record { flags = codes "--stops" ∷ []; form = is_stop_count }
 abbrev pub no_pair : Pair
 no_pair = record { flags = []; form = is_filled }
 
-unfoldable pub serve : Command
-serve = record {
+-- `serve`, with these optional pairs
+unfoldable pub serve : List Pair → Command
+serve optional = record {
   name = codes "serve";
   pairs = over_a_folder (keep_pair ∷ listen_pair ∷ connections_pair ∷ []);
+  optional = optional;
   repeated = no_pair;
 }
 
@@ -53,6 +58,7 @@ unfoldable pub to_gtfsrt : Command
 to_gtfsrt = record {
   name = codes "to-gtfsrt";
   pairs = over_a_folder (at_pair ∷ []);
+  optional = [];
   repeated = record { flags = codes "--et" ∷ codes "--sx" ∷ []; form = is_filled };
 }
 
@@ -60,6 +66,7 @@ unfoldable pub to_siri : Command
 to_siri = record {
   name = codes "to-siri";
   pairs = over_a_folder (at_pair ∷ feed_pair ∷ []);
+  optional = [];
   repeated = no_pair;
 }
 
@@ -67,6 +74,7 @@ unfoldable pub to_siri_sx : Command
 to_siri_sx = record {
   name = codes "to-siri-sx";
   pairs = over_a_folder (at_pair ∷ feed_pair ∷ []);
+  optional = [];
   repeated = no_pair;
 }
 
@@ -74,6 +82,7 @@ unfoldable pub show : Command
 show = record {
   name = codes "show";
   pairs = over_a_folder (feed_pair ∷ []);
+  optional = [];
   repeated = no_pair;
 }
 
@@ -81,11 +90,16 @@ unfoldable pub make : Command
 make = record {
   name = codes "make";
   pairs = seed_pair ∷ trips_pair ∷ stops_pair ∷ [];
+  optional = [];
   repeated = no_pair;
 }
 
-unfoldable pub commands : List Command
-commands = serve ∷ to_gtfsrt ∷ to_siri ∷ to_siri_sx ∷ show ∷ make ∷ []
+-- the commands, where `serve` has these optional pairs: none where there is no disk for a journal, and else one
+unfoldable pub commands : List Pair → List Command
+commands optional = serve optional ∷ to_gtfsrt ∷ to_siri ∷ to_siri_sx ∷ show ∷ make ∷ []
+
+abbrev pub with_journal : List Pair
+with_journal = journal_pair ∷ []
 
 -- a zone by a POSIX rule, or by a TZif file of that path
 pub data NamedZone : Type 0 where
@@ -103,13 +117,14 @@ pub record Scope : Type 0 where
   pub from : ℤ
   pub days : ℕ
 
--- what the words of `serve` say: what it works over, how many days before the local one are kept, the address, and how
--- many connections are served
+-- what the words of `serve` say: what it works over, how many days before the local one are kept, the address, how many
+-- connections are served, and the file of its journal, if it has one
 pub record Serve : Type 0 where
   pub scope : Scope
   pub keep : ℕ
   pub listen : List ℕ
   pub connections : ℕ
+  pub journal : Option (List ℕ)
 
 -- what the words of `to-gtfsrt` say: what it works over, the second since 1970 at which the feed is made, and the words
 -- of the deliveries, for each a flag and a file
@@ -163,6 +178,7 @@ pub record SaysServe (words : List (List ℕ)) (command : Serve) : Type 0 where
   pub keep : option_and_then kept_count (slice_get words 10) ≡ Some command.keep
   pub listen : slice_get words 12 ≡ Some command.listen
   pub connections : option_and_then connection_count (slice_get words 14) ≡ Some command.connections
+  pub journal : slice_get words 16 ≡ command.journal
 
 pub record SaysToGtfsrt (words : List (List ℕ)) (command : ToGtfsrt) : Type 0 where
   pub name : slice_get words 0 ≡ Some (codes "to-gtfsrt")
@@ -204,11 +220,17 @@ abbrev pub Says : List (List ℕ) → Job → Type 0
 Says words (serve_job command) = SaysServe words command
 Says words (task_job task) = SaysTask words task
 
--- the list of words is accepted, as the command that says this
-pub record IsJob (words : List (List ℕ)) (job : Job) : Type 0 where
-  pub accepted : IsAccepted commands words
+-- the list of words is accepted, where `serve` has these optional pairs, as the command that says this
+pub record IsJobWith (optional : List Pair) (words : List (List ℕ)) (job : Job) : Type 0 where
+  pub accepted : IsAccepted (commands optional) words
   pub says : Says words job
 
+abbrev pub IsJob : List (List ℕ) → Job → Type 0
+IsJob words job = IsJobWith [] words job
+
 -- the list isn't accepted, and its longest prefix that an accepted list starts with has that many words
-pub record IsRefusedAt (words : List (List ℕ)) (at : ℕ) : Type 0 where
-  pub stops : StopsAt (IsAccepted commands) words at
+pub record IsRefusedWith (optional : List Pair) (words : List (List ℕ)) (at : ℕ) : Type 0 where
+  pub stops : StopsAt (IsAccepted (commands optional)) words at
+
+abbrev pub IsRefusedAt : List (List ℕ) → ℕ → Type 0
+IsRefusedAt words at = IsRefusedWith [] words at

@@ -1,4 +1,5 @@
 -- What the code's values of commands say, in the words of `Words.antt`.
+use Rattle.std.specs.Prelude.{option_map}
 use Rattle.gateway_top.specs.Words.{Job, NamedZone, Scope as Said, Serve, Task as SaidTask, by_rule, by_file, gtfsrt_task, make_task, serve_job, show_task, siri_task, sx_task, task_job}
 use Rattle.gateway_top.specs.declared.words.Scope.{Scope}
 use Rattle.gateway_top.specs.declared.words.Server.{Server}
@@ -26,6 +27,7 @@ server_of server =
       keep = server.keep;
       listen = server.listen.now;
       connections = server.connections;
+      journal = option_map (λ file. file.now) server.journal;
     }
 
 -- what a command says that writes its result and ends

@@ -12,6 +12,8 @@ mod ending;
 mod exit;
 mod feeds;
 mod folder_end;
+mod kept;
+mod kept_run;
 mod reading;
 mod samples;
 mod server_run;
@@ -21,5 +23,6 @@ mod words;
 mod work;
 
 pub use devices::{DirFiles, StdSink};
+pub use kept::gateway_kept;
 pub use top::{gateway, no_memory, print};
-pub use words::address;
+pub use words::{address, journal};

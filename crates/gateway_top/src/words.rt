@@ -1,7 +1,10 @@
 //! The words of a command line. Only exactly the lists of words of a command are accepted.
-ghost use Rattle.std.specs.Prelude.{◌≡◌, IfOk, IfErr};
+ghost use Rattle.std.specs.Prelude.{◌≡◌, map, IfOk, IfErr, IsTrue};
+ghost use Rattle.std.specs.List.{list_all};
+ghost use Rattle.std.specs.Option.{option_copied};
+ghost use Rattle.gateway_top.specs.Rows.{has_flag, have_flags, pair_of, row_of};
 ghost use Rattle.gateway_top.specs.Words as spec;
-ghost use Rattle.gateway_top.specs.Words.{IsJob, IsRefusedAt, Says, SaysMake, SaysScope, SaysServe, SaysShow, SaysTask, SaysToGtfsrt, SaysToSiri, SaysToSiriSx, zone_by};
+ghost use Rattle.gateway_top.specs.Words.{IsJob, IsJobWith, IsRefusedAt, IsRefusedWith, Says, SaysMake, SaysScope, SaysServe, SaysShow, SaysTask, SaysToGtfsrt, SaysToSiri, SaysToSiriSx, with_journal, zone_by};
 ghost use Rattle.gateway_top.specs.Works.{job_of, scope_of, server_of, task_of, zone_of};
 
 mod forms;
@@ -55,6 +58,8 @@ pub struct Server<'a> {
     pub listen: &'a Text,
     /// How many connections are served.
     pub connections: u32,
+    /// The file of its journal, if it has one.
+    pub journal: Option<&'a Text>,
 }
 
 /// A command that writes its result and ends.
@@ -174,48 +179,66 @@ const STOPS: Pair = Pair {
     form: Form::StopCount,
 };
 
+const JOURNAL: Pair = Pair {
+    flags: &["--journal"],
+    form: Form::Filled,
+};
+
 // No further pair.
 const NONE: Pair = Pair {
     flags: &[],
     form: Form::Filled,
 };
 
-// The commands. In a list of words the value of the pair of number n, from 0 on, is the word of number 2n + 2.
-static COMMANDS: [Command; 6] = [
-    Command {
-        name: "serve",
-        pairs: &[GTFS, ZONE, FROM, DAYS, KEEP, LISTEN, CONNECTIONS],
-        repeated: NONE,
-    },
-    Command {
-        name: "to-gtfsrt",
-        pairs: &[GTFS, ZONE, FROM, DAYS, AT],
-        repeated: Pair {
-            flags: &["--et", "--sx"],
-            form: Form::Filled,
+// The commands, where `serve` has these optional pairs. In a list of words the value of the pair of number n, from 0 on,
+// is the word of number 2n + 2.
+fn commands(optional: &'static [Pair]) -> [Command; 6]
+    requires { IsTrue (list_all has_flag optional.now) }
+    ensures rows { map row_of result ≡ spec.commands (map pair_of optional.now) }
+    ensures flags { IsTrue (have_flags result) }
+{
+    [
+        Command {
+            name: "serve",
+            pairs: &[GTFS, ZONE, FROM, DAYS, KEEP, LISTEN, CONNECTIONS],
+            optional,
+            repeated: NONE,
         },
-    },
-    Command {
-        name: "to-siri",
-        pairs: &[GTFS, ZONE, FROM, DAYS, AT, FEED],
-        repeated: NONE,
-    },
-    Command {
-        name: "to-siri-sx",
-        pairs: &[GTFS, ZONE, FROM, DAYS, AT, FEED],
-        repeated: NONE,
-    },
-    Command {
-        name: "show",
-        pairs: &[GTFS, ZONE, FROM, DAYS, FEED],
-        repeated: NONE,
-    },
-    Command {
-        name: "make",
-        pairs: &[SEED, TRIPS, STOPS],
-        repeated: NONE,
-    },
-];
+        Command {
+            name: "to-gtfsrt",
+            pairs: &[GTFS, ZONE, FROM, DAYS, AT],
+            optional: &[],
+            repeated: Pair {
+                flags: &["--et", "--sx"],
+                form: Form::Filled,
+            },
+        },
+        Command {
+            name: "to-siri",
+            pairs: &[GTFS, ZONE, FROM, DAYS, AT, FEED],
+            optional: &[],
+            repeated: NONE,
+        },
+        Command {
+            name: "to-siri-sx",
+            pairs: &[GTFS, ZONE, FROM, DAYS, AT, FEED],
+            optional: &[],
+            repeated: NONE,
+        },
+        Command {
+            name: "show",
+            pairs: &[GTFS, ZONE, FROM, DAYS, FEED],
+            optional: &[],
+            repeated: NONE,
+        },
+        Command {
+            name: "make",
+            pairs: &[SEED, TRIPS, STOPS],
+            optional: &[],
+            repeated: NONE,
+        },
+    ]
+}
 
 // The zone that a flag and its value name.
 fn zone_word<'a>(flag: &Text, value: &'a Text) -> ZoneWord<'a>
@@ -251,6 +274,7 @@ fn serve(words: &[Text]) -> Server<'_>
         keep: kept_count(&words[10]).unwrap(),
         listen: &words[12],
         connections: connection_count(&words[14]).unwrap(),
+        journal: words.get(16),
     }
 }
 
@@ -315,7 +339,7 @@ fn make(words: &[Text]) -> Task<'_>
 
 // What the words of a command say.
 fn read(words: &[Text]) -> Work<'_>
-    requires { (job : spec.Job) × IsJob words.now job }
+    requires { (job : spec.Job) × Says words.now job }
     ensures { Says words.now (job_of result) }
 {
     match words[0].as_str() {
@@ -330,13 +354,39 @@ fn read(words: &[Text]) -> Work<'_>
 
 /// The address at which connections are to be taken, which is empty for other commands than `serve`. Takes no memory.
 pub fn address(words: &[Text]) -> &str
-    ensures listens { (command : spec.Serve) → IsJob words.now (spec.serve_job command) → result.now ≡ command.listen }
+    ensures listens { (command : spec.Serve) → IsJobWith with_journal words.now (spec.serve_job command)
+        → result.now ≡ command.listen }
 {
-    match job(words) {
+    match kept_job(words) {
         Ok(Work::Serve(server)) => server.listen.as_str(),
         Ok(Work::Task(_task)) => "",
         Err(_bad) => "",
     }
+}
+
+/// The file of the journal of a server; None for other commands than `serve`, and where it has none. Takes no memory.
+pub fn journal(words: &[Text]) -> Option<&str>
+    ensures file { (command : spec.Serve) → IsJobWith with_journal words.now (spec.serve_job command)
+        → option_copied result ≡ command.journal }
+{
+    match kept_job(words) {
+        Ok(Work::Serve(server)) => match server.journal {
+            Some(file) => Some(file.as_str()),
+            None => None,
+        },
+        Ok(Work::Task(_task)) => None,
+        Err(_bad) => None,
+    }
+}
+
+// The command that the words are, where `serve` has these optional pairs, or the word at fault.
+fn job_with<'a>(optional: &'static [Pair], words: &'a [Text]) -> Result<Work<'a>, BadWord>
+    requires { IsTrue (list_all has_flag optional.now) }
+    ensures accepted { IfOk result (λ work. IsJobWith (map pair_of optional.now) words.now (job_of work)) }
+    ensures refused { IfErr result (λ bad. IsRefusedWith (map pair_of optional.now) words.now bad.at) }
+{
+    check(&commands(optional), words)?;
+    Ok(read(words))
 }
 
 /// The command that the words are, or the word at fault. Takes no memory.
@@ -344,6 +394,13 @@ pub fn job(words: &[Text]) -> Result<Work<'_>, BadWord>
     ensures accepted { IfOk result (λ work. IsJob words.now (job_of work)) }
     ensures refused { IfErr result (λ bad. IsRefusedAt words.now bad.at) }
 {
-    check(&COMMANDS, words)?;
-    Ok(read(words))
+    job_with(&[], words)
+}
+
+/// The command that the words are where a server may have a journal, or the word at fault. Takes no memory.
+pub fn kept_job(words: &[Text]) -> Result<Work<'_>, BadWord>
+    ensures accepted { IfOk result (λ work. IsJobWith with_journal words.now (job_of work)) }
+    ensures refused { IfErr result (λ bad. IsRefusedWith with_journal words.now bad.at) }
+{
+    job_with(&[JOURNAL], words)
 }

@@ -1,6 +1,7 @@
 //! Commands as tables of pairs of words, and the place at which words stop being the start of a command.
 ghost use Rattle.std.specs.Prelude.{◌≡◌, ◌≤◌, ◌∷◌, map, drop, length, IfOk, IfErr, IfSome, IsTrue, MatchOption, slice_get};
 ghost use Rattle.std.specs.Option.{option_map, option_copied};
+ghost use Rattle.std.proofs.Common.{get_or};
 ghost use Rattle.gateway_top.specs.Pairs.{IsWrongAt};
 ghost use Rattle.gateway_top.specs.Rows.{form_of, have_flags, pair_of, row_of};
 ghost use Rattle.gateway_top.specs.Tables as spec;
@@ -26,7 +27,9 @@ pub struct Command {
     pub name: &'static str,
     /// Its pairs.
     pub pairs: &'static [Pair],
-    /// The pair after them that there may be any number of: none where it has no flag.
+    /// The pairs that may follow them, of which the last ones may be missing.
+    pub optional: &'static [Pair],
+    /// The pair after all of them that there may be any number of: none where it has no flag.
     pub repeated: Pair,
 }
 
@@ -46,13 +49,24 @@ fn named<'a>(commands: &'a [Command], name: &Text) -> Option<&'a Command>
         .find(|command| command.name == name.as_str())
 }
 
-// The pair of that number: after the last one, the repeated one.
+// The optional pair of that number: after the last one, the repeated one.
+fn optional_at(command: &Command, number: usize) -> &Pair
+    ensures { pair_of result.now
+        ≡ get_or (row_of command.now).optional number (row_of command.now).repeated }
+{
+    match command.optional.get(number) {
+        Some(pair) => pair,
+        None => &command.repeated,
+    }
+}
+
+// The pair of that number: after the last optional one, the repeated one.
 fn pair_at(command: &Command, number: usize) -> &Pair
     ensures { pair_of result.now ≡ spec.pair_at (row_of command.now) number }
 {
     match command.pairs.get(number) {
         Some(pair) => pair,
-        None => &command.repeated,
+        None => optional_at(command, number - command.pairs.len()),
     }
 }
 

@@ -1,10 +1,11 @@
 -- By what was done with the body.
 use Rattle.std.proofs.Common.{◌∙◌, List, subst, sym}
+use Rattle.std.proofs.lemmas.Bool.{true≢false}
 use Rattle.gw_base.specs.Count.{Rose}
 use Rattle.gw_base.specs.declared.door.Mark.{Mark}
 use Rattle.delivery_journal.specs.Kept.{KeptBody}
 use Rattle.gateway_server.specs.Steps.{PutsTaken}
-use Rattle.gateway_server.proofs.CrashLemmas.{keeps_not_taken, keeps_taken, kept_not_taken, kept_taken}
+use Rattle.gateway_server.proofs.CrashLemmas.{failed_so, keeps_not_taken, keeps_taken, kept_not_taken, kept_taken}
 use Rattle.gateway_server.proofs.TakeLemmas.{puts_not_taken, puts_taken}
 use Rattle.gateway_server.proofs.connection.take.Goals as goal
 
@@ -44,3 +45,11 @@ returns-in-Err-clause-keeps g c = λ bytes posts first before keeps.
 pub returns-in-Err-clause-unkept : goal.returns-in-Err-clause-unkept
 returns-in-Err-clause-unkept g c =
     kept_not_taken (g.H.HoldsGateway.held c.args.host.now) (g.H.HoldsGateway.held c.take.new.self) c.in-Err.why c.turn_away.result c.turn_away.ensures.mark c.in-Err.ensures.left
+
+pub returns-in-Ok-clause-failed : goal.returns-in-Ok-clause-failed
+returns-in-Ok-clause-failed g c = λ is. absurd (true≢false (sym c.in-Ok.ensures.left ∙ is))
+
+pub returns-in-Err-clause-failed : goal.returns-in-Err-clause-failed
+returns-in-Err-clause-failed g c =
+    failed_so (g.H.HoldsGateway.held c.args.host.now) (g.H.HoldsGateway.held c.take.new.self) c.in-Err.why
+    (Rose (g.H.HoldsGateway.faults c.args.beside.now) (g.H.HoldsGateway.faults c.take.new.beside)) c.requires.sound c.in-Err.ensures.left c.in-Err.ensures.counts.cause

@@ -1,5 +1,6 @@
 -- No connection yet, one more, and the end.
 use Rattle.std.proofs.Common.{◌≡◌, ◌≤◌, ◌∙◌, ◌+◌, ◌-◌, Bool, List, true, false, ℕ, inl, inr, Result, Ok, Err, ap, arith, refl, subst, sym}
+use Rattle.std.proofs.lemmas.Bool.{true≢false}
 use Rattle.gw_base.specs.Changes.{change}
 use Rattle.gw_base.specs.Count.{Rose}
 use Rattle.gw_base.specs.declared.sink.Failed.{Failed}
@@ -52,6 +53,7 @@ loop-left-init g c = record {
   clock = le_self (g.C.Clock.faults c.args.clock.now);
   keeping = le_self (g.H.HoldsGateway.faults c.args.beside.now);
   ready = c.requires.ready;
+  failed = λ was is. absurd (true≢false (sym was ∙ is));
   few = le_self c.args.connections;
   small = c.requires.small;
   serves = λ told tells past stands.
@@ -73,6 +75,8 @@ loop-left-preserved g c = record {
   clock = le_both (g.C.Clock.faults c.args.clock.now) (g.C.Clock.faults c.loop-left.clock) (g.C.Clock.faults c.serve_one_with.new.clock) c.loop-left.invariant.clock c.serve_one_with.ensures.clock;
   keeping = le_both (g.H.HoldsGateway.faults c.args.beside.now) (g.H.HoldsGateway.faults c.loop-left.beside) (g.H.HoldsGateway.faults c.serve_one_with.new.beside) c.loop-left.invariant.keeping c.serve_one_with.ensures.keeping;
   ready = c.serve_one_with.ensures.ready;
+  failed = λ was is. rose-after (g.H.HoldsGateway.faults c.args.beside.now) (g.H.HoldsGateway.faults c.loop-left.beside) (g.H.HoldsGateway.faults c.serve_one_with.new.beside) c.loop-left.invariant.keeping
+      (c.serve_one_with.ensures.failed is);
   few = fewer c.args.connections c.loop-left.left c.loop-left.invariant.few;
   small = c.serve_one_with.ensures.small;
   serves = λ told tells past stands.

@@ -19,6 +19,8 @@ invariant-loop-left g l = record {
   clock : g.C.Clock.faults l.fn.clock ≤ g.C.Clock.faults l.clock;
   keeping : g.H.HoldsGateway.faults l.fn.beside ≤ g.H.HoldsGateway.faults l.beside;
   ready : (g.H.HoldsGateway.held l.host).is_sound ≡ true → g.H.HoldsGateway.is_ready l.host l.beside;
+  failed : (g.H.HoldsGateway.held l.fn.host).is_sound ≡ true → (g.H.HoldsGateway.held l.host).is_sound ≡ false
+      → Rose (g.H.HoldsGateway.faults l.fn.beside) (g.H.HoldsGateway.faults l.beside);
   few : l.left ≤ l.connections;
   small : g.H.Body.TakesBody.taken l.posted ≤ body_limit;
   serves : (told : Connections) → Tells (g.D.Sink.told l.fn.door) (g.D.Sink.beside l.fn.door) told → (past : Past) → StandsFor (g.H.HoldsGateway.held l.fn.host) past

@@ -1,5 +1,5 @@
 -- What a run shows and publishes, by its words.
-use Rattle.std.proofs.Common.{inl, inr, refl}
+use Rattle.std.proofs.Common.{inl, inr, refl, []}
 use Rattle.std.specs.Prelude.{ℕ, ◌≡◌}
 use Rattle.gw_base.specs.Changes.{change}
 use Rattle.gw_base.specs.Count.{Rose}
@@ -13,11 +13,11 @@ use Rattle.gateway_top.proofs.top.gateway.Goals as goal
 -- ---- a server
 
 pub run_server-requires-clause-window : goal.run_server-requires-clause-window
-run_server-requires-clause-window g c = serves c.args.words.now (server_of c.in-Ok-Serve.server) (rw c.in-Ok-Serve.field-0-is at c.in-Ok-Serve.ensures.accepted)
+run_server-requires-clause-window g c = serves [] c.args.words.now (server_of c.in-Ok-Serve.server) (rw c.in-Ok-Serve.field-0-is at c.in-Ok-Serve.ensures.accepted)
 
 pub returns-in-Ok-Serve-clause-headline : goal.returns-in-Ok-Serve-clause-headline
 returns-in-Ok-Serve-clause-headline g c =
-    of_run c.args.words.now (server_of c.in-Ok-Serve.server) c.run_server.result (change g.F.Files.told g.F.Files.faults c.args.files.now c.run_server.new.files)
+    of_run [] c.args.words.now (server_of c.in-Ok-Serve.server) [] c.run_server.result (change g.F.Files.told g.F.Files.faults c.args.files.now c.run_server.new.files)
     (change g.E.Sink.told g.E.Sink.faults c.args.err.now c.run_server.new.err)
     (record {
       output = change g.D.Sink.told g.D.Sink.faults c.args.door.now c.run_server.new.door;
@@ -37,27 +37,27 @@ returns-in-Ok-Serve-clause-run g c = inr (inr (record {
 
 pub returns-in-Ok-Serve-clause-publishes : goal.returns-in-Ok-Serve-clause-publishes
 returns-in-Ok-Serve-clause-publishes g c = λ _.
-    by_server c.args.words.now (g.F.Files.told c.args.files.now) (server_of c.in-Ok-Serve.server) (g.S.Sink.told c.args.out.now) (rw c.in-Ok-Serve.field-0-is at c.in-Ok-Serve.ensures.accepted)
+    by_server [] c.args.words.now (g.F.Files.told c.args.files.now) (server_of c.in-Ok-Serve.server) (g.S.Sink.told c.args.out.now) (rw c.in-Ok-Serve.field-0-is at c.in-Ok-Serve.ensures.accepted)
 
 pub returns-in-Ok-Serve-clause-uncalled : goal.returns-in-Ok-Serve-clause-uncalled
 returns-in-Ok-Serve-clause-uncalled g c = λ two. absurd (c.run_server.ensures.worded two)
 
 pub returns-in-Ok-Serve-clause-idle : goal.returns-in-Ok-Serve-clause-idle
 returns-in-Ok-Serve-clause-idle g c = λ task is.
-    absurd (not_both c.args.words.now (server_of c.in-Ok-Serve.server) task (rw c.in-Ok-Serve.field-0-is at c.in-Ok-Serve.ensures.accepted) is)
+    absurd (not_both c.args.words.now (server_of c.in-Ok-Serve.server) task (rw c.in-Ok-Serve.field-0-is at c.in-Ok-Serve.ensures.accepted).says is.says)
 
 pub returns-in-Ok-Serve-clause-unread : goal.returns-in-Ok-Serve-clause-unread
 returns-in-Ok-Serve-clause-unread g c = λ command is.
-    absurd (not_both c.args.words.now (server_of c.in-Ok-Serve.server) (make_task command) (rw c.in-Ok-Serve.field-0-is at c.in-Ok-Serve.ensures.accepted) is)
+    absurd (not_both c.args.words.now (server_of c.in-Ok-Serve.server) (make_task command) (rw c.in-Ok-Serve.field-0-is at c.in-Ok-Serve.ensures.accepted).says is.says)
 
 -- ---- a command that ends
 
 pub run_task-requires : goal.run_task-requires
-run_task-requires g c = can_run c.args.words.now (task_of c.in-Ok-Task.task) (rw c.in-Ok-Task.field-0-is at c.in-Ok-Task.ensures.accepted)
+run_task-requires g c = can_run [] c.args.words.now (task_of c.in-Ok-Task.task) (rw c.in-Ok-Task.field-0-is at c.in-Ok-Task.ensures.accepted)
 
 pub returns-in-Ok-Task-clause-headline : goal.returns-in-Ok-Task-clause-headline
 returns-in-Ok-Task-clause-headline g c =
-    idle (Rose (g.D.Sink.faults c.args.door.now) (g.D.Sink.faults c.args.door.now)) c.args.words.now (g.F.Files.told c.args.files.now)
+    idle [] (Rose (g.D.Sink.faults c.args.door.now) (g.D.Sink.faults c.args.door.now)) c.args.words.now (g.F.Files.told c.args.files.now) []
     (g.D.Sink.told c.args.door.now) (g.D.Sink.beside c.args.door.now)
 
 pub returns-in-Ok-Task-clause-run : goal.returns-in-Ok-Task-clause-run
@@ -69,11 +69,11 @@ returns-in-Ok-Task-clause-run g c = inr (inl (record {
 
 pub returns-in-Ok-Task-clause-publishes : goal.returns-in-Ok-Task-clause-publishes
 returns-in-Ok-Task-clause-publishes g c = λ zero.
-    by_task c.args.words.now (g.F.Files.told c.args.files.now) (task_of c.in-Ok-Task.task) _ _ (rw c.in-Ok-Task.field-0-is at c.in-Ok-Task.ensures.accepted) (c.run_task.ensures.publishes zero)
+    by_task [] c.args.words.now (g.F.Files.told c.args.files.now) (task_of c.in-Ok-Task.task) _ _ (rw c.in-Ok-Task.field-0-is at c.in-Ok-Task.ensures.accepted) (c.run_task.ensures.publishes zero)
 
 pub returns-in-Ok-Task-clause-unread : goal.returns-in-Ok-Task-clause-unread
 returns-in-Ok-Task-clause-unread g c = λ command is.
-    c.run_task.ensures.unread (reads_none c.args.words.now (task_of c.in-Ok-Task.task) command (rw c.in-Ok-Task.field-0-is at c.in-Ok-Task.ensures.accepted) is)
+    c.run_task.ensures.unread (reads_none c.args.words.now (task_of c.in-Ok-Task.task) command (rw c.in-Ok-Task.field-0-is at c.in-Ok-Task.ensures.accepted).says is.says)
 
 pub returns-in-Ok-Task-clause-uncalled : goal.returns-in-Ok-Task-clause-uncalled
 returns-in-Ok-Task-clause-uncalled g c = λ two. absurd (c.run_task.ensures.worded two)
@@ -82,7 +82,7 @@ returns-in-Ok-Task-clause-uncalled g c = λ two. absurd (c.run_task.ensures.word
 
 pub returns-in-Err-clause-headline : goal.returns-in-Err-clause-headline
 returns-in-Err-clause-headline g c =
-    idle (Rose (g.D.Sink.faults c.args.door.now) (g.D.Sink.faults c.args.door.now)) c.args.words.now (g.F.Files.told c.args.files.now)
+    idle [] (Rose (g.D.Sink.faults c.args.door.now) (g.D.Sink.faults c.args.door.now)) c.args.words.now (g.F.Files.told c.args.files.now) []
     (g.D.Sink.told c.args.door.now) (g.D.Sink.beside c.args.door.now)
 
 pub returns-in-Err-clause-publishes : goal.returns-in-Err-clause-publishes
