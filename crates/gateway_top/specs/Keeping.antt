@@ -71,7 +71,7 @@ CountsKeptFaults setting past disk besides doorway =
     doorway.output.faults_now doorway.clock.faults_before doorway.clock.faults_now
 
 -- a server whose connections came to an end: with status 0 and nothing told; with 74 where its door failed, which is
--- one fault besides those of the connections; or with 74 where its disk failed, and then the last entry is marked Unkept
+-- one fault besides those of the connections; or with 74 where its disk failed, and then the last entry is Unkept
 abbrev pub EndsKeeping : Setting → Past → Kept → ℕ → Change (List ℕ) → Doorway → Type 0
 EndsKeeping setting past disk ended err doorway =
     ((ended ≡ 0) × GotNothing err × CountsKeptFaults setting past disk 0 doorway)
