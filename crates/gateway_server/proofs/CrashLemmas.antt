@@ -15,7 +15,7 @@ use Rattle.http_talk.specs.declared.refusal.BodyFault.{BodyFault}
 use Rattle.delivery_journal.specs.Kept.{KeptBody}
 use Rattle.gateway_server.specs.Bodies.{fault_of, mark_for, refused_mark, taken_mark}
 use Rattle.gateway_server.specs.Crashes.{AreBodies, HoldsOfBodies, IsPostedIn}
-use Rattle.gateway_server.specs.Holding.{Held, IsLeft, Room, failed_of, taken_of}
+use Rattle.gateway_server.specs.Holding.{Held, IsLeft, IsUnkept, Room, failed_of, taken_of}
 use Rattle.gateway_server.specs.Log.{is_taken}
 use Rattle.gateway_server.specs.Past.{Past, StandsFor, is_unkept}
 use Rattle.gateway_server.specs.Serving.{IsFresh, IsLogged, ServesAfter, Tells}

@@ -27,14 +27,14 @@ use Rattle.gateway_durable.proofs.FoundLemmas.{found_kept}
 use Rattle.gateway_server.specs.Crashes.{HoldsOfBodies}
 use Rattle.gateway_server.specs.Holding.{Held, Room}
 use Rattle.gateway_server.specs.Log.{IsLogBy}
-use Rattle.gateway_server.specs.Durable.{held_of}
+use Rattle.gateway_server.specs.Durable.{held_of, journal_room}
 use Rattle.gateway_server.specs.Past.{IsLawfulAfter, LeavesPast, Past, StandsFor, is_unkept}
 use Rattle.gateway_server.specs.Serving.{CountsCausesAfter, IsEnd, ServesAllAfter, Tells}
 use Rattle.gateway_server.proofs.CauseLemmas.{caused_wider}
 use Rattle.gateway_server.proofs.LoopLemmas.{log_wider}
 use Rattle.gateway_top.specs.Exits.{is_free}
 use Rattle.gateway_top.specs.Headline.{HeadlineBy, HeadlineWith, ShowsAsTold}
-use Rattle.gateway_top.specs.Keeping.{BeginsWith, EndsKept, EndsServed, EndsUnkept, HeadlineKept, HoldsMore, Kept, RunsKept, ShowsAsKept, SurvivesRun}
+use Rattle.gateway_top.specs.Keeping.{BeginsWith, CountsKeptFaults, EndsKeeping, EndsKept, EndsServed, EndsUnkept, HeadlineKept, HoldsMore, Kept, RunsKept, ShowsAsKept, SurvivesRun}
 use Rattle.gateway_top.specs.Runs.{Doorway, HasFailed}
 use Rattle.gateway_top.specs.Serving.{HasLogged, ServedBy}
 use Rattle.gateway_top.specs.Work.{Directory, IsSettingOf}
@@ -131,6 +131,30 @@ causes_as Unkept Wider room setting own past entries further da db ca cb same wi
       door = counts.door;
       clock = counts.clock;
     })
+
+-- a server that was opened again, by what it served over the setting that it has
+module _ (setting own : Setting) (disk : Kept) (Unkept : Type 0) (doorway : Doorway) (past : Past) (same : own ≡ setting) (wider : Unkept → disk.Failed) where
+  pub counts_kept : (besides : ℕ)
+      → ((told : Connections) → Tells doorway.output.before doorway.before told → (entries : List Entry) (left : Connections) → HasLogged told doorway.now entries left
+      → CountsCausesAfter Unkept journal_room own past entries besides doorway.output.faults_before doorway.output.faults_now doorway.clock.faults_before doorway.clock.faults_now)
+      → CountsKeptFaults setting past disk besides doorway
+  counts_kept besides causes told tells entries left logged =
+      causes_as Unkept disk.Failed journal_room setting own past entries besides doorway.output.faults_before doorway.output.faults_now doorway.clock.faults_before doorway.clock.faults_now same wider
+      (causes told tells entries left logged)
+
+  pub ends_served : (command : Serve) (ended : ℕ) (err : Change (List ℕ)) (End : Type 0)
+      → WhereTold disk.told (λ file. BeginsWith setting file past) → past.is_sound ≡ true → EndsKeeping setting past disk ended err doorway → (ended ≡ 0 → End)
+      → ((told : Connections) → Tells doorway.output.before doorway.before told
+      → ServedBy (IsLawfulAfter (HasFailed doorway.output) Unkept journal_room own) (LeavesPast journal_room own) End command.connections past told doorway.clock doorway.now)
+      → EndsServed command setting disk ended err doorway
+  ends_served command ended err End begins sound ends by served = record {
+    past = past;
+    begins = begins;
+    sound = sound;
+    ends = ends;
+    served = λ told tells.
+        served_as (HasFailed doorway.output) Unkept disk.Failed End (ended ≡ 0) journal_room setting own command.connections past told doorway.clock doorway.now same wider by (served told tells);
+  }
 
 -- ---- what is shown
 

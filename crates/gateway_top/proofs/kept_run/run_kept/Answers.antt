@@ -2,6 +2,7 @@
 use Rattle.std.proofs.Common.{Bool, true, false, List, Ok, Err, refl, ap, sym, ◌∙◌, inl, inr, subst}
 use Rattle.std.specs.Prelude.{◌≡◌, ℕ, IsOk}
 use Rattle.gw_base.specs.Changes.{change}
+use Rattle.gw_base.specs.Connections.{Beside}
 use Rattle.gw_base.specs.Count.{Rose}
 use Rattle.gw_base.specs.declared.door.Entry.{Entry}
 use Rattle.gw_base.proofs.CountLemmas.{rose-after}
@@ -62,3 +63,37 @@ returns-in-Err-reopened-clause-crash g c = λ file is told tells entries left lo
 
 pub returns-in-Err-reopened-clause-worded : goal.returns-in-Err-reopened-clause-worded
 returns-in-Err-reopened-clause-worded g c = not_turned_away c.in-Err-reopened.exit c.ended-in-Err-reopened.result c.ended-in-Err-reopened.ensures.status
+
+-- memory for what the first connection needs
+
+pub returns-in-Err-served-clause-run : goal.returns-in-Err-served-clause-run
+returns-in-Err-served-clause-run g c = record {
+  answer = Ok c.in-Ok.setting;
+  work = c.in-Ok.ensures.told;
+  cause = λ is. absurd cc;
+  ends = inl (record {
+    why = why.Memory;
+    refused = λ file is. tt;
+    cause = λ is. absurd cc;
+    ends = record { status_is = c.ended-in-Err-served.ensures.status; told = c.ended-in-Err-served.ensures.front };
+    uncalled = record {
+      output = ap g.D.Sink.told c.in-Err-served.ensures.memory.0;
+      output_faults = ap g.D.Sink.faults c.in-Err-served.ensures.memory.0;
+      connections = ap g.D.Sink.beside c.in-Err-served.ensures.memory.0;
+      clock = ap g.C.Clock.told c.in-Err-served.ensures.memory.1;
+      clock_faults = ap g.C.Clock.faults c.in-Err-served.ensures.memory.1;
+    };
+  });
+}
+
+pub returns-in-Err-served-clause-crash : goal.returns-in-Err-served-clause-crash
+returns-in-Err-served-clause-crash g c = λ file is told tells entries left logged.
+    let same = c.in-Err-served.ensures.memory in
+    (true, subst (λ (all : List Entry). HoldsOfBodies (SurvivesRun g.K.Disk.may_leave g.K.Disk.clock g.K.Disk.left_since c.args.disk.now c.served.new.disk file) true all)
+    (sym (no_entries told (g.D.Sink.beside c.served.new.door) left entries (ap (λ (b : Beside). b.told) (ap g.D.Sink.beside same.0) ∙ tells.tells) logged))
+    (rw same.2 (unlogged g.K.Disk.told g.K.Disk.may_leave g.K.Disk.clock g.K.Disk.left_since c.args.disk.now c.reopened.new.disk file (c.in-Ok-reopened.ensures.any_moment file is))))
+
+pub returns-in-Err-served-clause-worded : goal.returns-in-Err-served-clause-worded
+returns-in-Err-served-clause-worded g c = not_turned_away Memory c.ended-in-Err-served.result c.ended-in-Err-served.ensures.status
+
+-- connections
