@@ -1,5 +1,5 @@
 -- What values of a form are read as, and a value of each form.
-use Rattle.std.proofs.Common.{◌≡◌, refl, ℕ, ◌≤◌, ℤ, List, [], ◌∷◌, map, Option, Some, None, Result, Ok, length, subst, arith, rules, Bool, true, false, cond, ◌&&◌}
+use Rattle.std.proofs.Common.{◌≡◌, ◌++◌, refl, ℕ, ◌≤◌, ℤ, List, [], ◌∷◌, map, Option, Some, None, Result, Ok, length, subst, arith, rules, Bool, true, false, cond, ◌&&◌}
 use Rattle.std.proofs.lemmas.Bool.{and_parts}
 use Rattle.std.specs.Prelude.{IsTrue, pos, codes, int_le, nat_le, nat_lt}
 use Rattle.std.proofs.Math.IntN.{+ℤ-neg_ℤ_cancel}
@@ -10,14 +10,14 @@ use Rattle.std.specs.Str.Parse.{ParsesUnsigned}
 use Rattle.std.proofs.lemmas.Option.{none-some, same_Some, option_and_then_some}
 use Rattle.std.proofs.lemmas.Str.Parse.{IsNumeralModel, numerals_by_fold, parse_gives, digits_value_short}
 use Rattle.gateway_top.specs.Forms.{is_connection_count, is_day, is_day_count, is_filled, is_kept_count, is_moment, is_seed, is_stop_count, is_trip_count, beginning, day_count, decimal_number, is_number, going_on, ends_in_time, first_day, keeps_fewer, last_day, most_days}
-use Rattle.gateway_top.specs.Rows.{form_of, pair_of, row_of, have_flags}
+use Rattle.gateway_top.specs.Rows.{form_of, has_flag, pair_of, row_of, have_flags}
 use Rattle.gateway_top.specs.Tables.{CanBeMet, CanStand, IsSatisfiable}
 use Rattle.gateway_top.proofs.TableLemmas.{AreSatisfiable}
 use Rattle.gateway_top.specs.declared.words.forms.Form as declared
 use Rattle.gateway_top.specs.declared.words.forms.Form.TheVariants as form
 use Rattle.gateway_top.specs.declared.words.table.Command.{Command}
 use Rattle.gateway_top.specs.declared.words.table.Pair.{Pair}
-use Rattle.std.proofs.lemmas.List.{length-map}
+use Rattle.std.proofs.lemmas.List.{length-map, map-append}
 use Rattle.service_day.specs.DayTexts.{day_of, dashed_text}
 use Rattle.service_day.specs.declared.days.DayForm.TheVariants.{Dashed}
 use Rattle.service_day.specs.Utc.{moment_text}

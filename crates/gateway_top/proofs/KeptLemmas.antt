@@ -34,7 +34,7 @@ use Rattle.gateway_server.proofs.CauseLemmas.{caused_wider}
 use Rattle.gateway_server.proofs.LoopLemmas.{log_wider}
 use Rattle.gateway_top.specs.Exits.{is_free}
 use Rattle.gateway_top.specs.Headline.{HeadlineBy, HeadlineWith, ShowsAsTold}
-use Rattle.gateway_top.specs.Keeping.{BeginsWith, CountsKeptFaults, EndsKeeping, EndsKept, EndsServed, EndsUnkept, HeadlineKept, HoldsMore, Kept, RunsKept, ShowsAsKept, SurvivesRun}
+use Rattle.gateway_top.specs.Keeping.{BeginsWith, CountsKeptFaults, EndsKeeping, EndsKept, EndsServed, EndsUnkept, HeadlineKept, HoldsMore, RunsKept, ShowsAsKept, SurvivesRun}
 use Rattle.gateway_top.specs.Runs.{Doorway, HasFailed}
 use Rattle.gateway_top.specs.Serving.{HasLogged, ServedBy}
 use Rattle.gateway_top.specs.Work.{Directory, IsSettingOf}
@@ -133,17 +133,17 @@ causes_as Unkept Wider room setting own past entries further da db ca cb same wi
     })
 
 -- a server that was opened again, by what it served over the setting that it has
-module _ (setting own : Setting) (disk : Kept) (Unkept : Type 0) (doorway : Doorway) (past : Past) (same : own ≡ setting) (wider : Unkept → disk.Failed) where
+module _ (setting own : Setting) (disk : Change (List ℕ)) (Unkept : Type 0) (doorway : Doorway) (past : Past) (same : own ≡ setting) (wider : Unkept → HasFailed disk) where
   pub counts_kept : (besides : ℕ)
       → ((told : Connections) → Tells doorway.output.before doorway.before told → (entries : List Entry) (left : Connections) → HasLogged told doorway.now entries left
       → CountsCausesAfter Unkept journal_room own past entries besides doorway.output.faults_before doorway.output.faults_now doorway.clock.faults_before doorway.clock.faults_now)
       → CountsKeptFaults setting past disk besides doorway
   counts_kept besides causes told tells entries left logged =
-      causes_as Unkept disk.Failed journal_room setting own past entries besides doorway.output.faults_before doorway.output.faults_now doorway.clock.faults_before doorway.clock.faults_now same wider
+      causes_as Unkept (HasFailed disk) journal_room setting own past entries besides doorway.output.faults_before doorway.output.faults_now doorway.clock.faults_before doorway.clock.faults_now same wider
       (causes told tells entries left logged)
 
   pub ends_served : (command : Serve) (ended : ℕ) (err : Change (List ℕ)) (End : Type 0)
-      → WhereTold disk.told (λ file. BeginsWith setting file past) → past.is_sound ≡ true → EndsKeeping setting past disk ended err doorway → (ended ≡ 0 → End)
+      → WhereTold disk.before (λ file. BeginsWith setting file past) → past.is_sound ≡ true → EndsKeeping setting past disk ended err doorway → (ended ≡ 0 → End)
       → ((told : Connections) → Tells doorway.output.before doorway.before told
       → ServedBy (IsLawfulAfter (HasFailed doorway.output) Unkept journal_room own) (LeavesPast journal_room own) End command.connections past told doorway.clock doorway.now)
       → EndsServed command setting disk ended err doorway
@@ -153,7 +153,7 @@ module _ (setting own : Setting) (disk : Kept) (Unkept : Type 0) (doorway : Door
     sound = sound;
     ends = ends;
     served = λ told tells.
-        served_as (HasFailed doorway.output) Unkept disk.Failed End (ended ≡ 0) journal_room setting own command.connections past told doorway.clock doorway.now same wider by (served told tells);
+        served_as (HasFailed doorway.output) Unkept (HasFailed disk) End (ended ≡ 0) journal_room setting own command.connections past told doorway.clock doorway.now same wider by (served told tells);
   }
 
 -- ---- what is shown
@@ -208,14 +208,14 @@ of_bare Cause words (Some folder) disk command output beside now accepted none h
     without_journal Cause words folder disk command told now accepted none (headline told tells)
 
 -- a server with a journal
-pub of_kept : (words : List (List ℕ)) (command : Serve) (journal : List ℕ) (disk : Kept) (ended : ℕ) (files : Change Directory) (err : Change (List ℕ)) (doorway : Doorway)
+pub of_kept : (words : List (List ℕ)) (command : Serve) (journal : List ℕ) (disk : Change (List ℕ)) (ended : ℕ) (files : Change Directory) (err : Change (List ℕ)) (doorway : Doorway)
     → IsJobWith with_journal words (serve_job command) → command.journal ≡ Some journal → RunsKept command disk ended files err doorway
     → IfSome files.before (λ folder. (told : Connections) → Tells doorway.output.before doorway.before told
-    → HeadlineKept (HasFailed doorway.output) words folder disk.told told doorway.now)
+    → HeadlineKept (HasFailed doorway.output) words folder disk.before told doorway.now)
 of_kept words command journal disk ended files err doorway accepted has runs = by files.before runs.answer runs.work runs.ends
   where
     served : (folder : Directory) (setting : Setting) → IsSettingOf command.scope (Some command.keep) folder (Ok setting) → EndsServed command setting disk ended err doorway
-        → (told : Connections) → Tells doorway.output.before doorway.before told → HeadlineKept (HasFailed doorway.output) words folder disk.told told doorway.now
+        → (told : Connections) → Tells doorway.output.before doorway.before told → HeadlineKept (HasFailed doorway.output) words folder disk.before told doorway.now
     served folder setting setting_is ends told tells =
         let all = ends.served told tells in
         record {
@@ -231,17 +231,17 @@ of_kept words command journal disk ended files err doorway accepted has runs = b
             arrived = rw has (λ file here.
                 let begins = ends.begins file here in
                 (begins.bodies, begins.holds, begins.replays));
-            shows = after_shows (HasFailed doorway.output) disk.Failed _ setting ends.past all.arrived earlier entry later
-                (subst (λ (entries : List Entry). IsLogBy _ _ ends.past entries all.arrived) is all.lawful) shown;
+            shows = after_shows (HasFailed doorway.output) (HasFailed disk) journal_room setting ends.past all.arrived earlier entry later
+                (subst (λ (entries : List Entry). IsLogBy (IsLawfulAfter (HasFailed doorway.output) (HasFailed disk) journal_room setting) (LeavesPast journal_room setting) ends.past entries all.arrived) is all.lawful) shown;
           };
         }
 
     by : (before : Option Directory) (answer : Result Setting Exit)
         → IfSome before (λ folder. UnlessFree is_free answer (IsSettingOf command.scope (Some command.keep) folder)) → EndsKept command disk answer ended err doorway
-        → IfSome before (λ folder. (told : Connections) → Tells doorway.output.before doorway.before told → HeadlineKept (HasFailed doorway.output) words folder disk.told told doorway.now)
+        → IfSome before (λ folder. (told : Connections) → Tells doorway.output.before doorway.before told → HeadlineKept (HasFailed doorway.output) words folder disk.before told doorway.now)
     by None answer work ends = tt
-    by (Some folder) (Err exit) work ends = λ told tells. nothing_shown (HasFailed doorway.output) words folder disk.told told doorway.before doorway.now tells.tells ends.1.connections
-    by (Some folder) (Ok setting) work (inl ends) = λ told tells. nothing_shown (HasFailed doorway.output) words folder disk.told told doorway.before doorway.now tells.tells ends.uncalled.connections
+    by (Some folder) (Err exit) work ends = λ told tells. nothing_shown (HasFailed doorway.output) words folder disk.before told doorway.before doorway.now tells.tells ends.1.connections
+    by (Some folder) (Ok setting) work (inl ends) = λ told tells. nothing_shown (HasFailed doorway.output) words folder disk.before told doorway.before doorway.now tells.tells ends.uncalled.connections
     by (Some folder) (Ok setting) work (inr ends) = served folder setting work ends
 
 -- ---- what there is before the first connection
@@ -259,7 +259,7 @@ found_end : (bytes : List ℕ) (skip at : ℕ) (all : Found) → found_from skip
 found_end [] zero at all is = absurd cc
 found_end [] (suc skip) at all is = absurd cc
 found_end (byte ∷ bytes) (suc skip) at all is = found_end bytes skip at all is
-found_end (gate ∷ bytes) zero at all is = by (gate == 0) (record_of bytes) is
+found_end (gate ∷ bytes) zero at all is = by (gate == 0) (record_of bytes) (λ k f e. found_end bytes (13 + length k.body) (at + 14 + length k.body) f e) is
   where
     after : (one : KeptBody) (found : Result Found OpenFault) → ((f : Found) → found ≡ Ok f → f.end ≡ (at + 14 + length one.body) + size_of f.bodies)
         → with_first one found ≡ Ok all → all.end ≡ at + size_of all.bodies
@@ -269,12 +269,13 @@ found_end (gate ∷ bytes) zero at all is = by (gate == 0) (record_of bytes) is
     after one (Err fault) rest e = absurd cc
 
     by : (shut : Bool) (one : Option KeptBody)
+        → ((k : KeptBody) (f : Found) → found_from (13 + length k.body) (at + 14 + length k.body) bytes ≡ Ok f → f.end ≡ (at + 14 + length k.body) + size_of f.bodies)
         → (if shut then Ok (record { bodies = []; end = at })
         else option_map_or (λ (k : KeptBody). with_first k (found_from (13 + length k.body) (at + 14 + length k.body) bytes)) one (Err (Damaged at))) ≡ Ok all
         → all.end ≡ at + size_of all.bodies
-    by true one e = let same : all ≡ record { bodies = []; end = at } = cc in subst (λ (a : Found). a.end ≡ at + size_of a.bodies) (sym same) (omega arith)
-    by false None e = absurd cc
-    by false (Some k) e = after k (found_from (13 + length k.body) (at + 14 + length k.body) bytes) (λ f is. found_end bytes (13 + length k.body) (at + 14 + length k.body) f is) e
+    by true one rest e = let same : all ≡ record { bodies = []; end = at } = cc in subst (λ (a : Found). a.end ≡ at + size_of a.bodies) (sym same) (omega arith)
+    by false None rest e = absurd cc
+    by false (Some k) rest e = after k (found_from (13 + length k.body) (at + 14 + length k.body) bytes) (rest k) e
 
 pub file_end : (file : List ℕ) (all : Found) → found file ≡ Ok all → all.end ≡ place_after all.bodies
 file_end file all is = by (bytes_eq (take 8 file) magic) is
@@ -368,7 +369,7 @@ module _ {D : Type 0} (told : D → Option (List ℕ)) (may_leave : D → List �
           opened all.holds.any_moment first next;
       at_end = inr (λ image left.
           let held_more = all.holds.from_now image left in
-          (take held_more.0 all.failed, held_more.2 ∙ rw held (ap Ok (append_assoc bodies all.taken (take held_more.0 all.failed)))));
+          (take held_more.0 all.failed, held_more.2 ∙ rw held refl));
     };
   }
     where

@@ -1,6 +1,6 @@
 -- How a run of `serve` with a journal ends, in which each body is on a disk before it is acknowledged; and what a crash
 -- leaves of that disk.
-use Rattle.std.specs.Prelude.{◌≡◌, ◌≤◌, ◌⊎◌, ◌++◌, ℕ, ℤ, List, [], ◌∷◌, codes, decimal, length, take, Option, Some, None, Result, Ok, Err, IfSome}
+use Rattle.std.specs.Prelude.{◌≡◌, ◌≤◌, ◌⊎◌, ◌++◌, ℕ, ℤ, List, [], ◌∷◌, codes, decimal, length, take, true, Option, Some, None, Result, Ok, Err, IfSome}
 use Rattle.gw_base.specs.Answers.{UnlessFree}
 use Rattle.gw_base.specs.Chains.{ok_map}
 use Rattle.gw_base.specs.Changes.{Change}
@@ -48,52 +48,47 @@ abbrev pub EndsUnkept : List Entry → Type 0
 EndsUnkept entries =
     (before : List Entry) × (last : Entry) × (entries ≡ before ++ last ∷ []) × (is_unkept last.mark ≡ true)
 
--- what a run did to the disk: what it told before, and whether its count of faults rose
-pub record Kept : Type 0 where
-  pub told : Option (List ℕ)
-  pub Failed : Type 0
-
 -- the journal isn't opened again, for this cause, and neither door nor clock was called
-pub record EndsUnopened (setting : Setting) (disk : Kept) (ended : ℕ) (err : Change (List ℕ)) (doorway : Doorway)
+pub record EndsUnopened (setting : Setting) (disk : Change (List ℕ)) (ended : ℕ) (err : Change (List ℕ)) (doorway : Doorway)
     : Type 0 where
   pub why : ReopenFault
-  pub refused : WhereTold disk.told (λ file. RefusesFile setting file why)
-  pub cause : why ≡ Disk → disk.Failed
+  pub refused : WhereTold disk.before (λ file. RefusesFile setting file why)
+  pub cause : why ≡ Disk → HasFailed disk
   pub ends : TellsEnd (status_of (reopen_end why)) (text_of (reopen_end why)) ended err
   pub uncalled : IsUncalled doorway
 
 -- the faults at a door that tells its connections: those of its entries, and so many besides
-abbrev pub CountsKeptFaults : Setting → Past → Kept → ℕ → Doorway → Type 0
+abbrev pub CountsKeptFaults : Setting → Past → Change (List ℕ) → ℕ → Doorway → Type 0
 CountsKeptFaults setting past disk besides doorway =
     (told : Connections) → Tells doorway.output.before doorway.before told
     → (entries : List Entry) (left : Connections) → HasLogged told doorway.now entries left
-    → CountsCausesAfter disk.Failed journal_room setting past entries besides doorway.output.faults_before
+    → CountsCausesAfter (HasFailed disk) journal_room setting past entries besides doorway.output.faults_before
     doorway.output.faults_now doorway.clock.faults_before doorway.clock.faults_now
 
 -- a server whose connections came to an end: with status 0 and nothing told; with 74 where its door failed, which is
 -- one fault besides those of the connections; or with 74 where its disk failed, and then the last entry is Unkept
-abbrev pub EndsKeeping : Setting → Past → Kept → ℕ → Change (List ℕ) → Doorway → Type 0
+abbrev pub EndsKeeping : Setting → Past → Change (List ℕ) → ℕ → Change (List ℕ) → Doorway → Type 0
 EndsKeeping setting past disk ended err doorway =
     ((ended ≡ 0) × GotNothing err × CountsKeptFaults setting past disk 0 doorway)
     ⊎ (HasFailed doorway.output × TellsEnd 74 (codes "failed") ended err × CountsKeptFaults setting past disk 1 doorway)
-    ⊎ (disk.Failed × TellsEnd 74 (codes "failed") ended err × CountsKeptFaults setting past disk 0 doorway
+    ⊎ (HasFailed disk × TellsEnd 74 (codes "failed") ended err × CountsKeptFaults setting past disk 0 doorway
     × ((told : Connections) → Tells doorway.output.before doorway.before told
     → (entries : List Entry) (left : Connections) → HasLogged told doorway.now entries left → EndsUnkept entries))
 
 -- the journal was opened again, and connections were served after what its bodies gave
-pub record EndsServed (command : Serve) (setting : Setting) (disk : Kept) (ended : ℕ) (err : Change (List ℕ))
+pub record EndsServed (command : Serve) (setting : Setting) (disk : Change (List ℕ)) (ended : ℕ) (err : Change (List ℕ))
     (doorway : Doorway) : Type 0 where
   pub past : Past
-  pub begins : WhereTold disk.told (λ file. BeginsWith setting file past)
+  pub begins : WhereTold disk.before (λ file. BeginsWith setting file past)
   pub sound : past.is_sound ≡ true
   pub ends : EndsKeeping setting past disk ended err doorway
   pub served : (told : Connections) → Tells doorway.output.before doorway.before told
-      → ServedBy (IsLawfulAfter (HasFailed doorway.output) disk.Failed journal_room setting)
+      → ServedBy (IsLawfulAfter (HasFailed doorway.output) (HasFailed disk) journal_room setting)
       (LeavesPast journal_room setting) (ended ≡ 0) command.connections past told doorway.clock doorway.now
 
 -- a server with a journal ends as what it is to work over comes out: early, before the disk is called; or as its
 -- journal is opened again or not
-abbrev pub EndsKept : Serve → Kept → Result Setting exits.Exit → ℕ → Change (List ℕ) → Doorway → Type 0
+abbrev pub EndsKept : Serve → Change (List ℕ) → Result Setting exits.Exit → ℕ → Change (List ℕ) → Doorway → Type 0
 EndsKept command disk (Err end) ended err doorway =
     TellsEnd (status_of end) (text_of end) ended err × IsUncalled doorway
 EndsKept command disk (Ok setting) ended err doorway =
@@ -101,7 +96,7 @@ EndsKept command disk (Ok setting) ended err doorway =
 
 -- a run of a server with a journal: it opens over the files that are told, and ends early by a failed device only where
 -- the files failed, or for want of memory
-pub record RunsKept (command : Serve) (disk : Kept) (ended : ℕ) (files : Change Directory) (err : Change (List ℕ))
+pub record RunsKept (command : Serve) (disk : Change (List ℕ)) (ended : ℕ) (files : Change Directory) (err : Change (List ℕ))
     (doorway : Doorway) : Type 0 where
   pub answer : Result Setting exits.Exit
   pub work : IfSome files.before
@@ -110,7 +105,7 @@ pub record RunsKept (command : Serve) (disk : Kept) (ended : ℕ) (files : Chang
   pub ends : EndsKept command disk answer ended err doorway
 
 -- a run of words of `serve` with a journal
-pub record IsKeeping (words : List (List ℕ)) (disk : Kept) (ended : ℕ) (outside : Outside) : Type 0 where
+pub record IsKeeping (words : List (List ℕ)) (disk : Change (List ℕ)) (ended : ℕ) (outside : Outside) : Type 0 where
   pub command : Serve
   pub accepted : IsJobWith with_journal words (serve_job command)
   pub journal : (file : List ℕ) × (command.journal ≡ Some file)
@@ -118,7 +113,7 @@ pub record IsKeeping (words : List (List ℕ)) (disk : Kept) (ended : ℕ) (outs
   pub nothing : GotNothing outside.out
 
 -- a run of any words, where a server may have a journal
-abbrev pub IsKeptRun : List (List ℕ) → Kept → ℕ → Outside → Type 0
+abbrev pub IsKeptRun : List (List ℕ) → Change (List ℕ) → ℕ → Outside → Type 0
 IsKeptRun words disk ended outside =
     IsTurnedAway with_journal words ended outside ⊎ IsCarriedOut with_journal words ended outside
     ⊎ ((serving : IsServing with_journal words ended outside) × (serving.command.journal ≡ None))

@@ -56,7 +56,7 @@ pub fn gateway_kept<F: Files, D: Door, C: Clock, S: Sink, E: Sink, K: Disk>(
 
     // The status, and what the devices show before and after: how the run ended, by its words.
     ensures run { IsKeptRun words.now
-        (record { told = K.told disk.old; Failed = Rose (K.faults disk.old) (K.faults disk.new) }) result (record {
+        (change K.told K.faults disk.old disk.new) result (record {
           files = change F.told F.faults files.old files.new;
           out = change S.told S.faults out.old out.new;
           err = change E.told E.faults err.old err.new;

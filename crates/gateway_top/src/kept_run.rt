@@ -1,6 +1,6 @@
 //! A run of `serve` with a journal: it opens over its files and its journal, and then serves connections. The
 //! definitions are those of `specs/Keeping.antt`.
-ghost use Rattle.std.specs.Prelude.{◌≡◌, ◌≤◌, ◌⊎◌, ◌++◌, ℕ, List, true, false, decimal, option_map, IfErr, IfOk, IsErr, IsOk, OnErr, OnOk, Some};
+ghost use Rattle.std.specs.Prelude.{◌≡◌, ◌≤◌, ◌⊎◌, ◌++◌, ℕ, Bool, List, true, false, decimal, option_map, IfErr, IfOk, IsErr, IsOk, Ok, OnErr, OnOk, Some};
 ghost use Rattle.gw_base.specs.Changes.{change};
 ghost use Rattle.gw_base.specs.Connections.{Connections};
 ghost use Rattle.gw_base.specs.Count.{Rose};
@@ -113,7 +113,7 @@ fn served<D: Door, C: Clock, K: Disk>(
     ensures crash { IfOk result (λ end. (told : Connections) → Tells (D.told door.old) (D.beside door.old) told
         → (past : Past) → StandsFor (held_of durable.old) past
         → (entries : List entries.Entry) (left : Connections) → HasLogged told (D.beside door.new) entries left
-        → (file : List ℕ) → K.told disk.old ≡ Some file → (bodies : List KeptBody) → kept file ≡ Result.Ok bodies
+        → (file : List ℕ) → K.told disk.old ≡ Some file → (bodies : List KeptBody) → kept file ≡ Ok bodies
         → HoldsOfBodies (HasKept K.told K.may_leave K.clock K.left_since disk.old disk.new
         durable.old.gate.setting bodies) durable.new.journal.is_sound entries) }
     ensures absent { (D.beside door.new).present ≡ false }
@@ -151,7 +151,7 @@ pub fn run_kept<F: Files, D: Door, C: Clock, E: Sink, K: Disk>(
     requires window { HasWindow server.now.scope.from server.now.scope.days }
     requires absent { (D.beside door.old).present ≡ false }
     ensures run { RunsKept (server_of server.now)
-        (record { told = K.told disk.old; Failed = Rose (K.faults disk.old) (K.faults disk.new) }) result
+        (change K.told K.faults disk.old disk.new) result
         (change F.told F.faults files.old files.new) (change E.told E.faults err.old err.new) (record {
           output = change D.told D.faults door.old door.new;
           before = D.beside door.old;

@@ -1,5 +1,5 @@
 //! The words of a command line. Only exactly the lists of words of a command are accepted.
-ghost use Rattle.std.specs.Prelude.{◌≡◌, map, IfOk, IfErr, IsTrue};
+ghost use Rattle.std.specs.Prelude.{◌≡◌, map, option_map, slice_get, IfOk, IfErr, IsTrue};
 ghost use Rattle.std.specs.List.{list_all};
 ghost use Rattle.std.specs.Option.{option_copied};
 ghost use Rattle.gateway_top.specs.Rows.{has_flag, have_flags, pair_of, row_of};
@@ -264,6 +264,16 @@ fn scope_in(words: &[Text]) -> Scope<'_>
     }
 }
 
+// The word of that number, if there is one.
+fn word_at(words: &[Text], number: usize) -> Option<&Text>
+    ensures { slice_get words.now number ≡ option_map (λ word. word.now) result }
+{
+    match words.get(number) {
+        Some(word) => Some(word),
+        None => None,
+    }
+}
+
 // What the words of `serve` say.
 fn serve(words: &[Text]) -> Server<'_>
     requires { (command : spec.Serve) × SaysServe words.now command }
@@ -274,7 +284,7 @@ fn serve(words: &[Text]) -> Server<'_>
         keep: kept_count(&words[10]).unwrap(),
         listen: &words[12],
         connections: connection_count(&words[14]).unwrap(),
-        journal: words.get(16),
+        journal: word_at(words, 16),
     }
 }
 

@@ -9,7 +9,7 @@ pub returns-in_err-check-clause-refused : goal.returns-in_err-check-clause-refus
 returns-in_err-check-clause-refused c =
     let p = err_from_is_err_and c.from_residual.result c.from_residual.ensures.1 in
     rw (p.1, p.2) (record {
-      stops = subst (λ rows. StopsAt (IsAccepted rows) c.args.words.now _) c.commands.ensures.rows c.in_err-check.ensures.refused;
+      stops = subst (λ rows. StopsAt (IsAccepted rows) c.args.words.now c.in_err-check.field-0.0.at) c.commands.ensures.rows c.in_err-check.ensures.refused;
     })
 
 pub read-requires : goal.read-requires

@@ -14,4 +14,5 @@ returns c =
       keep = read_at kept_count words 10 _ _ _ is.keep c.index-words-10.is (sym c.kept_count.ensures ∙ c.unwrap.ensures);
       listen = slice_get_read words _ 12 _ refl (slice_get_within words 12 _ is.listen) c.index-words-12.is;
       connections = read_at connection_count words 14 _ _ _ is.connections c.index-words-14.is (sym c.connection_count.ensures ∙ c.unwrap-2.ensures);
+      journal = c.word_at.ensures;
     }
