@@ -247,7 +247,7 @@ of_kept words command journal disk ended files err doorway accepted has runs = b
 -- ---- what there is before the first connection
 
 -- a file of at most nine bytes holds nothing, before and after it is made anew
-same_kept : (file : List ℕ) → kept (opened_file file) ≡ kept file
+pub same_kept : (file : List ℕ) → kept (opened_file file) ≡ kept file
 same_kept file = by (nat_le (length file) 9) refl
   where
     by : (short : Bool) → nat_le (length file) 9 ≡ short → kept (if short then new_file else file) ≡ kept file
