@@ -132,12 +132,7 @@ fn add_output(
 }
 
 // Adds the journal's file, if it isn't what it was.
-fn add_disk(
-    alloc: Global,
-    before: &[u8],
-    now: &[u8],
-    into: &mut String,
-) -> Result<(), AllocError> {
+fn add_disk(alloc: Global, before: &[u8], now: &[u8], into: &mut String) -> Result<(), AllocError> {
     if now == before {
         return Ok(());
     }

@@ -5,8 +5,8 @@ use Rattle.std.specs.Option.{option_map_or}
 use Rattle.std.specs.Str.{bytes_eq}
 use Rattle.gw_base.specs.Chains.{ok_map}
 use Rattle.std.proofs.lemmas.Bool.{true≢false}
-use Rattle.std.proofs.lemmas.List.{append-nil, append_assoc, append_cancel_left}
-use Rattle.std.proofs.lemmas.Option.{none-some, same_Some}
+use Rattle.std.proofs.lemmas.List.{append-nil, append_cancel_left}
+use Rattle.std.proofs.lemmas.Option.{same_Some}
 use Rattle.gw_base.specs.Answers.{UnlessFree}
 use Rattle.gw_base.specs.Changes.{Change}
 use Rattle.gw_base.specs.Connections.{Beside, Connections}
@@ -33,14 +33,14 @@ use Rattle.gateway_server.specs.Serving.{CountsCausesAfter, IsEnd, ServesAllAfte
 use Rattle.gateway_server.proofs.CauseLemmas.{caused_wider}
 use Rattle.gateway_server.proofs.LoopLemmas.{log_wider}
 use Rattle.gateway_top.specs.Exits.{is_free}
-use Rattle.gateway_top.specs.Headline.{HeadlineBy, HeadlineWith, ShowsAsTold}
-use Rattle.gateway_top.specs.Keeping.{BeginsWith, CountsKeptFaults, EndsKeeping, EndsKept, EndsServed, EndsUnkept, HeadlineKept, HoldsMore, RunsKept, ShowsAsKept, SurvivesRun}
+use Rattle.gateway_top.specs.Headline.{HeadlineWith}
+use Rattle.gateway_top.specs.Keeping.{BeginsWith, CountsKeptFaults, EndsKeeping, EndsKept, EndsServed, EndsUnkept, HeadlineKept, HoldsMore, RunsKept, SurvivesRun}
 use Rattle.gateway_top.specs.Runs.{Doorway, HasFailed}
 use Rattle.gateway_top.specs.Serving.{HasLogged, ServedBy}
 use Rattle.gateway_top.specs.Work.{Directory, IsSettingOf}
 use Rattle.gateway_top.specs.Words.{IsJobWith, Serve, serve_job, with_journal}
 use Rattle.gateway_top.specs.declared.exit.Exit.{Exit}
-use Rattle.gateway_top.proofs.HeadlineLemmas.{after_shows, no_headline}
+use Rattle.gateway_top.proofs.HeadlineLemmas.{after_shows}
 use Rattle.gateway_top.proofs.PublishedLemmas.{is_setting}
 
 -- ---- keeping a body that failed is the end

@@ -1,6 +1,6 @@
 -- How a run of `serve` with a journal ends, in which each body is on a disk before it is acknowledged; and what a crash
 -- leaves of that disk.
-use Rattle.std.specs.Prelude.{◌≡◌, ◌≤◌, ◌⊎◌, ◌++◌, ℕ, ℤ, List, [], ◌∷◌, codes, decimal, length, take, true, Option, Some, None, Result, Ok, Err, IfSome}
+use Rattle.std.specs.Prelude.{◌≡◌, ◌≤◌, ◌⊎◌, ◌++◌, ℕ, List, [], ◌∷◌, codes, decimal, length, take, true, Option, Some, None, Result, Ok, Err, IfSome}
 use Rattle.gw_base.specs.Answers.{UnlessFree}
 use Rattle.gw_base.specs.Chains.{ok_map}
 use Rattle.gw_base.specs.Changes.{Change}
@@ -49,8 +49,8 @@ EndsUnkept entries =
     (before : List Entry) × (last : Entry) × (entries ≡ before ++ last ∷ []) × (is_unkept last.mark ≡ true)
 
 -- the journal isn't opened again, for this cause, and neither door nor clock was called
-pub record EndsUnopened (setting : Setting) (disk : Change (List ℕ)) (ended : ℕ) (err : Change (List ℕ)) (doorway : Doorway)
-    : Type 0 where
+pub record EndsUnopened (setting : Setting) (disk : Change (List ℕ)) (ended : ℕ) (err : Change (List ℕ))
+    (doorway : Doorway) : Type 0 where
   pub why : ReopenFault
   pub refused : WhereTold disk.before (λ file. RefusesFile setting file why)
   pub cause : why ≡ Disk → HasFailed disk
@@ -96,8 +96,8 @@ EndsKept command disk (Ok setting) ended err doorway =
 
 -- a run of a server with a journal: it opens over the files that are told, and ends early by a failed device only where
 -- the files failed, or for want of memory
-pub record RunsKept (command : Serve) (disk : Change (List ℕ)) (ended : ℕ) (files : Change Directory) (err : Change (List ℕ))
-    (doorway : Doorway) : Type 0 where
+pub record RunsKept (command : Serve) (disk : Change (List ℕ)) (ended : ℕ) (files : Change Directory)
+    (err : Change (List ℕ)) (doorway : Doorway) : Type 0 where
   pub answer : Result Setting exits.Exit
   pub work : IfSome files.before
       (λ told. UnlessFree is_free answer (IsSettingOf command.scope (Some command.keep) told))

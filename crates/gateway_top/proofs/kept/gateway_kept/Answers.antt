@@ -53,12 +53,15 @@ returns-in-None-clause-headline g c =
     (rw c.in-Ok-Serve.field-0-is at c.in-Ok-Serve.ensures.accepted) c.run_server.ensures.run)
 
 pub returns-in-None-clause-run : goal.returns-in-None-clause-run
-returns-in-None-clause-run g c = inr (inr (inl (record {
-  command = server_of c.in-Ok-Serve.server;
-  accepted = rw c.in-Ok-Serve.field-0-is at c.in-Ok-Serve.ensures.accepted;
-  runs = c.run_server.ensures.run;
-  nothing = refl;
-}, ap (option_map (λ file. file.now)) c.in-None.is)))
+returns-in-None-clause-run g c = inr (inr (inl (
+  record {
+    command = server_of c.in-Ok-Serve.server;
+    accepted = rw c.in-Ok-Serve.field-0-is at c.in-Ok-Serve.ensures.accepted;
+    runs = c.run_server.ensures.run;
+    nothing = refl;
+  },
+  ap (option_map (λ file. file.now)) c.in-None.is,
+)))
 
 -- ---- a command that ends, and words of no command
 

@@ -1,5 +1,5 @@
 -- The journal is open, or it isn't opened.
-use Rattle.std.proofs.Common.{refl, ap}
+use Rattle.std.proofs.Common.{ap}
 use Rattle.std.specs.Prelude.{Err}
 use Rattle.std.proofs.lemmas.Result.{err_from_is_err_and}
 use Rattle.gateway_durable.specs.declared.reopen_fault.ReopenFault.TheVariants.{Memory}

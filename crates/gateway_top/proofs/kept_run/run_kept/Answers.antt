@@ -1,5 +1,5 @@
 -- A server with a journal that ended before its first connection, and one that served.
-use Rattle.std.proofs.Common.{Bool, true, false, List, Result, Ok, Err, refl, ap, sym, ◌∙◌, inl, inr, subst}
+use Rattle.std.proofs.Common.{true, false, List, Result, Ok, Err, refl, ap, sym, ◌∙◌, inl, inr, subst}
 use Rattle.std.specs.Prelude.{◌≡◌, ℕ, IsOk, option_map}
 use Rattle.delivery_journal.specs.Standing.{opened_file}
 use Rattle.gateway_top.specs.Runs.{Doorway}
@@ -12,7 +12,6 @@ use Rattle.gw_base.proofs.CountLemmas.{rose-after}
 use Rattle.gateway_core.specs.declared.setting.Setting.{Setting}
 use Rattle.gateway_durable.specs.declared.reopen_fault.ReopenFault.TheVariants as why
 use Rattle.gateway_server.specs.Crashes.{HoldsOfBodies}
-use Rattle.gateway_server.specs.Durable.{journal_room}
 use Rattle.gateway_top.specs.Keeping.{SurvivesRun}
 use Rattle.gateway_top.specs.declared.exit.Exit.{Exit}
 use Rattle.gateway_top.specs.declared.exit.Exit.TheVariants.{Failed, Memory}
@@ -43,10 +42,12 @@ returns-in-Err-clause-run g c = record {
 }
 
 pub returns-in-Err-clause-crash : goal.returns-in-Err-clause-crash
-returns-in-Err-clause-crash g c = λ file is told tells entries left logged.
-    (true, subst (λ (all : List Entry). HoldsOfBodies (SurvivesRun g.K.Disk.may_leave g.K.Disk.clock g.K.Disk.left_since c.args.disk.now c.args.disk.now file) true all)
-    (sym (no_entries told (g.D.Sink.beside c.args.door.now) left entries tells.tells logged))
-    (uncalled g.K.Disk.told g.K.Disk.may_leave g.K.Disk.clock g.K.Disk.left_since g.met.K.Disk.only_now c.args.disk.now file))
+returns-in-Err-clause-crash g c = λ file is told tells entries left logged. (
+  true,
+  subst (λ (all : List Entry). HoldsOfBodies (SurvivesRun g.K.Disk.may_leave g.K.Disk.clock g.K.Disk.left_since c.args.disk.now c.args.disk.now file) true all)
+      (sym (no_entries told (g.D.Sink.beside c.args.door.now) left entries tells.tells logged))
+      (uncalled g.K.Disk.told g.K.Disk.may_leave g.K.Disk.clock g.K.Disk.left_since g.met.K.Disk.only_now c.args.disk.now file),
+)
 
 pub returns-in-Err-clause-worded : goal.returns-in-Err-clause-worded
 returns-in-Err-clause-worded g c = not_turned_away c.in-Err.exit c.ended.result c.ended.ensures.status
@@ -70,10 +71,12 @@ returns-in-Err-reopened-clause-run g c =
     }
 
 pub returns-in-Err-reopened-clause-crash : goal.returns-in-Err-reopened-clause-crash
-returns-in-Err-reopened-clause-crash g c = λ file is told tells entries left logged.
-    (true, subst (λ (all : List Entry). HoldsOfBodies (SurvivesRun g.K.Disk.may_leave g.K.Disk.clock g.K.Disk.left_since c.args.disk.now c.reopened.new.disk file) true all)
-    (sym (no_entries told (g.D.Sink.beside c.args.door.now) left entries tells.tells logged))
-    (unlogged g.K.Disk.told g.K.Disk.may_leave g.K.Disk.clock g.K.Disk.left_since c.args.disk.now c.reopened.new.disk file (c.in-Err-reopened.ensures.any_moment file is)))
+returns-in-Err-reopened-clause-crash g c = λ file is told tells entries left logged. (
+  true,
+  subst (λ (all : List Entry). HoldsOfBodies (SurvivesRun g.K.Disk.may_leave g.K.Disk.clock g.K.Disk.left_since c.args.disk.now c.reopened.new.disk file) true all)
+      (sym (no_entries told (g.D.Sink.beside c.args.door.now) left entries tells.tells logged))
+      (unlogged g.K.Disk.told g.K.Disk.may_leave g.K.Disk.clock g.K.Disk.left_since c.args.disk.now c.reopened.new.disk file (c.in-Err-reopened.ensures.any_moment file is)),
+)
 
 pub returns-in-Err-reopened-clause-worded : goal.returns-in-Err-reopened-clause-worded
 returns-in-Err-reopened-clause-worded g c = not_turned_away c.in-Err-reopened.exit c.ended-in-Err-reopened.result c.ended-in-Err-reopened.ensures.status
@@ -106,11 +109,12 @@ returns-then-is_sound-clause-run g c =
 pub returns-then-is_sound-clause-crash : goal.returns-then-is_sound-clause-crash
 returns-then-is_sound-clause-crash g c = λ file is told tells entries left entered.
     let begins = c.in-Ok-reopened.ensures.begins in
-    let found = begins.3 file is in
-    (c.served.new.durable.journal.is_sound,
-    kept_entries g.K.Disk.told g.K.Disk.may_leave g.K.Disk.clock g.K.Disk.left_since c.args.disk.now c.reopened.new.disk c.served.new.disk c.in-Ok-reopened.durable.gate.setting file found.bodies
-    c.served.new.durable.journal.is_sound entries found.holds (c.in-Ok-reopened.ensures.any_moment file is)
-    (c.in-Ok-Ok.ensures.crash told tells begins.0 begins.1 entries left entered (opened_file file) (c.in-Ok-reopened.ensures.file ∙ ap (option_map opened_file) is) found.bodies (same_kept file ∙ found.holds)))
+    let found = begins.3 file is in (
+      c.served.new.durable.journal.is_sound,
+      kept_entries g.K.Disk.told g.K.Disk.may_leave g.K.Disk.clock g.K.Disk.left_since c.args.disk.now c.reopened.new.disk c.served.new.disk c.in-Ok-reopened.durable.gate.setting file found.bodies
+          c.served.new.durable.journal.is_sound entries found.holds (c.in-Ok-reopened.ensures.any_moment file is)
+          (c.in-Ok-Ok.ensures.crash told tells begins.0 begins.1 entries left entered (opened_file file) (c.in-Ok-reopened.ensures.file ∙ ap (option_map opened_file) is) found.bodies (same_kept file ∙ found.holds)),
+    )
 
 pub returns-in-Ok-Ok-clause-run : goal.returns-in-Ok-Ok-clause-run
 returns-in-Ok-Ok-clause-run g c =
@@ -131,7 +135,7 @@ returns-in-Ok-Ok-clause-run g c =
       cause = λ is. absurd (not_failed c.in-Ok.setting is);
       ends = inr (ends_served c.in-Ok.setting own disk (Rose (g.K.Disk.faults c.reopened.new.disk) (g.K.Disk.faults c.served.new.disk)) doorway begins.0 c.in-Ok-reopened.ensures.setting wider
           (server_of c.args.server.now) c.ended-else-is_sound.result (change g.E.Sink.told g.E.Sink.faults c.args.err.now c.ended-else-is_sound.new.err) (IsOk c.in-Ok-Ok.field-0 × (c.served.new.durable.journal.is_sound ≡ true)) begins.3 begins.2
-          (inr (inr (wider (c.served.ensures.disk_failed over) , record { status_is = c.ended-else-is_sound.ensures.status; told = c.ended-else-is_sound.ensures.front }, counts_kept c.in-Ok.setting own disk (Rose (g.K.Disk.faults c.reopened.new.disk) (g.K.Disk.faults c.served.new.disk)) doorway begins.0 c.in-Ok-reopened.ensures.setting wider 0 (λ told tells entries left entered. rw c.in-Ok-Ok.field-0-is at c.in-Ok-Ok.ensures.causes told tells begins.0 begins.1 entries left entered), λ told tells entries left entered. c.in-Ok-Ok.ensures.unkept over told tells begins.0 begins.1 begins.2 entries left entered)))
+          (inr (inr (wider (c.served.ensures.disk_failed over), record { status_is = c.ended-else-is_sound.ensures.status; told = c.ended-else-is_sound.ensures.front }, counts_kept c.in-Ok.setting own disk (Rose (g.K.Disk.faults c.reopened.new.disk) (g.K.Disk.faults c.served.new.disk)) doorway begins.0 c.in-Ok-reopened.ensures.setting wider 0 (λ told tells entries left entered. rw c.in-Ok-Ok.field-0-is at c.in-Ok-Ok.ensures.causes told tells begins.0 begins.1 entries left entered), λ told tells entries left entered. c.in-Ok-Ok.ensures.unkept over told tells begins.0 begins.1 begins.2 entries left entered)))
           (λ zero. absurd (not_zero c.ended-else-is_sound.result c.ended-else-is_sound.ensures.status zero))
           (λ told tells. c.in-Ok-Ok.ensures.served told tells begins.0 begins.1));
     }
@@ -139,11 +143,12 @@ returns-in-Ok-Ok-clause-run g c =
 pub returns-in-Ok-Ok-clause-crash : goal.returns-in-Ok-Ok-clause-crash
 returns-in-Ok-Ok-clause-crash g c = λ file is told tells entries left entered.
     let begins = c.in-Ok-reopened.ensures.begins in
-    let found = begins.3 file is in
-    (c.served.new.durable.journal.is_sound,
-    kept_entries g.K.Disk.told g.K.Disk.may_leave g.K.Disk.clock g.K.Disk.left_since c.args.disk.now c.reopened.new.disk c.served.new.disk c.in-Ok-reopened.durable.gate.setting file found.bodies
-    c.served.new.durable.journal.is_sound entries found.holds (c.in-Ok-reopened.ensures.any_moment file is)
-    (c.in-Ok-Ok.ensures.crash told tells begins.0 begins.1 entries left entered (opened_file file) (c.in-Ok-reopened.ensures.file ∙ ap (option_map opened_file) is) found.bodies (same_kept file ∙ found.holds)))
+    let found = begins.3 file is in (
+      c.served.new.durable.journal.is_sound,
+      kept_entries g.K.Disk.told g.K.Disk.may_leave g.K.Disk.clock g.K.Disk.left_since c.args.disk.now c.reopened.new.disk c.served.new.disk c.in-Ok-reopened.durable.gate.setting file found.bodies
+          c.served.new.durable.journal.is_sound entries found.holds (c.in-Ok-reopened.ensures.any_moment file is)
+          (c.in-Ok-Ok.ensures.crash told tells begins.0 begins.1 entries left entered (opened_file file) (c.in-Ok-reopened.ensures.file ∙ ap (option_map opened_file) is) found.bodies (same_kept file ∙ found.holds)),
+    )
 
 pub returns-in-Ok-Err-clause-run : goal.returns-in-Ok-Err-clause-run
 returns-in-Ok-Err-clause-run g c =
@@ -171,11 +176,12 @@ returns-in-Ok-Err-clause-run g c =
 pub returns-in-Ok-Err-clause-crash : goal.returns-in-Ok-Err-clause-crash
 returns-in-Ok-Err-clause-crash g c = λ file is told tells entries left entered.
     let begins = c.in-Ok-reopened.ensures.begins in
-    let found = begins.3 file is in
-    (c.served.new.durable.journal.is_sound,
-    kept_entries g.K.Disk.told g.K.Disk.may_leave g.K.Disk.clock g.K.Disk.left_since c.args.disk.now c.reopened.new.disk c.served.new.disk c.in-Ok-reopened.durable.gate.setting file found.bodies
-    c.served.new.durable.journal.is_sound entries found.holds (c.in-Ok-reopened.ensures.any_moment file is)
-    (c.in-Ok-Err.ensures.crash told tells begins.0 begins.1 entries left entered (opened_file file) (c.in-Ok-reopened.ensures.file ∙ ap (option_map opened_file) is) found.bodies (same_kept file ∙ found.holds)))
+    let found = begins.3 file is in (
+      c.served.new.durable.journal.is_sound,
+      kept_entries g.K.Disk.told g.K.Disk.may_leave g.K.Disk.clock g.K.Disk.left_since c.args.disk.now c.reopened.new.disk c.served.new.disk c.in-Ok-reopened.durable.gate.setting file found.bodies
+          c.served.new.durable.journal.is_sound entries found.holds (c.in-Ok-reopened.ensures.any_moment file is)
+          (c.in-Ok-Err.ensures.crash told tells begins.0 begins.1 entries left entered (opened_file file) (c.in-Ok-reopened.ensures.file ∙ ap (option_map opened_file) is) found.bodies (same_kept file ∙ found.holds)),
+    )
 
 pub returns-in-Ok-Ok-clause-worded : goal.returns-in-Ok-Ok-clause-worded
 returns-in-Ok-Ok-clause-worded g c = not_turned_away Failed c.ended-else-is_sound.result c.ended-else-is_sound.ensures.status
@@ -207,11 +213,12 @@ returns-clause-run g c = record {
 
 pub returns-clause-crash : goal.returns-clause-crash
 returns-clause-crash g c = λ file is told tells entries left logged.
-    let same = c.in-Err-served.ensures.memory in
-    (true, subst (λ (all : List Entry). HoldsOfBodies (SurvivesRun g.K.Disk.may_leave g.K.Disk.clock g.K.Disk.left_since c.args.disk.now c.served.new.disk file) true all)
-    (sym (no_entries told (g.D.Sink.beside c.served.new.door) left entries (ap (λ (b : Beside). b.told) (ap g.D.Sink.beside same.0) ∙ tells.tells) logged))
-    (rw same.2 (unlogged g.K.Disk.told g.K.Disk.may_leave g.K.Disk.clock g.K.Disk.left_since c.args.disk.now c.reopened.new.disk file (c.in-Ok-reopened.ensures.any_moment file is))))
+    let same = c.in-Err-served.ensures.memory in (
+      true,
+      subst (λ (all : List Entry). HoldsOfBodies (SurvivesRun g.K.Disk.may_leave g.K.Disk.clock g.K.Disk.left_since c.args.disk.now c.served.new.disk file) true all)
+          (sym (no_entries told (g.D.Sink.beside c.served.new.door) left entries (ap (λ (b : Beside). b.told) (ap g.D.Sink.beside same.0) ∙ tells.tells) logged))
+          (rw same.2 (unlogged g.K.Disk.told g.K.Disk.may_leave g.K.Disk.clock g.K.Disk.left_since c.args.disk.now c.reopened.new.disk file (c.in-Ok-reopened.ensures.any_moment file is))),
+    )
 
 pub returns-clause-worded : goal.returns-clause-worded
 returns-clause-worded g c = not_turned_away Memory c.ended-in-Err-served.result c.ended-in-Err-served.ensures.status
-
