@@ -1,6 +1,6 @@
 -- A server with a journal that ended before its first connection, and one that served.
-use Rattle.std.proofs.Common.{true, false, List, Result, Ok, Err, refl, ap, sym, ◌∙◌, inl, inr, subst}
-use Rattle.std.specs.Prelude.{◌≡◌, ℕ, IsOk, option_map}
+use Rattle.std.proofs.Common.{arith, true, false, List, Result, Ok, Err, refl, ap, sym, ◌∙◌, inl, inr, subst}
+use Rattle.std.specs.Prelude.{◌≡◌, ◌≤◌, ℕ, IsOk, option_map}
 use Rattle.delivery_journal.specs.Standing.{opened_file}
 use Rattle.gateway_top.specs.Runs.{Doorway}
 use Rattle.gateway_top.specs.Works.{server_of}
@@ -24,6 +24,15 @@ not_failed setting is = cc
 
 not_disk : why.Memory ≡ why.Disk → ⊥
 not_disk is = cc
+
+not_two : ◌≡◌ {A = ℕ} 0 2 → ⊥
+not_two is = cc
+
+le_self : (n : ℕ) → n ≤ n
+le_self n = omega arith
+
+le_both : (a b c : ℕ) → a ≤ b → b ≤ c → a ≤ c
+le_both a b c ab bc = omega arith
 
 not_zero : (ended : ℕ) → ended ≡ 74 → ended ≡ 0 → ⊥
 not_zero ended is zero = cc
@@ -222,3 +231,80 @@ returns-clause-crash g c = λ file is told tells entries left logged.
 
 pub returns-clause-worded : goal.returns-clause-worded
 returns-clause-worded g c = not_turned_away Memory c.ended-in-Err-served.result c.ended-in-Err-served.ensures.status
+
+-- what stays
+
+pub returns-then-is_sound-clause-absent : goal.returns-then-is_sound-clause-absent
+returns-then-is_sound-clause-absent g c = c.served.ensures.absent
+
+pub returns-then-is_sound-clause-files : goal.returns-then-is_sound-clause-files
+returns-then-is_sound-clause-files g c = c.setting.ensures.same
+
+pub returns-then-is_sound-clause-beside : goal.returns-then-is_sound-clause-beside
+returns-then-is_sound-clause-beside g c = refl
+
+pub returns-then-is_sound-clause-counts : goal.returns-then-is_sound-clause-counts
+returns-then-is_sound-clause-counts g c = (
+  c.setting.ensures.counts.never_falls,
+  le_self (g.E.Sink.faults c.args.err.now),
+  c.served.ensures.counts.0,
+  c.served.ensures.counts.1,
+  le_both (g.K.Disk.faults c.args.disk.now) (g.K.Disk.faults c.reopened.new.disk) (g.K.Disk.faults c.served.new.disk) c.reopened.ensures.never_falls c.served.ensures.counts.2,
+)
+
+pub returns-in-Ok-Ok-clause-absent : goal.returns-in-Ok-Ok-clause-absent
+returns-in-Ok-Ok-clause-absent g c = c.served.ensures.absent
+
+pub returns-in-Ok-Ok-clause-files : goal.returns-in-Ok-Ok-clause-files
+returns-in-Ok-Ok-clause-files g c = c.setting.ensures.same
+
+pub returns-in-Ok-Ok-clause-beside : goal.returns-in-Ok-Ok-clause-beside
+returns-in-Ok-Ok-clause-beside g c = c.ended-else-is_sound.ensures.others
+
+pub returns-in-Ok-Ok-clause-counts : goal.returns-in-Ok-Ok-clause-counts
+returns-in-Ok-Ok-clause-counts g c = (
+  c.setting.ensures.counts.never_falls,
+  c.ended-else-is_sound.ensures.counts,
+  c.served.ensures.counts.0,
+  c.served.ensures.counts.1,
+  le_both (g.K.Disk.faults c.args.disk.now) (g.K.Disk.faults c.reopened.new.disk) (g.K.Disk.faults c.served.new.disk) c.reopened.ensures.never_falls c.served.ensures.counts.2,
+)
+
+pub returns-in-Ok-Err-clause-absent : goal.returns-in-Ok-Err-clause-absent
+returns-in-Ok-Err-clause-absent g c = c.served.ensures.absent
+
+pub returns-in-Ok-Err-clause-files : goal.returns-in-Ok-Err-clause-files
+returns-in-Ok-Err-clause-files g c = c.setting.ensures.same
+
+pub returns-in-Ok-Err-clause-beside : goal.returns-in-Ok-Err-clause-beside
+returns-in-Ok-Err-clause-beside g c = c.ended-in-Ok-Err.ensures.others
+
+pub returns-in-Ok-Err-clause-counts : goal.returns-in-Ok-Err-clause-counts
+returns-in-Ok-Err-clause-counts g c = (
+  c.setting.ensures.counts.never_falls,
+  c.ended-in-Ok-Err.ensures.counts,
+  c.served.ensures.counts.0,
+  c.served.ensures.counts.1,
+  le_both (g.K.Disk.faults c.args.disk.now) (g.K.Disk.faults c.reopened.new.disk) (g.K.Disk.faults c.served.new.disk) c.reopened.ensures.never_falls c.served.ensures.counts.2,
+)
+
+pub returns-clause-absent : goal.returns-clause-absent
+returns-clause-absent g c = c.served.ensures.absent
+
+pub returns-clause-files : goal.returns-clause-files
+returns-clause-files g c = c.setting.ensures.same
+
+pub returns-clause-beside : goal.returns-clause-beside
+returns-clause-beside g c = c.ended-in-Err-served.ensures.others
+
+pub returns-clause-counts : goal.returns-clause-counts
+returns-clause-counts g c = (
+  c.setting.ensures.counts.never_falls,
+  c.ended-in-Err-served.ensures.counts,
+  c.served.ensures.counts.0,
+  c.served.ensures.counts.1,
+  le_both (g.K.Disk.faults c.args.disk.now) (g.K.Disk.faults c.reopened.new.disk) (g.K.Disk.faults c.served.new.disk) c.reopened.ensures.never_falls c.served.ensures.counts.2,
+)
+
+pub returns-then-is_sound-clause-worded : goal.returns-then-is_sound-clause-worded
+returns-then-is_sound-clause-worded g c = not_two
