@@ -57,16 +57,16 @@ pub fn gateway_kept<F: Files, D: Door, C: Clock, S: Sink, E: Sink, K: Disk>(
     // The status, and what the devices show before and after: how the run ended, by its words.
     ensures run { IsKeptRun words.now
         (record { told = K.told disk.old; Failed = Rose (K.faults disk.old) (K.faults disk.new) }) result (record {
-      files = change F.told F.faults files.old files.new;
-      out = change S.told S.faults out.old out.new;
-      err = change E.told E.faults err.old err.new;
-      doorway = record {
-        output = change D.told D.faults door.old door.new;
-        before = D.beside door.old;
-        now = D.beside door.new;
-        clock = change C.told C.faults clock.old clock.new;
-      };
-    }) }
+          files = change F.told F.faults files.old files.new;
+          out = change S.told S.faults out.old out.new;
+          err = change E.told E.faults err.old err.new;
+          doorway = record {
+            output = change D.told D.faults door.old door.new;
+            before = D.beside door.old;
+            now = D.beside door.new;
+            clock = change C.told C.faults clock.old clock.new;
+          };
+        }) }
 
     // With status 0, `out` got what the words ask for over files that are told.
     ensures publishes { result ≡ 0
