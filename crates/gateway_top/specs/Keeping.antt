@@ -70,8 +70,8 @@ CountsKeptFaults setting past disk besides doorway =
     → CountsCausesAfter disk.Failed journal_room setting past entries besides doorway.output.faults_before
     doorway.output.faults_now doorway.clock.faults_before doorway.clock.faults_now
 
--- a server whose connections came to an end: with status 0 and nothing told; with 74 where its door failed, which is one
--- fault besides those of the connections; or with 74 where its disk failed, and then the last entry is marked Unkept
+-- a server whose connections came to an end: with status 0 and nothing told; with 74 where its door failed, which is
+-- one fault besides those of the connections; or with 74 where its disk failed, and then the last entry is marked Unkept
 abbrev pub EndsKeeping : Setting → Past → Kept → ℕ → Change (List ℕ) → Doorway → Type 0
 EndsKeeping setting past disk ended err doorway =
     ((ended ≡ 0) × GotNothing err × CountsKeptFaults setting past disk 0 doorway)
@@ -94,7 +94,8 @@ pub record EndsServed (command : Serve) (setting : Setting) (disk : Kept) (ended
 -- a server with a journal ends as what it is to work over comes out: early, before the disk is called; or as its
 -- journal is opened again or not
 abbrev pub EndsKept : Serve → Kept → Result Setting exits.Exit → ℕ → Change (List ℕ) → Doorway → Type 0
-EndsKept command disk (Err end) ended err doorway = TellsEnd (status_of end) (text_of end) ended err × IsUncalled doorway
+EndsKept command disk (Err end) ended err doorway =
+    TellsEnd (status_of end) (text_of end) ended err × IsUncalled doorway
 EndsKept command disk (Ok setting) ended err doorway =
     EndsUnopened setting disk ended err doorway ⊎ EndsServed command setting disk ended err doorway
 
@@ -125,8 +126,8 @@ IsKeptRun words disk ended outside =
 
 -- ---- what a server shows
 
--- what had arrived before a server's first connection: nothing without a journal, and else what the bodies give that the
--- file held
+-- what had arrived before a server's first connection: nothing without a journal, and else what the bodies give that
+-- the file held
 abbrev pub HadArrived : Option (List ℕ) → Setting → Option (List ℕ) → List Arrival → Type 0
 HadArrived None setting told past = past ≡ []
 HadArrived (Some journal) setting told past = WhereTold told (λ file.
@@ -159,9 +160,9 @@ abbrev pub HoldsAll : List ℕ → List KeptBody → List ℕ → Type 0
 HoldsAll file taken image =
     (rest : List KeptBody) × (kept image ≡ ok_map (λ bodies. bodies ++ taken ++ rest) (kept file))
 
--- Of a disk at the entry of a run and at its end, in which these bodies were acknowledged, and then keeping those failed:
--- a crash at any moment leaves what a crash at the entry might have left, or a file that holds what was held at the entry
--- and a prefix of them, in their order; and at the end every crash leaves all that were acknowledged.
+-- Of a disk at the entry of a run and at its end, in which these bodies were acknowledged, and then keeping those
+-- failed: a crash at any moment leaves what a crash at the entry might have left, or a file that holds what was held at
+-- the entry and a prefix of them, in their order; and at the end every crash leaves all that were acknowledged.
 pub record SurvivesRun {D : Type 0} (may_leave : D → List ℕ → Type 0) (clock : D → ℕ)
     (left_since : D → ℕ → List ℕ → Type 0) (old new : D) (file : List ℕ) (taken failed : List KeptBody)
     : Type 0 where

@@ -22,8 +22,8 @@ use std::alloc::Global;
 
 /// Carries out the words over the devices, and answers the status, as `gateway` does; and `serve` may have the pair
 /// `--journal F`, by which each body is on `disk` before it is acknowledged, and what was acknowledged is there again
-/// after a restart. Status 65 also comes where the journal isn't opened again, and 74 where the disk failed. Without the
-/// pair the disk isn't called.
+/// after a restart. Status 65 also comes where the journal isn't opened again, and 74 where the disk failed. Without
+/// the pair the disk isn't called.
 pub fn gateway_kept<F: Files, D: Door, C: Clock, S: Sink, E: Sink, K: Disk>(
     alloc: Global,
     words: &[Text],
@@ -43,9 +43,9 @@ pub fn gateway_kept<F: Files, D: Door, C: Clock, S: Sink, E: Sink, K: Disk>(
         → HeadlineKept (Rose (D.faults door.old) (D.faults door.new)) words.now folder (K.told disk.old) told
         (D.beside door.new)) }
 
-    // After a crash, at any moment of the call and after it: the disk holds what it held at the entry and a prefix of the
-    // bodies of the entries marked Taken, Fed or Unkept, in their order, or what a crash at the entry might have left; and
-    // at the end all bodies of the entries marked Taken or Fed.
+    // After a crash, at any moment of the call and after it: the disk holds what it held at the entry and a prefix of
+    // the bodies of the entries marked Taken, Fed or Unkept, in their order, or what a crash at the entry might have
+    // left; and at the end all bodies of the entries marked Taken or Fed.
     ensures crash { (file : List ℕ) → K.told disk.old ≡ Some file
         → (told : Connections) → Tells (D.told door.old) (D.beside door.old) told
         → (command : Serve) → IsJobWith with_journal words.now (serve_job command)

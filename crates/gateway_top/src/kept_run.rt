@@ -1,5 +1,5 @@
-//! A run of `serve` with a journal: it opens over its files and its journal, and then serves connections. The definitions
-//! are those of `specs/Keeping.antt`.
+//! A run of `serve` with a journal: it opens over its files and its journal, and then serves connections. The
+//! definitions are those of `specs/Keeping.antt`.
 ghost use Rattle.std.specs.Prelude.{◌≡◌, ◌≤◌, ◌⊎◌, ◌++◌, ℕ, List, true, false, decimal, option_map, IfErr, IfOk, IsErr, IsOk, OnErr, OnOk, Some};
 ghost use Rattle.gw_base.specs.Changes.{change};
 ghost use Rattle.gw_base.specs.Connections.{Connections};
@@ -137,8 +137,8 @@ fn served<D: Door, C: Clock, K: Disk>(
 }
 
 /// Serves over the files and the journal on a disk, and answers the status: 0 where so many connections were served or
-/// none is to come, 65 where the journal isn't opened again, 74 where the files failed, the door or the disk, 71 for want
-/// of memory before the first connection.
+/// none is to come, 65 where the journal isn't opened again, 74 where the files failed, the door or the disk, 71 for
+/// want of memory before the first connection.
 pub fn run_kept<F: Files, D: Door, C: Clock, E: Sink, K: Disk>(
     alloc: Global,
     server: &Server<'_>,

@@ -224,8 +224,8 @@ const NONE: Pair = Pair {
     form: Form::Filled,
 };
 
-// The commands, where `serve` has these optional pairs. In a list of words the value of the pair of number n, from 0 on,
-// is the word of number 2n + 2.
+// The commands, where `serve` has these optional pairs. In a list of words the value of the pair of number n, from 0
+// on, is the word of number 2n + 2.
 fn commands(optional: &'static [Pair]) -> [Command; 7]
     requires { IsTrue (list_all has_flag optional.now) }
     ensures rows { map row_of result ≡ spec.commands (map pair_of optional.now) }
