@@ -1,0 +1,3 @@
+pub mod BoardTree
+pub mod Boards
+pub mod Visits
