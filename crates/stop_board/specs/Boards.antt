@@ -15,7 +15,8 @@ pub record Board : Type 0 where
   pub asked : Asked
   pub visits : List Visit
 
--- a visit is of a trip on a day: there is a stop at its position, and its times are at most a week from the planned ones
+-- a visit is of a trip on a day: there is a stop at its position, and its times are at most a week from the planned
+-- ones
 pub record IsCall (run : Run) (stop : StopNo) (visit : Visit) : Type 0 where
   pub row : StopRow
   pub at : slice_get run.stops visit.position ≡ Some row

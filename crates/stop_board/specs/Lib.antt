@@ -1,3 +1,4 @@
+pub mod BoardTexts
 pub mod BoardTree
 pub mod Boards
 pub mod Visits

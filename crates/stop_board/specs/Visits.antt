@@ -2,7 +2,7 @@
 use Rattle.std.specs.Prelude.{◌==◌, ◌&&◌, ◌*◌, ℕ, ℤ, pos, ◌+ℤ◌, int_le, int_lt, Bool, List, [], Option, Some, None, if◌then◌else◌}
 use Rattle.std.specs.List.{enumerate_from, flat_map}
 use Rattle.std.specs.Option.{option_to_list}
-use Rattle.std.specs.List.Sorted.{IsPermutation, IsSorted}
+use Rattle.std.specs.List.Sorted.{IsPermutation, IsSorted, IsStable}
 use Rattle.std.specs.Ordering.{int_cmp, nat_cmp, ordering_then}
 use Rattle.std.specs.declared.cmp.Ordering.{Ordering}
 use Rattle.journey_model.specs.declared.readings.DatedReading.{DatedReading}
@@ -61,7 +61,9 @@ visit_cmp a b =
     (int_cmp a.arrival b.arrival) (int_cmp a.departure b.departure))
     (int_cmp a.day b.day)) (nat_cmp a.trip.0 b.trip.0)) (nat_cmp a.position b.position)
 
--- a list has just these visits, sorted
+-- a list has just these visits, sorted; where all five are equal, which no two visits of different journeys have, the
+-- one that came first stands first
 pub record AreSorted (visits sorted : List Visit) : Type 0 where
   pub same : IsPermutation visits sorted
   pub in_order : IsSorted visit_cmp sorted
+  pub in_turn : IsStable visit_cmp visits sorted

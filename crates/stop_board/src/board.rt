@@ -3,9 +3,11 @@ ghost use Rattle.std.specs.Prelude.{◌≡◌, ◌<◌, ◌++◌, [], length, On
 ghost use Rattle.journey_model.specs.Schedules.{FitsSchedule};
 ghost use Rattle.stop_board.specs.BoardTree.{IsBoardText};
 ghost use Rattle.stop_board.specs.Boards.{IsOver};
-ghost use Rattle.stop_board.specs.Visits.{visits_of};
+ghost use Rattle.stop_board.specs.Visits as spec;
 
-use crate::visits::{Asked, Visit};
+use crate::sorting::{first_visits, sorted_visits};
+use crate::visits::{Asked, Visit, visits_of};
+use crate::writing::write_board;
 use gw_base::{Bytes, Moment};
 use journey_model::{Context, DatedReading};
 use std::alloc::{AllocError, Global};
@@ -50,16 +52,18 @@ impl Board {
     }
 
     /// Adds the visits of a journey (SIRI 2.0, MonitoredStopVisit): its calls at the stop that fall within the minutes.
-    /// A journey that doesn't say when it was recorded has none. Err for want of memory, and then the board is as before.
+    /// A journey that doesn't say when it was recorded has none. Err for want of memory, and then the board is as
+    /// before.
     pub fn add(&mut self, context: &Context<'_>, journey: &DatedReading) -> Result<(), AllocError>
         requires fits { FitsSchedule context.now journey.now.trip.0 journey.now.day journey.now.reading }
         ensures asked { self.new.asked ≡ self.old.asked }
         ensures visits { OnOk result
-            (self.new.visits ≡ self.old.visits ++ visits_of self.old.asked journey.now) }
+            (self.new.visits ≡ self.old.visits ++ spec.visits_of self.old.asked journey.now) }
         ensures kept { OnErr result (self.new ≡ self.old) }
         ensures over { IsOver context.now self.old → IsOver context.now self.new }
     {
-        Err(AllocError)
+        let visits = visits_of(self.alloc, &self.asked, journey)?;
+        self.visits.extend_from_slice(visits.as_slice())
     }
 
     /// The delivery that shows the first so many visits of the board, sorted by arrival, departure, service day, trip
@@ -76,6 +80,8 @@ impl Board {
         requires over { IsOver context.now self.now }
         ensures text { IfOk result (IsBoardText context.now self.now.asked.stop self.now.visits moment most) }
     {
-        Err(AllocError)
+        let sorted = sorted_visits(self.alloc, self.visits.as_slice())?;
+        let first = first_visits(sorted.as_slice(), most);
+        write_board(self.alloc, context, self.asked.stop, first, moment)
     }
 }
