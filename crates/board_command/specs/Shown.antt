@@ -14,8 +14,8 @@ use Rattle.stop_board.specs.BoardTree.{IsBoardText}
 use Rattle.stop_board.specs.Visits.{visits_of}
 use Rattle.timetable.specs.declared.numbers.StopNo.{StopNo}
 
--- a feed is the one that is rebuilt of all that arrived, made at that moment: its bytes mean it, and it gives every stop
--- of every journey the time and place, skip or absence of the latest record
+-- a feed is the one that is rebuilt of all that arrived, made at that moment: its bytes mean it, and it gives every
+-- stop of every journey the time and place, skip or absence of the latest record
 pub record IsServedFeed (setting : Setting) (at : ℤ) (arrivals : List Arrival) (feed : Feed) : Type 0 where
   pub bytes : List ℕ
   pub rebuilt : IsRebuiltOf setting at arrivals bytes

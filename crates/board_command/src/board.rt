@@ -59,8 +59,8 @@ fn add_all(
 }
 
 /// What a display at a stop shows of what a gateway took (SIRI 2.0, StopMonitoringDelivery): the first so many visits,
-/// from that moment on for so many minutes, of the journeys of the feed that the gateway serves at that moment. The stop
-/// is one of the gateway's timetable. Err for want of memory.
+/// from that moment on for so many minutes, of the journeys of the feed that the gateway serves at that moment. The
+/// stop is one of the gateway's timetable. Err for want of memory.
 pub fn board_of(
     alloc: Global,
     gate: &Gateway,

@@ -101,9 +101,10 @@ pub record PublishesLines (command : Show) (files : Directory) (before now : Opt
   pub is_reading : IsReading (schedule_in setting) feed reading
   pub written : now ≡ with_bytes before (shown (schedule_in setting) reading)
 
--- standard output got the board of the stop (SIRI 2.0, StopMonitoringDelivery): of what arrived of the files' deliveries,
--- in order, each taken after those before, the first so many visits that the journeys of the feed make which is rebuilt of
--- it, and which gives every stop exactly the time and place, skip or absence of the last-recorded SIRI journey
+-- standard output got the board of the stop (SIRI 2.0, StopMonitoringDelivery): of what arrived of the files'
+-- deliveries, in order, each taken after those before, the first so many visits that the journeys of the feed make
+-- which is rebuilt of it, and which gives every stop exactly the time and place, skip or absence of the last-recorded
+-- SIRI journey
 pub record PublishesBoard (command : Board) (files : Directory) (before now : Option (List ℕ)) : Type 0 where
   pub setting : Setting
   pub has_setting : IsSetting command.scope None files setting
