@@ -1,8 +1,11 @@
 //! What `board` makes of deliveries. The functions meet `specs/Work.antt`.
-ghost use Rattle.std.specs.Prelude.{◌≡◌, ◌<◌, length, IfOk, IfSome, IsErrOf};
+ghost use Rattle.std.specs.Prelude.{◌≡◌, ◌<◌, [], List, length, IfOk, IfSome, IsErrOf};
 ghost use Rattle.gw_base.specs.Answers.{UnlessFree};
 ghost use Rattle.gw_base.specs.Count.{Counts};
+ghost use Rattle.gateway_core.specs.Arrivals.{Arrival};
+ghost use Rattle.gateway_core.specs.Standing.{Stands};
 ghost use Rattle.gateway_top.specs.Exits.{is_free};
+ghost use Rattle.gateway_top.specs.Served.{IsStanding};
 ghost use Rattle.gateway_top.specs.Work as steps;
 ghost use Rattle.gateway_top.specs.Works.{board_of as said};
 
@@ -13,7 +16,7 @@ use crate::reading::joined;
 use crate::words::AtStop;
 use board_command::board_of;
 use gateway_core::{Gateway, Setting};
-use gw_base::Files;
+use gw_base::{Bytes, Files};
 use std::alloc::Global;
 use timetable::StopNo;
 
@@ -29,7 +32,47 @@ fn stop_named(alloc: Global, setting: &Setting, id: &str) -> Result<StopNo, Exit
     }
 }
 
-// The board of the files' deliveries at a stop.
+// The board of a gateway at a stop, after the reports on what it took.
+fn board_of_gate(
+    alloc: Global,
+    gate: &Gateway,
+    board: &AtStop<'_>,
+    stop: StopNo,
+    reports: Bytes,
+) -> Result<Done, Exit>
+    requires stop { stop.0 < length gate.now.setting.table.stops }
+    requires stands { IsStanding gate.now }
+    ensures told { (arrivals : List Arrival) → Stands gate.now arrivals → UnlessFree is_free result
+        (steps.IsBoardOf (said board.now) gate.now.setting stop
+        (record { arrivals = arrivals; reports = reports })) }
+    ensures calm { ¬ IsErrOf result Exit.Failed }
+{
+    let out = board_of(alloc, gate, board.at, stop, board.minutes, board.most)?;
+    Ok(Done::texts(out, reports))
+}
+
+// The board of the files' deliveries at a stop, by a gateway that took nothing yet.
+fn board_taken<F: Files>(
+    alloc: Global,
+    files: &mut F,
+    gate: &mut Gateway,
+    board: &AtStop<'_>,
+    stop: StopNo,
+) -> Result<Done, Exit>
+    requires new { Stands gate.old [] }
+    requires stop { stop.0 < length gate.old.setting.table.stops }
+    ensures told { IfSome (F.told files.old) (λ told. UnlessFree is_free result
+        (steps.IsBoardOfFiles (said board.now) gate.old.setting told stop)) }
+    ensures counts { Counts (IsErrOf result Exit.Failed) (F.faults files.old) (F.faults files.new) }
+    ensures same { F.told files.new ≡ F.told files.old }
+{
+    match deliveries(alloc, files, gate, board.at, board.more) {
+        Ok(reports) => board_of_gate(alloc, gate, board, stop, reports),
+        Err(end) => Err(end),
+    }
+}
+
+// The board of the files' deliveries at a stop of the setting.
 fn board_of_files<F: Files>(
     alloc: Global,
     files: &mut F,
@@ -44,13 +87,7 @@ fn board_of_files<F: Files>(
     ensures same { F.told files.new ≡ F.told files.old }
 {
     let mut gate = Gateway::start(alloc, setting)?;
-    match deliveries(alloc, files, &mut gate, board.at, board.more) {
-        Ok(reports) => {
-            let out = board_of(alloc, &gate, board.at, stop, board.minutes, board.most)?;
-            Ok(Done::texts(out, reports))
-        }
-        Err(end) => Err(end),
-    }
+    board_taken(alloc, files, &mut gate, board, stop)
 }
 
 /// The board of the files' deliveries at the stop that the words name.
