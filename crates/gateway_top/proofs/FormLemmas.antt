@@ -10,7 +10,7 @@ use Rattle.std.specs.Str.Parse.{ParsesUnsigned}
 use Rattle.std.proofs.lemmas.Option.{none-some, same_Some, option_and_then_some}
 use Rattle.std.proofs.lemmas.Str.Parse.{IsNumeralModel, numerals_by_fold, parse_gives, digits_value_short}
 use Rattle.gateway_top.specs.Forms.{is_connection_count, is_day, is_day_count, is_filled, is_kept_count, is_minute_count, is_moment, is_seed, is_stop_count, is_trip_count, is_visit_count, beginning, day_count, decimal_number, is_number, going_on, ends_in_time, first_day, keeps_fewer, last_day, most_days}
-use Rattle.gateway_top.specs.Rows.{form_of, pair_of, row_of, have_flags}
+use Rattle.gateway_top.specs.Rows.{has_flag, form_of, pair_of, row_of, have_flags}
 use Rattle.gateway_top.specs.Tables.{CanBeMet, CanStand, IsSatisfiable}
 use Rattle.gateway_top.proofs.TableLemmas.{AreSatisfiable}
 use Rattle.gateway_top.specs.declared.words.forms.Form as declared
