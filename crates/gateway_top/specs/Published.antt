@@ -1,6 +1,6 @@
 -- What the commands publish, in the words of the two standards (SIRI 2.0, EstimatedVehicleJourney, PtSituationElement;
 -- GTFS Realtime 2.0, FeedMessage).
-use Rattle.std.specs.Prelude.{◌≡◌, ℕ, false, List, Option, Some, None, Ok, IfSome}
+use Rattle.std.specs.Prelude.{◌≡◌, ℕ, false, List, [], Option, Some, None, Ok, IfSome}
 use Rattle.gw_base.specs.Directory.{bytes_of}
 use Rattle.gw_base.specs.Told.{with_bytes}
 use Rattle.gw_base.specs.declared.messages.Feed.{Feed}
