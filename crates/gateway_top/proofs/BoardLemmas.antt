@@ -11,7 +11,7 @@ use Rattle.gateway_top.specs.Done.{Done}
 use Rattle.gateway_top.specs.Exits.{is_free}
 use Rattle.gateway_top.specs.Served.{TakesAll}
 use Rattle.gateway_top.specs.Words.{Board}
-use Rattle.gateway_top.specs.Work.{Arrived, Arrives, Directory, IsBoardOf, IsBoardOfFiles, nothing}
+use Rattle.gateway_top.specs.Work.{Arrives, Directory, IsBoardOf, IsBoardOfFiles, nothing}
 use Rattle.gateway_top.specs.declared.exit.Exit.{Exit}
 
 -- both texts are those of the board

@@ -4,7 +4,6 @@ use Rattle.std.proofs.lemmas.Bool.{and_parts}
 use Rattle.std.specs.Prelude.{IsTrue, pos, codes, int_le, nat_le, nat_lt}
 use Rattle.std.proofs.Math.IntN.{+ℤ-neg_ℤ_cancel}
 use Rattle.std.proofs.lemmas.Bool.Decides.{nat_tests}
-use Rattle.std.proofs.lemmas.List.{map-append}
 use Rattle.std.specs.Char.{is_ascii_digit}
 use Rattle.std.specs.List.{list_all, AllByRecursion}
 use Rattle.std.specs.Str.Parse.{ParsesUnsigned}
@@ -18,7 +17,7 @@ use Rattle.gateway_top.specs.declared.words.forms.Form as declared
 use Rattle.gateway_top.specs.declared.words.forms.Form.TheVariants as form
 use Rattle.gateway_top.specs.declared.words.table.Command.{Command}
 use Rattle.gateway_top.specs.declared.words.table.Pair.{Pair}
-use Rattle.std.proofs.lemmas.List.{length-map}
+use Rattle.std.proofs.lemmas.List.{length-map, map-append}
 use Rattle.service_day.specs.DayTexts.{day_of, dashed_text}
 use Rattle.service_day.specs.declared.days.DayForm.TheVariants.{Dashed}
 use Rattle.service_day.specs.Utc.{moment_text}

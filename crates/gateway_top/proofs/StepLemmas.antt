@@ -10,8 +10,3 @@ pub ended : {X A B E : Type 0} (told : Option X) (is_free : E → Bool) (First :
     → IfSome told (λ x. UnlessFree is_free (Err end) (Then (First x) (Next x)))
 ended None is_free First Next end first = tt
 ended (Some x) is_free First Next end first = unless_free is_free end (First x) (Then (First x) (Next x)) (λ h. inl h) first
-
--- what needs no files holds over any that are told
-pub whatever_told : {X : Type 0} (told : Option X) (P : Type 0) → P → IfSome told (λ x. P)
-whatever_told None P holds = tt
-whatever_told (Some x) P holds = holds
