@@ -11,6 +11,7 @@
 #   --rounds N           ends after so many rounds, with the status of the last one; else it goes on until it is ended
 #   --from-headers FILE  header lines for the GET, such as the key of an API
 #   --to-headers FILE    header lines for the POST, such as the secret of a proxy
+#   --keep FILE          a file that each body takes the place of that the gateway took something of, as deploy/boards reads it
 #   --through COMMAND    a command of bash that turns what came, on its standard input, into what is posted
 #
 # Each round is a line on standard output: the time, what came, what became of it. A body that the operator says is
@@ -23,7 +24,7 @@
 set -euo pipefail
 
 MOST_BODY=16777216
-every=30 most=300 within=60 rounds=0 from_headers=/dev/null to_headers=/dev/null through=
+every=30 most=300 within=60 rounds=0 from_headers=/dev/null to_headers=/dev/null through='' keep=''
 
 refuse() {
   printf 'fetch.sh: %s\n' "$1" >&2
@@ -49,6 +50,10 @@ while [ $# -gt 0 ]; do
     --through)
       [ -n "${2-}" ] || refuse "$1 takes a command"
       through=$2
+      ;;
+    --keep)
+      [[ -n "${2-}" && -w $(dirname "$2") ]] || refuse "$1 takes a file in a folder that can be written"
+      keep=$2
       ;;
     -*) refuse "$1 is no option; --help has them" ;;
     *)
@@ -183,6 +188,13 @@ report() {
   if [ "$taken" -eq 0 ] && [ "$faults" != 0 ]; then return 76; fi
 }
 
+# The body as a whole in the place of the one before.
+kept() {
+  if [ -n "$keep" ] && ! { cp "$folder/body" "$keep.new" && mv "$keep.new" "$keep"; } 2> "$folder/why"; then
+    said+=", not kept: $(tail -n 1 "$folder/why")"
+  fi
+}
+
 # Posts the body, three times where there is no answer. Adds to `said`, and answers with the status of the round.
 post() {
   local code
@@ -194,7 +206,10 @@ post() {
   fi
   code=$(cat "$folder/code")
   case $code in
-    200) report ;;
+    200)
+      report || return
+      kept
+      ;;
     5??)
       said+=", no answer: $code $({ grep -a -m 1 '^H5' "$folder/answer" || true; })"
       return 75

@@ -3,6 +3,7 @@
 from dataclasses import dataclass
 
 from . import alerts, written_feed
+from .board import visits, written_board
 from .deliveries import NotDelivery, read_delivery
 from .feeds import FeedFault, read_feed
 from .files import NotReadable, TooLong
@@ -63,7 +64,7 @@ def ended(work):
 
 
 class FurtherFault(Exception):
-    """A further file is too long, or what it holds is refused."""
+    """A further file is too long, what it holds is refused, or a board's stop isn't in the folder."""
 
 
 def run(work, files):
@@ -74,6 +75,8 @@ def run(work, files):
     context = Context(table, read_zone(work, files), window_of(work))
     if work.command == "to-gtfsrt":
         return to_gtfsrt(work, files, context)
+    if work.command == "board":
+        return board(work, files, context)
     return read_from_feed(work, files, context)
 
 
@@ -93,13 +96,13 @@ def read_zone(work, files):
     return read_zone_file(further_file(files, work.zone_file, MOST_ZONE_BYTES))
 
 
-# A feed from deliveries.
+# A feed or a board from deliveries.
 
 
-def to_gtfsrt(work, files, context):
-    """Of several records of a journey the one recorded last counts, of equal ones the later arrival; of
-    several situations of a number the greatest version, in the same way. A new journey is set aside as Full where
-    50,000 were taken before it, and a situation of a new number where 5,000 numbers were."""
+def take_deliveries(work, files, context):
+    """The journeys, the situations and the reports. Of several records of a journey the one recorded last counts, of
+    equal ones the later arrival; of several situations of a number the greatest version, in the same way. A new journey
+    is set aside as Full where 50,000 were taken before it, and a situation of a new number where 5,000 numbers were."""
     journeys, situations = {}, {}
     reports = ""
     for kind, path in work.further:
@@ -114,13 +117,27 @@ def to_gtfsrt(work, files, context):
         aside = [(i, fault) for i, (fault, _) in enumerate(items) if fault is not None]
         passed = sum(count for _, count in items)
         reports += report(path, len(items) - len(aside), passed, aside)
+    return journeys, situations, reports.encode()
+
+
+def to_gtfsrt(work, files, context):
+    journeys, situations, reports = take_deliveries(work, files, context)
     out = written_feed.header(work.at)
     for key in sorted(journeys):
         out += written_feed.journey_entity(journeys[key], context)
     for number in sorted(situations, key=lambda number: number.encode()):
         if situations[number].is_served:
             out += written_feed.bytes_field(2, alerts.alert_body(situations[number]))
-    return Outcome(0, out, reports.encode())
+    return Outcome(0, out, reports)
+
+
+def board(work, files, context):
+    """The first visits at a stop, which is looked for before any delivery is read."""
+    if context.table.station_of(work.stop) is None:
+        raise FurtherFault(f"UnknownStop {work.stop}")
+    journeys, _, reports = take_deliveries(work, files, context)
+    found = visits(journeys.values(), work.stop, work.at, work.minutes)
+    return Outcome(0, written_board(found[: work.most], context, work.stop, work.at), reports)
 
 
 def take_journeys(verdicts, journeys):

@@ -15,6 +15,10 @@ MOST_SEED = 2_147_483_647
 MOST_TRIPS = 20_000
 FEWEST_STOPS = 2
 MOST_STOPS = 100
+MOST_MINUTES = 1_440
+MOST_VISITS = 10_000
+# What any number of deliveries may follow, and of which kinds.
+FURTHER = {"to-gtfsrt": ("--et", "--sx"), "board": ("--et",)}
 
 
 class BadWord(Exception):
@@ -44,6 +48,9 @@ class Work:
     seed: int = None
     trips: int = None
     stops: int = None
+    stop: str = None
+    minutes: int = None
+    most: int = None
     further: list = field(default_factory=list)  # pairs of "--et" or "--sx" and a file
 
 
@@ -92,7 +99,7 @@ def read_words(raw, keeps=False):
     def number(least, most):
         return take(lambda word: number_word(word, least, most))
 
-    work = Work(command=flag("serve", "to-gtfsrt", "to-siri", "to-siri-sx", "show", "make"))
+    work = Work(command=flag("serve", "to-gtfsrt", "to-siri", "to-siri-sx", "show", "board", "make"))
     if work.command == "make":
         flag("--seed")
         work.seed = number(0, MOST_SEED)
@@ -129,11 +136,19 @@ def read_words(raw, keeps=False):
     if work.command != "show":
         flag("--at")
         work.at = take(read_utc)
-    if work.command != "to-gtfsrt":
+    if work.command == "board":
+        flag("--stop")
+        work.stop = text()
+        flag("--minutes")
+        work.minutes = number(1, MOST_MINUTES)
+        flag("--max")
+        work.most = number(1, MOST_VISITS)
+    kinds = FURTHER.get(work.command, ())
+    if not kinds:
         flag("--feed")
         work.feed = text()
-    while work.command == "to-gtfsrt" and place < len(words):
-        kind = flag("--et", "--sx")
+    while kinds and place < len(words):
+        kind = flag(*kinds)
         work.further.append((kind, text()))
     if place < len(words):
         raise BadWord(place)

@@ -1,6 +1,7 @@
 """A random case of a command, by a seed and a number."""
 
 from .alert_cases import Alerts
+from .board_cases import board_words, board_world
 from .case import Case
 from .edges import edge_case
 from .feed_cases import Feeds, random_feed
@@ -9,7 +10,7 @@ from .place_cases import place_case
 from .siri_cases import AT, Journeys, Situations, random_body
 from .worlds import faulty_folder, random_world
 
-COMMANDS = ("to-gtfsrt", "to-siri", "to-siri-sx", "show", "make")
+COMMANDS = ("to-gtfsrt", "to-siri", "to-siri-sx", "show", "board", "make")
 ODD_WORDS = [
     b"", b"\xff", b"to-siri", b"show", b"--et", b"--sx", b"--gtfs", b"--zone-file", b"--zone-rule", b"--feed",
     b"--at", b"--from", b"--days", b"to-siri-sx",
@@ -20,6 +21,7 @@ ODD_WORDS = [
     b"1970-01-01T00:00:00Z", b"1969-12-31T23:59:59Z", b"9998-12-31T23:59:59Z", b"9999-01-01T00:00:00Z",
     b"2024-05-01T24:00:00Z", b"make", b"--seed", b"--trips", b"--stops", b"2147483647", b"2147483648",
     b"2024-05-01T06:00:00+00:00", b"UTC0", b"-h", b"help", b"--version", b"g", b"\xc3\xa9", b"--gtfs=g",
+    b"board", b"--stop", b"--minutes", b"--max",
 ]
 
 
@@ -31,6 +33,9 @@ EDGES = {
     b"2024-02-30T00:00:00Z", b"2024-05-01T06:00:00Z"],
     b"--seed": [b"0", b"2147483647", b"2147483648", b"4294967296", b"-1", b"00000000007", b"0000000007"],
     b"--trips": [b"0", b"1", b"20001", b"4294967296", b"9999999999", b"01", b"00000000001"],
+    b"--stop": [b"", b"\xff", b"x" * 200, b"x" * 201, b" A", b"--minutes"],
+    b"--minutes": [b"0", b"1", b"1440", b"1441", b"0000000060", b"00000000060", b"-1", b"60.0"],
+    b"--max": [b"0", b"1", b"10000", b"10001", b"0000000001", b"00000000001", b"+1", b""],
     b"--stops": [b"0", b"1", b"2", b"100", b"101", b"0000000002", b"00000000002", b""],
 }
 
@@ -39,16 +44,18 @@ def random_case(seed, command, number, with_situations=True):
     dice = Dice(f"{seed} {command} {number}")
     if command == "make":
         return sample_case(dice, with_situations)
-    if command != "to-siri-sx" and dice.one_in(15):
+    if command not in ("to-siri-sx", "board") and dice.one_in(15):
         return edge_case(dice, command)
-    if command != "to-siri-sx" and dice.one_in(12):
+    if command not in ("to-siri-sx", "board") and dice.one_in(12):
         return place_case(dice, command)
-    world = random_world(dice)
+    world = board_world(dice) if command == "board" else random_world(dice)
     subject = dice.weighted(inner=22, folder=5, words=1.5, files=0.5)
     if subject == "folder":
         faulty_folder(dice, world)
     if command == "to-gtfsrt":
         words, files = deliveries_of(dice, world, with_situations)
+    elif command == "board":
+        words, files = board_words(dice, world)
     else:
         words = world.words(command, None if command == "show" else dice.choice(AT))
         maker = Alerts if command == "to-siri-sx" else Feeds

@@ -6,8 +6,9 @@ from datetime import date
 from reading.words import BadWord, read_words
 
 ZONE = ("--zone-rule", "--zone-file")
-TEXT, FILE, FOLDER, RULE, DAY, DAYS, MOMENT, KEEP, ADDRESS, COUNT, SEED, TRIPS, STOPS = (
-    "TEXT", "FILE", "DIR", "ZONE", "DAY", "DAYS", "MOMENT", "KEEP", "ADDRESS", "COUNT", "SEED", "TRIPS", "STOPS",
+TEXT, FILE, FOLDER, RULE, DAY, DAYS, MOMENT, KEEP, ADDRESS, COUNT, STOP, MINUTES, VISITS, SEED, TRIPS, STOPS = (
+    "TEXT", "FILE", "DIR", "ZONE", "DAY", "DAYS", "MOMENT", "KEEP", "ADDRESS", "COUNT", "STOP", "MINUTES", "VISITS", "SEED", "TRIPS",
+    "STOPS",
 )
 
 # What a value has to be, and one that is right.
@@ -21,6 +22,9 @@ VALUES = {
     KEEP: "how many days before the present one stay: from 0 to 31, and less than --days",
     ADDRESS: "an address or a host, a colon and a port, such as 127.0.0.1:8080",
     COUNT: "how many connections are served, from 1 to 4294967295",
+    STOP: "a stop_id of stops.txt",
+    MINUTES: "how many minutes a board looks ahead, from 1 to 1440",
+    VISITS: "how many visits a board has at most, from 1 to 10000",
     SEED: "a number from 0 to 2147483647",
     TRIPS: "a number from 1 to 20000",
     STOPS: "a number from 2 to 100",
@@ -33,11 +37,12 @@ COMMANDS = {
     "to-siri": SCHEDULE + [("--at",), MOMENT, ("--feed",), FILE],
     "to-siri-sx": SCHEDULE + [("--at",), MOMENT, ("--feed",), FILE],
     "show": SCHEDULE + [("--feed",), FILE],
+    "board": SCHEDULE + [("--at",), MOMENT, ("--stop",), STOP, ("--minutes",), MINUTES, ("--max",), VISITS],
     "make": [("--seed",), SEED, ("--trips",), TRIPS, ("--stops",), STOPS],
 }
 # Pairs that may follow, once and in this order; and such as may follow any number of times.
 ONCE = {"serve": [("--journal",), FILE]}
-FURTHER = {"to-gtfsrt": [("--et", "--sx"), FILE]}
+FURTHER = {"to-gtfsrt": [("--et", "--sx"), FILE], "board": [("--et",), FILE]}
 ALONE = ("--help", "--version")
 USAGE = {
     "serve": "--gtfs DIR ZONE --from DAY --days N --keep K --listen ADDRESS --connections C [--journal FILE]",
@@ -45,6 +50,7 @@ USAGE = {
     "to-siri": "--gtfs DIR ZONE --from DAY --days N --at MOMENT --feed FILE",
     "to-siri-sx": "--gtfs DIR ZONE --from DAY --days N --at MOMENT --feed FILE",
     "show": "--gtfs DIR ZONE --from DAY --days N --feed FILE",
+    "board": "--gtfs DIR ZONE --from DAY --days N --at MOMENT --stop STOP --minutes M --max V [--et FILE]...",
     "make": "--seed X --trips T --stops S",
 }
 ZONE_LINE = "ZONE is --zone-rule RULE or --zone-file FILE (/usr/share/zoneinfo/Europe/Oslo)"

@@ -155,6 +155,11 @@ def carry_out(said, work, files):
     said.tell(f"the folder is taken: {len(context.table.trips)} trips are carried")
     if work.command == "serve":
         return tell_serve(said, work)
+    if work.command == "board" and context.table.station_of(work.stop) is None:
+        said.tell(f"gateway: UnknownStop {work.stop} (status 65)")
+        said.tell_all(unknown_stop(work.stop, context.table))
+        return REFUSED
+    said.tell_all(platform_lines(work, context.table), 0)
     named = [("feed", work.feed)] if work.feed else [(kind[2:], path) for kind, path in work.further]
     kept, status = {"et": {}, "sx": {}}, WELL
     for kind, path in named:
@@ -165,6 +170,21 @@ def carry_out(said, work, files):
     if status == WELL:
         said.tell_all(failed.output_lines(), 0)
     return status
+
+
+def unknown_stop(stop, table):
+    """What may have been meant."""
+    near = grammar.neighbour(stop, list(table.stations))
+    hint = f"; did you mean {near}?" if near else ""
+    return [f"no row of stops.txt has the stop_id {stop!r}{hint}"]
+
+
+def platform_lines(work, table):
+    """Of a board of a station, the stops at which its vehicles stop: each has a board of its own."""
+    stops = [stop for stop, station in table.stations.items() if station == work.stop != stop]
+    if not stops:
+        return []
+    return [f"{work.stop} is a station; vehicles stop at {', '.join(stops)}, and each of these has a board of its own"]
 
 
 def tell_body(said, work, files, context, kind, path, kept):

@@ -11,6 +11,8 @@ usage: gateway serve      SCHEDULE --keep K --listen ADDRESS --connections C
        gateway to-siri    SCHEDULE --at MOMENT --feed FILE
        gateway to-siri-sx SCHEDULE --at MOMENT --feed FILE
        gateway show       SCHEDULE --feed FILE
+       gateway board      SCHEDULE --at MOMENT --stop STOP --minutes M --max V
+                          [--et FILE]...
        gateway make       --seed X --trips T --stops S
        gateway --help | --version
 
@@ -27,6 +29,9 @@ C         how many connections are served, from 1 to 4294967295
 F         a file that keeps each accepted body, so that a start goes on from them
 MOMENT    the moment of the result, in UTC: YYYY-MM-DDThh:mm:ssZ
 FILE      a delivery in JSON (--et, --sx), or a feed in protobuf (--feed)
+STOP      a stop_id of the folder
+M, V      how many minutes a board looks ahead, from 1 to 1440, and how many
+          visits it has at most, from 1 to 10000
 X, T, S   the numbers of a sample: a seed, from 0 to 2147483647, how many trips,
           from 1 to 20000, and at how many stops each stops, from 2 to 100
 
@@ -53,6 +58,11 @@ show prints how each stop of the journeys of a feed reads:
   ./gateway show --gtfs examples/sample \\
     --zone-rule CET-1CEST,M3.5.0,M10.5.0/3 --from 2024-05-01 --days 2 \\
     --feed examples/late.pb
+board makes a SIRI StopMonitoring delivery of what stops soon at one stop:
+  ./gateway board --gtfs examples/sample \\
+    --zone-rule CET-1CEST,M3.5.0,M10.5.0/3 --from 2024-05-01 --days 2 \\
+    --at 2024-05-01T06:00:00Z --stop B --minutes 60 --max 10 \\
+    --et examples/late.json > board.json
 make generates a folder and deliveries from three numbers, runs them end to
 end without reading files, and counts what the feed says of all stops:
   ./gateway make --seed 0 --trips 1 --stops 3

@@ -1,16 +1,17 @@
 -- What the words left say after what arrived is what all words say.
 use Rattle.std.proofs.Common.{◌≡◌, ◌∙◌, ◌<◌, ◌++◌, ◌∷◌, [], ℕ, ℤ, List, length, Result, Ok, Err, Option, Some, None, IfSome, inl, inr, refl, subst, arith}
+use Rattle.std.specs.Prelude.{OnOk}
 use Rattle.gw_base.specs.Answers.{UnlessFree}
 use Rattle.gw_base.proofs.AnswerLemmas.{unless_free}
 use Rattle.gw_base.specs.Limits.{body_limit}
 use Rattle.journey_model.specs.declared.report.Report.{Report}
-use Rattle.gateway_core.specs.Arrivals.{Arrival}
+use Rattle.gateway_core.specs.Arrivals.{Arrival, Given}
 use Rattle.gateway_core.specs.Reports.{feed_report}
 use Rattle.gateway_core.specs.Standing.{Kept, Stands}
 use Rattle.gateway_core.specs.declared.setting.Setting.{Setting}
 use Rattle.gateway_top.specs.Done.{Done}
 use Rattle.gateway_top.specs.Exits.{is_free}
-use Rattle.gateway_top.specs.Served.{Takes, TakesAll}
+use Rattle.gateway_top.specs.Served.{IsStanding, Takes, TakesAll}
 use Rattle.gateway_top.specs.Work.{Arrived, Arrives, GivesBody, IsConversion, IsConverted, Directory, GivesFile, IsFurtherFile, nothing}
 use Rattle.gateway_top.specs.declared.exit.Exit.{Exit}
 
@@ -26,6 +27,14 @@ file_read (Some files) setting at flag name body before now (Err end) read took 
     λ arrivals stands.
     unless_free is_free end (Takes (GivesBody setting at flag name body arrivals) at arrivals now) (Takes (GivesFile setting at flag name files arrivals) at arrivals now)
     (λ h. inr (body, read, h)) (took arrivals stands)
+
+-- a gateway that stands for what arrived stands for something after a body more, whatever its file tells
+pub still_stands : (Step : List Arrival → Result (Given × Report) Exit → Type 0) (at : ℤ) (before now : Kept) (answer : Result Report Exit)
+    → ((arrivals : List Arrival) → Stands before arrivals → UnlessFree is_free answer (Takes (Step arrivals) at arrivals now))
+    → IsStanding before → OnOk answer (IsStanding now)
+still_stands Step at before now (Ok report) took (arrivals, stands) =
+    let got = took arrivals stands in (record { moment = at; gives = got.0 } ∷ arrivals, got.2)
+still_stands Step at before now (Err end) took standing = tt
 
 -- what arrived so far stands, and what the words left say after it is what all words say
 pub record HasArrived (setting : Setting) (at : ℤ) (files : Directory) (words rest : List (List ℕ)) (now : Kept) (reports : List ℕ) : Type 0 where

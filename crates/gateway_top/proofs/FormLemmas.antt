@@ -1,5 +1,5 @@
 -- What values of a form are read as, and a value of each form.
-use Rattle.std.proofs.Common.{◌≡◌, ◌++◌, refl, ℕ, ◌≤◌, ℤ, List, [], ◌∷◌, map, Option, Some, None, Result, Ok, length, subst, arith, rules, Bool, true, false, cond, ◌&&◌}
+use Rattle.std.proofs.Common.{◌++◌, ◌≡◌, refl, ℕ, ◌≤◌, ℤ, List, [], ◌∷◌, map, Option, Some, None, Result, Ok, length, subst, arith, rules, Bool, true, false, cond, ◌&&◌}
 use Rattle.std.proofs.lemmas.Bool.{and_parts}
 use Rattle.std.specs.Prelude.{IsTrue, pos, codes, int_le, nat_le, nat_lt}
 use Rattle.std.proofs.Math.IntN.{+ℤ-neg_ℤ_cancel}
@@ -9,8 +9,8 @@ use Rattle.std.specs.List.{list_all, AllByRecursion}
 use Rattle.std.specs.Str.Parse.{ParsesUnsigned}
 use Rattle.std.proofs.lemmas.Option.{none-some, same_Some, option_and_then_some}
 use Rattle.std.proofs.lemmas.Str.Parse.{IsNumeralModel, numerals_by_fold, parse_gives, digits_value_short}
-use Rattle.gateway_top.specs.Forms.{is_connection_count, is_day, is_day_count, is_filled, is_kept_count, is_moment, is_seed, is_stop_count, is_trip_count, beginning, day_count, decimal_number, is_number, going_on, ends_in_time, first_day, keeps_fewer, last_day, most_days}
-use Rattle.gateway_top.specs.Rows.{form_of, has_flag, pair_of, row_of, have_flags}
+use Rattle.gateway_top.specs.Forms.{is_connection_count, is_day, is_day_count, is_filled, is_kept_count, is_minute_count, is_moment, is_seed, is_stop_count, is_trip_count, is_visit_count, beginning, day_count, decimal_number, is_number, going_on, ends_in_time, first_day, keeps_fewer, last_day, most_days}
+use Rattle.gateway_top.specs.Rows.{has_flag, form_of, pair_of, row_of, have_flags}
 use Rattle.gateway_top.specs.Tables.{CanBeMet, CanStand, IsSatisfiable}
 use Rattle.gateway_top.proofs.TableLemmas.{AreSatisfiable}
 use Rattle.gateway_top.specs.declared.words.forms.Form as declared
@@ -97,6 +97,12 @@ trip_count_met before = (codes "1", refl)
 stop_count_met : CanBeMet is_stop_count
 stop_count_met before = (codes "2", refl)
 
+minute_count_met : CanBeMet is_minute_count
+minute_count_met before = (codes "1", refl)
+
+visit_count_met : CanBeMet is_visit_count
+visit_count_met before = (codes "1", refl)
+
 form_met : (form : declared.Form) → CanBeMet (form_of form)
 form_met form.Filled = filled_met
 form_met form.Day = day_met
@@ -107,6 +113,8 @@ form_met form.Moment = moment_met
 form_met form.Seed = seed_met
 form_met form.TripCount = trip_count_met
 form_met form.StopCount = stop_count_met
+form_met form.MinuteCount = minute_count_met
+form_met form.VisitCount = visit_count_met
 
 pairs_met : (pairs : List Pair) → list_all has_flag pairs ≡ true → AllByRecursion CanStand (map pair_of pairs)
 pairs_met [] h = tt

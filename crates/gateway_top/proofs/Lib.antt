@@ -1,3 +1,4 @@
+mod BoardLemmas
 mod DeliveryLemmas
 mod FeedSteps
 mod FormLemmas

@@ -16,10 +16,10 @@ use Rattle.feed_reading.specs.Tables.{MeansFeed}
 use Rattle.journey_model.specs.FeedReadings.{is_differential}
 use Rattle.gateway_top.specs.Bodies.{differential_end}
 use Rattle.gateway_top.specs.Done.{Done}
-use Rattle.gateway_top.specs.Published.{IsFullFeed, IsSetting, IsZone, PublishesWith, PublishesCounts, PublishesFeed, PublishesLines, PublishesSiri, PublishesSituations, PublishesTask}
+use Rattle.gateway_top.specs.Published.{IsFullFeed, IsSetting, IsZone, PublishesWith, PublishesBoard, PublishesCounts, PublishesFeed, PublishesLines, PublishesSiri, PublishesSituations, PublishesTask}
 use Rattle.gateway_top.specs.Tables.{Pair}
-use Rattle.gateway_top.specs.Words.{IsJobWith, Make, NamedZone, Scope, Serve, Show, Task, ToGtfsrt, ToSiri, by_rule, by_file, gtfsrt_task, make_task, serve_job, show_task, siri_task, sx_task, task_job}
-use Rattle.gateway_top.specs.Work.{Directory, IsFileFeed, IsMakeWork, OverFiles, IsSettingOf, IsShowWork, IsTaskWork, IsToGtfsrtWork, IsToSiriSxWork, IsToSiriWork, IsNamedZone, folder, full, further, zone_limit}
+use Rattle.gateway_top.specs.Words.{Board, IsJobWith, Make, NamedZone, Scope, Serve, Show, Task, ToGtfsrt, ToSiri, by_rule, by_file, board_task, gtfsrt_task, make_task, serve_job, show_task, siri_task, sx_task, task_job}
+use Rattle.gateway_top.specs.Work.{Directory, IsBoardWork, IsFileFeed, IsMakeWork, OverFiles, IsSettingOf, IsShowWork, IsTaskWork, IsToGtfsrtWork, IsToSiriSxWork, IsToSiriWork, IsNamedZone, folder, full, further, zone_limit}
 use Rattle.gateway_top.specs.declared.exit.Exit.{Exit}
 use Rattle.gateway_top.specs.declared.exit.Exit.TheVariants.{Refused}
 use Rattle.gateway_core.specs.declared.setting.Setting.{Setting}
@@ -131,6 +131,22 @@ lines_published files command done before now (setting, setting_is, (feed, read,
       written = written ∙ ap (with_bytes before) lines;
     }
 
+-- and the board of the stop that was found
+board_published : (files : Directory) (command : Board) (done : Done) (before now : Option (List ℕ))
+    → IsBoardWork command files (Ok done) → now ≡ with_bytes before done.out → PublishesBoard command files before now
+board_published files command done before now (setting, setting_is, (stop, stop_is, (arrived, read, (shows, reported)))) written =
+    record {
+      setting = setting;
+      has_setting = is_setting command.scope None files setting setting_is;
+      stop = stop;
+      is_stop = stop_is;
+      arrived = arrived;
+      read = read;
+      text = done.out;
+      written = written;
+      shows = shows;
+    }
+
 -- and the line of a sample its counts
 counts_published : (command : Make) (done : Done) (before now : Option (List ℕ)) → IsMakeWork command (Ok done) → now ≡ with_bytes before done.out
     → PublishesCounts command before now
@@ -144,6 +160,7 @@ publishes_task files (gtfsrt_task command) done before now work written = feed_p
 publishes_task files (siri_task command) done before now work written = siri_published files command done before now work written
 publishes_task files (sx_task command) done before now work written = situations_published files command done before now work written
 publishes_task files (show_task command) done before now work written = lines_published files command done before now work written
+publishes_task files (board_task command) done before now work written = board_published files command done before now work written
 publishes_task files (make_task command) done before now work written = counts_published command done before now work written
 
 told_published : (files : Option Directory) (task : Task) (done : Done) (before now : Option (List ℕ))
@@ -159,6 +176,7 @@ publishes files (gtfsrt_task command) done before now work written = told_publis
 publishes files (siri_task command) done before now work written = told_published files (siri_task command) done before now work written
 publishes files (sx_task command) done before now work written = told_published files (sx_task command) done before now work written
 publishes files (show_task command) done before now work written = told_published files (show_task command) done before now work written
+publishes files (board_task command) done before now work written = told_published files (board_task command) done before now work written
 publishes files (make_task command) done before now work written = counts_published command done before now work written
 
 -- the same by the words

@@ -7,11 +7,11 @@ use Rattle.std.proofs.lemmas.Bool.Decides.{nat_tests}
 use Rattle.std.proofs.lemmas.Cmp.{nat_list_eq_equiv}
 use Rattle.std.proofs.lemmas.Int.{ints}
 use Rattle.std.proofs.lemmas.Option.{none-some, option_and_then_some, same_Some, slice_get_read, slice_get_within}
-use Rattle.gateway_top.specs.Forms.{beginning, connection_count, day_count, decimal_number, ends_in_time, fewest_stops, first_day, keeps_fewer, kept_count, last_day, most_days, most_seed, most_stops, most_trips, number_in, seed_number, stop_count, trip_count}
+use Rattle.gateway_top.specs.Forms.{beginning, connection_count, day_count, decimal_number, ends_in_time, fewest_stops, first_day, keeps_fewer, kept_count, last_day, minute_count, most_days, most_seed, most_stops, most_trips, number_in, seed_number, stop_count, trip_count, visit_count}
 use Rattle.gateway_top.specs.Tables.{Command, Pair, with_name, ArePairs, IsAccepted}
 use Rattle.gateway_top.specs.Windowed.{CanRun, HasWindow}
 use Rattle.gateway_top.specs.Work.{reads_files}
-use Rattle.gateway_top.specs.Words.{IsJobWith, Job, Says, Make, SaysMake, SaysScope, SaysServe, SaysShow, SaysToGtfsrt, SaysToSiri, SaysToSiriSx, Scope, Serve, Show, Task, ToGtfsrt, ToSiri, at_pair, commands, connections_pair, feed_pair, gtfsrt_task, keep_pair, listen_pair, make, make_task, no_pair, over_a_folder, serve, serve_job, show, show_task, siri_task, sx_task, task_job, to_gtfsrt, to_siri, to_siri_sx, zone_by}
+use Rattle.gateway_top.specs.Words.{Board, IsJobWith, Job, Says, Make, SaysBoard, SaysMake, SaysScope, SaysServe, SaysShow, SaysToGtfsrt, SaysToSiri, SaysToSiriSx, Scope, Serve, Show, Task, ToGtfsrt, ToSiri, at_pair, board, board_task, commands, connections_pair, feed_pair, gtfsrt_task, keep_pair, listen_pair, make, make_task, max_pair, minutes_pair, no_pair, over_a_folder, serve, serve_job, show, show_task, stop_pair, siri_task, sx_task, task_job, to_gtfsrt, to_siri, to_siri_sx, zone_by}
 use Rattle.gateway_top.proofs.FormLemmas.{beginning_range, cond_then}
 use Rattle.gateway_top.proofs.TableLemmas.{HasPair, pair_of, double}
 use Rattle.service_day.specs.Utc.{utc_of}
@@ -128,6 +128,31 @@ show_read name words named pairs =
       record { name = ap Some named; scope = scope.1; feed = feed.5 },
     )
 
+board_read : (name : List ℕ) (words : List (List ℕ)) → name ≡ codes "board" → ArePairs board 0 name words
+    → (command : Board) × SaysBoard (name ∷ words) command
+unfolding board
+board_read name words named pairs =
+    let scope = scoped (codes "board") (at_pair ∷ stop_pair ∷ minutes_pair ∷ max_pair ∷ []) [] board.repeated name words pairs in
+    let pair = pair_in (codes "board") (at_pair ∷ stop_pair ∷ minutes_pair ∷ max_pair ∷ []) [] board.repeated name words pairs in
+    let at = pair 4 (omega arith) in
+    let stop = pair 5 (omega arith) in
+    let minutes = pair 6 (omega arith) in
+    let most = pair 7 (omega arith) in
+    let second = some_of (utc_of at.2) at.7 in
+    let count = some_of (minute_count minutes.2) minutes.7 in
+    let visits = some_of (visit_count most.2) most.7 in (
+      record { scope = scope.0; at = second.0; stop = stop.2; minutes = count.0; most = visits.0; more = drop 17 (name ∷ words) },
+      record {
+        name = ap Some named;
+        scope = scope.1;
+        at = ap (option_and_then utc_of) at.5 ∙ second.1;
+        stop = stop.5;
+        minutes = ap (option_and_then minute_count) minutes.5 ∙ count.1;
+        most = ap (option_and_then visit_count) most.5 ∙ visits.1;
+        more = refl;
+      },
+    )
+
 make_read : (name : List ℕ) (words : List (List ℕ)) → name ≡ codes "make" → ArePairs make 0 name words
     → (command : Make) × SaysMake (name ∷ words) command
 unfolding make
@@ -149,38 +174,41 @@ make_read name words named pairs =
 
 -- an accepted list can be read
 pub read : (optional : List Pair) (words : List (List ℕ)) → IsAccepted (commands optional) words → (job : Job) × Says words job
-unfolding commands serve to_gtfsrt to_siri to_siri_sx show make
+unfolding commands serve to_gtfsrt to_siri to_siri_sx show board make
 read optional [] is = absurd is
 read optional (name ∷ words) is =
     by (pointwise nat_eq (codes "serve") name) (pointwise nat_eq (codes "to-gtfsrt") name) (pointwise nat_eq (codes "to-siri") name)
-    (pointwise nat_eq (codes "to-siri-sx") name) (pointwise nat_eq (codes "show") name) (pointwise nat_eq (codes "make") name)
-    refl refl refl refl refl refl is
+    (pointwise nat_eq (codes "to-siri-sx") name) (pointwise nat_eq (codes "show") name) (pointwise nat_eq (codes "board") name) (pointwise nat_eq (codes "make") name)
+    refl refl refl refl refl refl refl is
   where
-    by : (s a b x c m : Bool) → pointwise nat_eq (codes "serve") name ≡ s → pointwise nat_eq (codes "to-gtfsrt") name ≡ a
+    by : (s a b x c d m : Bool) → pointwise nat_eq (codes "serve") name ≡ s → pointwise nat_eq (codes "to-gtfsrt") name ≡ a
         → pointwise nat_eq (codes "to-siri") name ≡ b → pointwise nat_eq (codes "to-siri-sx") name ≡ x
-        → pointwise nat_eq (codes "show") name ≡ c → pointwise nat_eq (codes "make") name ≡ m
+        → pointwise nat_eq (codes "show") name ≡ c → pointwise nat_eq (codes "board") name ≡ d → pointwise nat_eq (codes "make") name ≡ m
         → IsSomeAnd (cond s (Some (serve optional)) (cond a (Some to_gtfsrt) (cond b (Some to_siri) (cond x (Some to_siri_sx)
-        (cond c (Some show) (cond m (Some make) None)))))) (λ command. ArePairs command 0 name words)
+        (cond c (Some show) (cond d (Some board) (cond m (Some make) None))))))) (λ command. ArePairs command 0 name words)
         → (job : Job) × Says (name ∷ words) job
-    by true a b x c m es ea eb ex ec em pairs =
+    by true a b x c d m es ea eb ex ec ed em pairs =
         let found = serve_read optional name words (sym (same_text _ _ (sym es))) pairs in
         (serve_job found.0, found.1)
-    by false true b x c m es ea eb ex ec em pairs =
+    by false true b x c d m es ea eb ex ec ed em pairs =
         let found = gtfsrt_read name words (sym (same_text _ _ (sym ea))) pairs in
         (task_job (gtfsrt_task found.0), found.1)
-    by false false true x c m es ea eb ex ec em pairs =
+    by false false true x c d m es ea eb ex ec ed em pairs =
         let found = siri_read name words (sym (same_text _ _ (sym eb))) pairs in
         (task_job (siri_task found.0), found.1)
-    by false false false true c m es ea eb ex ec em pairs =
+    by false false false true c d m es ea eb ex ec ed em pairs =
         let found = sx_read name words (sym (same_text _ _ (sym ex))) pairs in
         (task_job (sx_task found.0), found.1)
-    by false false false false true m es ea eb ex ec em pairs =
+    by false false false false true d m es ea eb ex ec ed em pairs =
         let found = show_read name words (sym (same_text _ _ (sym ec))) pairs in
         (task_job (show_task found.0), found.1)
-    by false false false false false true es ea eb ex ec em pairs =
+    by false false false false false true m es ea eb ex ec ed em pairs =
+        let found = board_read name words (sym (same_text _ _ (sym ed))) pairs in
+        (task_job (board_task found.0), found.1)
+    by false false false false false false true es ea eb ex ec ed em pairs =
         let found = make_read name words (sym (same_text _ _ (sym em))) pairs in
         (task_job (make_task found.0), found.1)
-    by false false false false false false es ea eb ex ec em pairs = absurd pairs
+    by false false false false false false false es ea eb ex ec ed em pairs = absurd pairs
 
 -- ---- which command a list is by its name
 
@@ -195,6 +223,7 @@ not_both words command (gtfsrt_task other) is and = name_differs (slice_get word
 not_both words command (siri_task other) is and = name_differs (slice_get words 0) is.name and.name refl
 not_both words command (sx_task other) is and = name_differs (slice_get words 0) is.name and.name refl
 not_both words command (show_task other) is and = name_differs (slice_get words 0) is.name and.name refl
+not_both words command (board_task other) is and = name_differs (slice_get words 0) is.name and.name refl
 not_both words command (make_task other) is and = name_differs (slice_get words 0) is.name and.name refl
 
 -- and words of `make` are those of a command that reads no files
@@ -203,6 +232,7 @@ reads_none words (gtfsrt_task other) command is and = absurd (name_differs (slic
 reads_none words (siri_task other) command is and = absurd (name_differs (slice_get words 0) is.name and.name refl)
 reads_none words (sx_task other) command is and = absurd (name_differs (slice_get words 0) is.name and.name refl)
 reads_none words (show_task other) command is and = absurd (name_differs (slice_get words 0) is.name and.name refl)
+reads_none words (board_task other) command is and = absurd (name_differs (slice_get words 0) is.name and.name refl)
 reads_none words (make_task other) command is and = refl
 
 -- what is read at a place where a value is known to be is the value
@@ -260,7 +290,7 @@ has_window title further optional repeated name words scope pairs is =
 
 -- a server has one
 pub serves : (optional : List Pair) (words : List (List ℕ)) (command : Serve) → IsJobWith optional words (serve_job command) → HasWindow command.scope.from command.scope.days
-unfolding commands serve to_gtfsrt to_siri to_siri_sx show make
+unfolding commands serve to_gtfsrt to_siri to_siri_sx show board make
 serves optional [] command is = absurd is.accepted
 serves optional (name ∷ words) command is =
     has_window (codes "serve") (keep_pair ∷ listen_pair ∷ connections_pair ∷ []) optional no_pair name words command.scope
@@ -268,7 +298,7 @@ serves optional (name ∷ words) command is =
 
 -- and the other commands can be carried out
 pub can_run : (optional : List Pair) (words : List (List ℕ)) (task : Task) → IsJobWith optional words (task_job task) → CanRun task
-unfolding commands serve to_gtfsrt to_siri to_siri_sx show make
+unfolding commands serve to_gtfsrt to_siri to_siri_sx show board make
 can_run optional [] task is = absurd is.accepted
 can_run optional (name ∷ words) (gtfsrt_task command) is =
     has_window (codes "to-gtfsrt") (at_pair ∷ []) [] to_gtfsrt.repeated name words command.scope
@@ -282,6 +312,9 @@ can_run optional (name ∷ words) (sx_task command) is =
 can_run optional (name ∷ words) (show_task command) is =
     has_window (codes "show") (feed_pair ∷ []) [] no_pair name words command.scope
     (named_pairs optional (codes "show") show name words refl is.accepted is.says.name) is.says.scope
+can_run optional (name ∷ words) (board_task command) is =
+    has_window (codes "board") (at_pair ∷ stop_pair ∷ minutes_pair ∷ max_pair ∷ []) [] board.repeated name words command.scope
+    (named_pairs optional (codes "board") board name words refl is.accepted is.says.name) is.says.scope
 can_run optional (name ∷ words) (make_task command) is = record {
   seed_in = (in_range 0 most_seed (slice_get (name ∷ words) 2) command.seed is.says.seed).1;
   some_trip = trips.0;

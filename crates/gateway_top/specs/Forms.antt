@@ -37,6 +37,13 @@ fewest_stops = 2
 abbrev pub most_stops : ℕ
 most_stops = 100
 
+-- the most minutes of a board, and the most visits that it shows
+abbrev pub most_minutes : ℕ
+most_minutes = 1440
+
+abbrev pub most_visits : ℕ
+most_visits = 10000
+
 -- the most digits of a number
 abbrev pub most_digits : ℕ
 most_digits = 10
@@ -85,6 +92,13 @@ trip_count word = number_in 1 most_trips word
 abbrev pub stop_count : List ℕ → Option ℕ
 stop_count word = number_in fewest_stops most_stops word
 
+-- a number of minutes, and a number of visits
+abbrev pub minute_count : List ℕ → Option ℕ
+minute_count word = number_in 1 most_minutes word
+
+abbrev pub visit_count : List ℕ → Option ℕ
+visit_count word = number_in 1 most_visits word
+
 -- that many days from the first one on, if there is a first one, end in time
 abbrev pub ends_in_time : Option ℤ → Option ℕ → Bool
 ends_in_time first None = false
@@ -98,7 +112,7 @@ keeps_fewer None (Some kept) = true
 keeps_fewer (Some days) (Some kept) = nat_lt kept days
 
 -- the forms: a text that isn't empty, a day, a number of days from the day before on, a number of days that are kept of
--- the window before, a number of connections, a moment, and the three numbers of a sample
+-- the window before, a number of connections, a moment, the three numbers of a sample, and the two of a board
 abbrev pub is_filled : Form
 is_filled before [] = false
 is_filled before (_ ∷ _) = true
@@ -126,3 +140,9 @@ is_trip_count before word = is_some (trip_count word)
 
 abbrev pub is_stop_count : Form
 is_stop_count before word = is_some (stop_count word)
+
+abbrev pub is_minute_count : Form
+is_minute_count before word = is_some (minute_count word)
+
+abbrev pub is_visit_count : Form
+is_visit_count before word = is_some (visit_count word)

@@ -8,6 +8,8 @@ use Rattle.service_day.specs.Windows.{IsWindow}
 use Rattle.service_day.specs.Zones.{IsRuleZone, IsTableZone}
 use Rattle.service_day.specs.declared.zones.Rules.{Rules}
 use Rattle.timetable.specs.Seen.{seen}
+use Rattle.timetable.specs.declared.numbers.StopNo.{StopNo}
+use Rattle.board_command.specs.Shown.{ShowsBoard}
 use Rattle.stop_schedule.specs.Timetable.{timetable}
 use Rattle.feed_reading.specs.Tables.{MeansFeed}
 use Rattle.journey_model.specs.FeedReadings.{is_differential}
@@ -22,8 +24,8 @@ use Rattle.gateway_core.specs.Deliveries.{schedule_in}
 use Rattle.gateway_core.specs.Gives.{GivesEach}
 use Rattle.gateway_core.specs.Recording.{IsRebuiltOf}
 use Rattle.gateway_top.specs.Tables.{Pair}
-use Rattle.gateway_top.specs.Words.{IsJobWith, Job, Make, NamedZone, Scope, Show, Task, ToGtfsrt, ToSiri, by_rule, by_file, gtfsrt_task, make_task, serve_job, show_task, siri_task, sx_task, task_job}
-use Rattle.gateway_top.specs.Work.{Arrived, Arrives, Directory, OverFiles, nothing}
+use Rattle.gateway_top.specs.Words.{Board, IsJobWith, Job, Make, NamedZone, Scope, Show, Task, ToGtfsrt, ToSiri, by_rule, by_file, board_task, gtfsrt_task, make_task, serve_job, show_task, siri_task, sx_task, task_job}
+use Rattle.gateway_top.specs.Work.{Arrived, Arrives, Directory, IsStop, OverFiles, nothing}
 use Rattle.gateway_core.specs.declared.setting.Setting.{Setting}
 use Rattle.sample_run.specs.Counts.{counts_text}
 use Rattle.sample_run.specs.Sample.{IsCountOfSample}
@@ -99,6 +101,21 @@ pub record PublishesLines (command : Show) (files : Directory) (before now : Opt
   pub is_reading : IsReading (schedule_in setting) feed reading
   pub written : now ≡ with_bytes before (shown (schedule_in setting) reading)
 
+-- standard output got the board of the stop (SIRI 2.0, StopMonitoringDelivery): of what arrived of the files'
+-- deliveries, in order, each taken after those before, the first so many visits that the journeys of the feed make
+-- which is rebuilt of it, and which gives every stop exactly the time and place, skip or absence of the last-recorded
+-- SIRI journey
+pub record PublishesBoard (command : Board) (files : Directory) (before now : Option (List ℕ)) : Type 0 where
+  pub setting : Setting
+  pub has_setting : IsSetting command.scope None files setting
+  pub stop : StopNo
+  pub is_stop : IsStop command.stop setting (Ok stop)
+  pub arrived : Arrived
+  pub read : Arrives setting command.at files command.more nothing (Ok arrived)
+  pub text : List ℕ
+  pub written : now ≡ with_bytes before text
+  pub shows : ShowsBoard setting command.at arrived.arrivals stop command.minutes command.most text
+
 -- standard output got the line of what is counted of a sample: its made deliveries are taken over its made folder, each
 -- after those before, and of the feed that is rebuilt of them the line says how it reads at each stop of each trip
 pub record PublishesCounts (command : Make) (before now : Option (List ℕ)) : Type 0 where
@@ -112,6 +129,7 @@ PublishesTask (gtfsrt_task command) = PublishesFeed command
 PublishesTask (siri_task command) = PublishesSiri command
 PublishesTask (sx_task command) = PublishesSituations command
 PublishesTask (show_task command) = PublishesLines command
+PublishesTask (board_task command) = PublishesBoard command
 PublishesTask (make_task command) = λ files. PublishesCounts command
 
 -- a server shows what it has to whoever connects, and writes nothing to standard output

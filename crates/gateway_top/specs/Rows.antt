@@ -1,7 +1,7 @@
 -- What the tables of the code say.
 use Rattle.std.specs.Prelude.{◌&&◌, ◌++◌, Bool, List, length, map, nat_lt}
 use Rattle.std.specs.List.{list_all}
-use Rattle.gateway_top.specs.Forms.{is_connection_count, is_day, is_day_count, is_filled, is_kept_count, is_moment, is_seed, is_stop_count, is_trip_count}
+use Rattle.gateway_top.specs.Forms.{is_connection_count, is_day, is_day_count, is_filled, is_kept_count, is_minute_count, is_moment, is_seed, is_stop_count, is_trip_count, is_visit_count}
 use Rattle.gateway_top.specs.Tables as table
 use Rattle.gateway_top.specs.Tables.{Form}
 use Rattle.gateway_top.specs.declared.words.forms.Form as declared
@@ -20,6 +20,8 @@ form_of form.Moment = is_moment
 form_of form.Seed = is_seed
 form_of form.TripCount = is_trip_count
 form_of form.StopCount = is_stop_count
+form_of form.MinuteCount = is_minute_count
+form_of form.VisitCount = is_visit_count
 
 abbrev pub pair_of : Pair → table.Pair
 pair_of pair = record { flags = map (λ flag. flag.now) pair.flags.now; form = form_of pair.form }

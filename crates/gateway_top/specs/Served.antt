@@ -17,6 +17,10 @@ Takes Step at arrivals now (Ok report) =
     (given : Given) × Step (Ok (given, report)) × Stands now (record { moment = at; gives = given } ∷ arrivals)
 Takes Step at arrivals now (Err end) = Step (Err end)
 
+-- a gateway stands for something that arrived
+abbrev pub IsStanding : Kept → Type 0
+IsStanding now = (arrivals : List Arrival) × Stands now arrivals
+
 -- a step finds these reports and what arrived, and a gateway stands for that; or the step ends
 abbrev pub TakesAll : (Result Arrived Exit → Type 0) → Kept → Result (List ℕ) Exit → Type 0
 TakesAll Step now (Ok reports) =

@@ -3,7 +3,7 @@ use Rattle.std.specs.Prelude.{◌≤◌, ℕ, ℤ, pos, ◌+ℤ◌, ◌-ℤ◌}
 use Rattle.service_day.specs.Starts.{IsServiceDay}
 use Rattle.sample_maker.specs.Making.{IsSample}
 use Rattle.gateway_top.specs.Forms.{most_days}
-use Rattle.gateway_top.specs.Words.{Task, gtfsrt_task, make_task, show_task, siri_task, sx_task}
+use Rattle.gateway_top.specs.Words.{Task, board_task, gtfsrt_task, make_task, show_task, siri_task, sx_task}
 
 -- so many days from the first on are days of a window, from 1971 to 9997
 pub record HasWindow (first : ℤ) (days : ℕ) : Type 0 where
@@ -18,4 +18,5 @@ CanRun (gtfsrt_task command) = HasWindow command.scope.from command.scope.days
 CanRun (siri_task command) = HasWindow command.scope.from command.scope.days
 CanRun (sx_task command) = HasWindow command.scope.from command.scope.days
 CanRun (show_task command) = HasWindow command.scope.from command.scope.days
+CanRun (board_task command) = HasWindow command.scope.from command.scope.days
 CanRun (make_task command) = IsSample command.seed command.trips command.stops

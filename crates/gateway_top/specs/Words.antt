@@ -1,7 +1,7 @@
 -- The words of the commands: their table, and what the words of each say.
 use Rattle.std.specs.Prelude.{◌≡◌, ℕ, ℤ, List, [], ◌∷◌, drop, codes, Option, Some, option_and_then, slice_get, nat_eq, if◌then◌else◌}
 use Rattle.std.specs.Cmp.Lexicographic.{pointwise}
-use Rattle.gateway_top.specs.Forms.{is_connection_count, is_day, is_day_count, is_filled, is_kept_count, is_moment, is_seed, is_stop_count, is_trip_count, beginning, connection_count, day_count, kept_count, seed_number, stop_count, trip_count}
+use Rattle.gateway_top.specs.Forms.{is_connection_count, is_day, is_day_count, is_filled, is_kept_count, is_minute_count, is_moment, is_seed, is_stop_count, is_trip_count, is_visit_count, beginning, connection_count, day_count, kept_count, minute_count, seed_number, stop_count, trip_count, visit_count}
 use Rattle.gateway_top.specs.Tables.{Command, Pair, IsAccepted, StopsAt}
 use Rattle.service_day.specs.Utc.{utc_of}
 
@@ -31,6 +31,15 @@ connections_pair = record { flags = codes "--connections" ∷ []; form = is_conn
 
 abbrev pub journal_pair : Pair
 journal_pair = record { flags = codes "--journal" ∷ []; form = is_filled }
+
+abbrev pub stop_pair : Pair
+stop_pair = record { flags = codes "--stop" ∷ []; form = is_filled }
+
+abbrev pub minutes_pair : Pair
+minutes_pair = record { flags = codes "--minutes" ∷ []; form = is_minute_count }
+
+abbrev pub max_pair : Pair
+max_pair = record { flags = codes "--max" ∷ []; form = is_visit_count }
 
 abbrev pub seed_pair : Pair
 seed_pair = record { flags = codes "--seed" ∷ []; form = is_seed }
@@ -86,6 +95,14 @@ show = record {
   repeated = no_pair;
 }
 
+unfoldable pub board : Command
+board = record {
+  name = codes "board";
+  pairs = over_a_folder (at_pair ∷ stop_pair ∷ minutes_pair ∷ max_pair ∷ []);
+  optional = [];
+  repeated = record { flags = codes "--et" ∷ []; form = is_filled };
+}
+
 unfoldable pub make : Command
 make = record {
   name = codes "make";
@@ -96,7 +113,7 @@ make = record {
 
 -- the commands, where `serve` has these optional pairs: none where there is no disk for a journal, and else one
 unfoldable pub commands : List Pair → List Command
-commands optional = serve optional ∷ to_gtfsrt ∷ to_siri ∷ to_siri_sx ∷ show ∷ make ∷ []
+commands optional = serve optional ∷ to_gtfsrt ∷ to_siri ∷ to_siri_sx ∷ show ∷ board ∷ make ∷ []
 
 abbrev pub with_journal : List Pair
 with_journal = journal_pair ∷ []
@@ -145,6 +162,16 @@ pub record Show : Type 0 where
   pub scope : Scope
   pub feed : List ℕ
 
+-- what the words of `board` say: what it works over, the second at which the board is made and from which on it shows
+-- visits, the stop, of how many minutes and how many at most, and the words of the deliveries
+pub record Board : Type 0 where
+  pub scope : Scope
+  pub at : ℤ
+  pub stop : List ℕ
+  pub minutes : ℕ
+  pub most : ℕ
+  pub more : List (List ℕ)
+
 -- what the words of `make` say: the seed of a sample, and how many trips and stops it has
 pub record Make : Type 0 where
   pub seed : ℕ
@@ -157,6 +184,7 @@ pub data Task : Type 0 where
   siri_task : ToSiri → Task
   sx_task : ToSiri → Task
   show_task : Show → Task
+  board_task : Board → Task
   make_task : Make → Task
 
 -- a command with what its words say
@@ -203,6 +231,15 @@ pub record SaysShow (words : List (List ℕ)) (command : Show) : Type 0 where
   pub scope : SaysScope words command.scope
   pub feed : slice_get words 10 ≡ Some command.feed
 
+pub record SaysBoard (words : List (List ℕ)) (command : Board) : Type 0 where
+  pub name : slice_get words 0 ≡ Some (codes "board")
+  pub scope : SaysScope words command.scope
+  pub at : option_and_then utc_of (slice_get words 10) ≡ Some command.at
+  pub stop : slice_get words 12 ≡ Some command.stop
+  pub minutes : option_and_then minute_count (slice_get words 14) ≡ Some command.minutes
+  pub most : option_and_then visit_count (slice_get words 16) ≡ Some command.most
+  pub more : drop 17 words ≡ command.more
+
 pub record SaysMake (words : List (List ℕ)) (command : Make) : Type 0 where
   pub name : slice_get words 0 ≡ Some (codes "make")
   pub seed : option_and_then seed_number (slice_get words 2) ≡ Some command.seed
@@ -214,6 +251,7 @@ SaysTask words (gtfsrt_task command) = SaysToGtfsrt words command
 SaysTask words (siri_task command) = SaysToSiri words command
 SaysTask words (sx_task command) = SaysToSiriSx words command
 SaysTask words (show_task command) = SaysShow words command
+SaysTask words (board_task command) = SaysBoard words command
 SaysTask words (make_task command) = SaysMake words command
 
 abbrev pub Says : List (List ℕ) → Job → Type 0

@@ -1,6 +1,6 @@
 -- The order of work of the commands: the timetable, the zone, the window, each further file and its content. Each step
 -- finds something or ends the work, and the first end counts.
-use Rattle.std.specs.Prelude.{◌≡◌, ℕ, ℤ, List, [], ◌∷◌, ◌++◌, codes, length, nat_le, if◌then◌else◌, Bool, true, false, Option, Some, None, IfSome, Result, Ok, Err}
+use Rattle.std.specs.Prelude.{◌≡◌, ℕ, ℤ, List, [], ◌∷◌, ◌++◌, codes, length, position, nat_le, if◌then◌else◌, Bool, true, false, Option, Some, None, IfSome, Result, Ok, Err}
 use Rattle.std.specs.Bool.{MatchBool}
 use Rattle.std.specs.Str.{bytes_eq}
 use Rattle.gw_base.specs.Directory.{bytes_of}
@@ -25,7 +25,9 @@ use Rattle.timetable.specs.Seen.{seen}
 use Rattle.timetable.specs.Table.{Table}
 use Rattle.stop_schedule.specs.Timetable.{timetable}
 use Rattle.stop_schedule.specs.declared.table_fault.TableFault.{TableFault}
+use Rattle.timetable.specs.declared.numbers.StopNo.{StopNo}
 use Rattle.timetable.specs.declared.timetable.Timetable.{Timetable}
+use Rattle.board_command.specs.Shown.{ShowsBoard}
 use Rattle.gateway_top.specs.Exits.{missing, too_long}
 use Rattle.gateway_top.specs.FolderTexts.{folder_end}
 use Rattle.gateway_core.specs.Arrivals.{Arrival, Given, journeys, moments_of, present, schedule_at, situations}
@@ -48,7 +50,7 @@ use Rattle.siri_situations.specs.Deliveries.{ReadsSituations}
 use Rattle.gateway_top.specs.Bodies.{body_end, differential_end, feed_end, many_calls_end}
 use Rattle.gateway_top.specs.Done.{Done}
 use Rattle.gateway_top.specs.Samples.{sample_end}
-use Rattle.gateway_top.specs.Words.{Make, NamedZone, Scope, Show, Task, ToGtfsrt, ToSiri, by_rule, by_file, gtfsrt_task, make_task, show_task, siri_task, sx_task}
+use Rattle.gateway_top.specs.Words.{Board, Make, NamedZone, Scope, Show, Task, ToGtfsrt, ToSiri, by_rule, by_file, board_task, gtfsrt_task, make_task, show_task, siri_task, sx_task}
 use Rattle.gateway_top.specs.declared.exit.Exit.{Exit}
 use Rattle.gateway_top.specs.declared.exit.Exit.TheVariants.{Memory, Refused}
 
@@ -274,6 +276,40 @@ IsShowWork command files = do
   setting ← IsSettingOf command.scope None files
   IsLinesOfFile setting command.feed files
 
+-- the end where no stop has the id
+abbrev pub stop_end : List ℕ → Exit
+stop_end id = Refused (codes "UnknownStop " ++ id)
+
+-- the stop of that id
+abbrev pub IsStop : List ℕ → Setting → Result StopNo Exit → Type 0
+IsStop id setting (Ok stop) = position (bytes_eq id) setting.table.stops ≡ Some stop.0
+IsStop id setting (Err end) = (position (bytes_eq id) setting.table.stops ≡ None) × (end ≡ stop_end id)
+
+-- the board of what arrived, and the reports
+abbrev pub IsBoardOf : Board → Setting → StopNo → Arrived → Result Done Exit → Type 0
+IsBoardOf command setting stop arrived (Ok done) =
+    ShowsBoard setting command.at arrived.arrivals stop command.minutes command.most done.out
+    × (done.err ≡ arrived.reports)
+IsBoardOf command setting stop arrived (Err end) = ⊥
+
+-- of the files' deliveries
+abbrev pub IsBoardOfFiles : Board → Setting → Directory → StopNo → Result Done Exit → Type 0
+IsBoardOfFiles command setting files stop = do
+  arrived ← Arrives setting command.at files command.more nothing
+  IsBoardOf command setting stop arrived
+
+-- at the stop that is named
+abbrev pub IsBoardAt : Board → Setting → Directory → Result Done Exit → Type 0
+IsBoardAt command setting files = do
+  stop ← IsStop command.stop setting
+  IsBoardOfFiles command setting files stop
+
+-- the work of `board`
+abbrev pub IsBoardWork : Board → Directory → Result Done Exit → Type 0
+IsBoardWork command files = do
+  setting ← IsSettingOf command.scope None files
+  IsBoardAt command setting files
+
 -- the work of `make`, which reads no files: the line of the sample's counts
 abbrev pub IsMakeWork : Make → Result Done Exit → Type 0
 IsMakeWork command (Ok done) =
@@ -289,6 +325,7 @@ IsTaskWork (gtfsrt_task command) = IsToGtfsrtWork command
 IsTaskWork (siri_task command) = IsToSiriWork command
 IsTaskWork (sx_task command) = IsToSiriSxWork command
 IsTaskWork (show_task command) = IsShowWork command
+IsTaskWork (board_task command) = IsBoardWork command
 IsTaskWork (make_task command) = λ files. IsMakeWork command
 
 -- what is said of a command over the files that are told: `make` reads none, so that it holds of it whatever is told
@@ -297,6 +334,7 @@ OverFiles (gtfsrt_task command) told Says = IfSome told Says
 OverFiles (siri_task command) told Says = IfSome told Says
 OverFiles (sx_task command) told Says = IfSome told Says
 OverFiles (show_task command) told Says = IfSome told Says
+OverFiles (board_task command) told Says = IfSome told Says
 OverFiles (make_task command) told Says = Says []
 
 -- a command reads files
@@ -305,4 +343,5 @@ reads_files (gtfsrt_task command) = true
 reads_files (siri_task command) = true
 reads_files (sx_task command) = true
 reads_files (show_task command) = true
+reads_files (board_task command) = true
 reads_files (make_task command) = false

@@ -1,10 +1,11 @@
 -- What the code's values of commands say, in the words of `Words.antt`.
 use Rattle.std.specs.Prelude.{option_map}
-use Rattle.gateway_top.specs.Words.{Job, NamedZone, Scope as Said, Serve, Task as SaidTask, by_rule, by_file, gtfsrt_task, make_task, serve_job, show_task, siri_task, sx_task, task_job}
+use Rattle.gateway_top.specs.Words.{Board as AtStopSaid, Job, NamedZone, Scope as Said, Serve, Task as SaidTask, by_rule, by_file, board_task, gtfsrt_task, make_task, serve_job, show_task, siri_task, sx_task, task_job}
+use Rattle.gateway_top.specs.declared.words.AtStop.{AtStop}
 use Rattle.gateway_top.specs.declared.words.Scope.{Scope}
 use Rattle.gateway_top.specs.declared.words.Server.{Server}
 use Rattle.gateway_top.specs.declared.words.Task.{Task}
-use Rattle.gateway_top.specs.declared.words.Task.TheVariants.{ToGtfsrt, ToSiri, ToSiriSx, Show, Make}
+use Rattle.gateway_top.specs.declared.words.Task.TheVariants.{Board, ToGtfsrt, ToSiri, ToSiriSx, Show, Make}
 use Rattle.gateway_top.specs.declared.words.Work.{Work}
 use Rattle.gateway_top.specs.declared.words.Work.TheVariants as work
 use Rattle.gateway_top.specs.declared.words.ZoneWord.{ZoneWord}
@@ -30,12 +31,25 @@ server_of server =
       journal = option_map (λ file. file.now) server.journal;
     }
 
+-- what `board` says
+abbrev pub board_of : AtStop → AtStopSaid
+board_of board =
+    record {
+      scope = scope_of board.scope;
+      at = board.at;
+      stop = board.stop.now;
+      minutes = board.minutes;
+      most = board.most;
+      more = board.more.now;
+    }
+
 -- what a command says that writes its result and ends
 abbrev pub task_of : Task → SaidTask
 task_of (ToGtfsrt scope at more) = gtfsrt_task (record { scope = scope_of scope; at = at; more = more.now })
 task_of (ToSiri scope at feed) = siri_task (record { scope = scope_of scope; at = at; feed = feed.now })
 task_of (ToSiriSx scope at feed) = sx_task (record { scope = scope_of scope; at = at; feed = feed.now })
 task_of (Show scope feed) = show_task (record { scope = scope_of scope; feed = feed.now })
+task_of (Board board) = board_task (board_of board)
 task_of (Make seed trips stops) = make_task (record { seed = seed; trips = trips; stops = stops })
 
 -- what the command says

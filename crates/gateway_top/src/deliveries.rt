@@ -4,7 +4,7 @@ ghost use Rattle.gw_base.specs.Answers.{UnlessFree};
 ghost use Rattle.gw_base.specs.Count.{Counts};
 ghost use Rattle.gateway_top.specs.Bodies as ends;
 ghost use Rattle.gateway_top.specs.Exits.{is_free};
-ghost use Rattle.gateway_top.specs.Served.{IsNext, Takes, TakesAll};
+ghost use Rattle.gateway_top.specs.Served.{IsNext, IsStanding, Takes, TakesAll};
 ghost use Rattle.gateway_top.specs.Work as steps;
 ghost use Rattle.gateway_top.specs.Work.{nothing};
 ghost use Rattle.gateway_core.specs.Arrivals.{Arrival};
@@ -108,6 +108,7 @@ fn file_taken<F: Files>(
     ensures told { IfSome (F.told files.old) (λ told. (arrivals : List Arrival)
         → Stands gate.old arrivals → UnlessFree is_free result
         (Takes (steps.GivesFile gate.old.setting at flag.now name.now told arrivals) at arrivals gate.new)) }
+    ensures stands { IsStanding gate.old → OnOk result (IsStanding gate.new) }
     ensures counts { Counts (IsErrOf result Exit.Failed) (F.faults files.old) (F.faults files.new) }
     ensures same { F.told files.new ≡ F.told files.old }
     ensures setting { gate.new.setting ≡ gate.old.setting }
@@ -151,6 +152,7 @@ pub fn deliveries<F: Files>(
     requires new { Stands gate.old [] }
     ensures told { IfSome (F.told files.old) (λ told. UnlessFree is_free result
         (TakesAll (steps.Arrives gate.old.setting at told words.now nothing) gate.new)) }
+    ensures stands { OnOk result (IsStanding gate.new) }
     ensures counts { Counts (IsErrOf result Exit.Failed) (F.faults files.old) (F.faults files.new) }
     ensures same { F.told files.new ≡ F.told files.old }
     ensures setting { gate.new.setting ≡ gate.old.setting }

@@ -5,6 +5,7 @@
 //! `publishes` and `run`.
 #![tactic(auto)]
 
+mod boards;
 mod deliveries;
 mod devices;
 mod done;

@@ -4,15 +4,15 @@ ghost use Rattle.std.specs.List.{list_all};
 ghost use Rattle.std.specs.Option.{option_copied};
 ghost use Rattle.gateway_top.specs.Rows.{has_flag, have_flags, pair_of, row_of};
 ghost use Rattle.gateway_top.specs.Words as spec;
-ghost use Rattle.gateway_top.specs.Words.{IsJob, IsJobWith, IsRefusedAt, IsRefusedWith, Says, SaysMake, SaysScope, SaysServe, SaysShow, SaysTask, SaysToGtfsrt, SaysToSiri, SaysToSiriSx, with_journal, zone_by};
-ghost use Rattle.gateway_top.specs.Works.{job_of, scope_of, server_of, task_of, zone_of};
+ghost use Rattle.gateway_top.specs.Words.{IsJob, IsJobWith, IsRefusedAt, IsRefusedWith, Says, SaysBoard, SaysMake, SaysScope, SaysServe, SaysShow, SaysTask, SaysToGtfsrt, SaysToSiri, SaysToSiriSx, with_journal, zone_by};
+ghost use Rattle.gateway_top.specs.Works.{board_of, job_of, scope_of, server_of, task_of, zone_of};
 
 mod forms;
 mod table;
 
 use forms::{
-    Form, connection_count, day_count, first_day, kept_count, moment, seed_number, stop_count,
-    trip_count,
+    Form, connection_count, day_count, first_day, kept_count, minute_count, moment, seed_number,
+    stop_count, trip_count, visit_count,
 };
 use gw_base::{Moment, Text};
 use service_day::Day;
@@ -62,6 +62,23 @@ pub struct Server<'a> {
     pub journal: Option<&'a Text>,
 }
 
+/// What the words of `board` say: what a display at a stop shows.
+#[derive(Clone, Copy, Debug)]
+pub struct AtStop<'a> {
+    /// What it works over.
+    pub scope: Scope<'a>,
+    /// The moment at which the board is made, and from which on it shows visits.
+    pub at: Moment,
+    /// The id of the stop.
+    pub stop: &'a Text,
+    /// Of how many minutes it shows visits, from 1 to 1,440.
+    pub minutes: u32,
+    /// How many visits it shows at most, from 1 to 10,000.
+    pub most: u32,
+    /// The words of the deliveries: for each a flag and a file.
+    pub more: &'a [Text],
+}
+
 /// A command that writes its result and ends.
 #[derive(Clone, Copy, Debug)]
 pub enum Task<'a> {
@@ -99,6 +116,8 @@ pub enum Task<'a> {
         /// The feed's file.
         feed: &'a Text,
     },
+    /// `board`: what a display at a stop shows of deliveries.
+    Board(AtStop<'a>),
     /// `make`: a sample is run through the whole path, and what its feed says is counted. It reads no file.
     Make {
         /// What its draws begin with.
@@ -179,6 +198,21 @@ const STOPS: Pair = Pair {
     form: Form::StopCount,
 };
 
+const STOP: Pair = Pair {
+    flags: &["--stop"],
+    form: Form::Filled,
+};
+
+const MINUTES: Pair = Pair {
+    flags: &["--minutes"],
+    form: Form::MinuteCount,
+};
+
+const MAX: Pair = Pair {
+    flags: &["--max"],
+    form: Form::VisitCount,
+};
+
 const JOURNAL: Pair = Pair {
     flags: &["--journal"],
     form: Form::Filled,
@@ -192,7 +226,7 @@ const NONE: Pair = Pair {
 
 // The commands, where `serve` has these optional pairs. In a list of words the value of the pair of number n, from 0
 // on, is the word of number 2n + 2.
-fn commands(optional: &'static [Pair]) -> [Command; 6]
+fn commands(optional: &'static [Pair]) -> [Command; 7]
     requires { IsTrue (list_all has_flag optional.now) }
     ensures rows { map row_of result ≡ spec.commands (map pair_of optional.now) }
     ensures flags { IsTrue (have_flags result) }
@@ -230,6 +264,15 @@ fn commands(optional: &'static [Pair]) -> [Command; 6]
             pairs: &[GTFS, ZONE, FROM, DAYS, FEED],
             optional: &[],
             repeated: NONE,
+        },
+        Command {
+            name: "board",
+            pairs: &[GTFS, ZONE, FROM, DAYS, AT, STOP, MINUTES, MAX],
+            optional: &[],
+            repeated: Pair {
+                flags: &["--et"],
+                form: Form::Filled,
+            },
         },
         Command {
             name: "make",
@@ -335,6 +378,21 @@ fn show(words: &[Text]) -> Task<'_>
     }
 }
 
+// What the words of `board` say.
+fn board(words: &[Text]) -> AtStop<'_>
+    requires { (command : spec.Board) × SaysBoard words.now command }
+    ensures { SaysBoard words.now (board_of result) }
+{
+    AtStop {
+        scope: scope_in(words),
+        at: moment(&words[10]).unwrap(),
+        stop: &words[12],
+        minutes: minute_count(&words[14]).unwrap(),
+        most: visit_count(&words[16]).unwrap(),
+        more: &words[17..],
+    }
+}
+
 // What the words of `make` say.
 fn make(words: &[Text]) -> Task<'_>
     requires { (command : spec.Make) × SaysMake words.now command }
@@ -357,6 +415,7 @@ fn read(words: &[Text]) -> Work<'_>
         "to-gtfsrt" => Work::Task(to_gtfsrt(words)),
         "to-siri" => Work::Task(to_siri(words)),
         "to-siri-sx" => Work::Task(to_siri_sx(words)),
+        "board" => Work::Task(Task::Board(board(words))),
         "make" => Work::Task(make(words)),
         _ => Work::Task(show(words)),
     }

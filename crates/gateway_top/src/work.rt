@@ -6,8 +6,9 @@ ghost use Rattle.gateway_top.specs.Exits.{is_free};
 ghost use Rattle.gateway_top.specs.Work as steps;
 ghost use Rattle.gateway_top.specs.Windowed.{CanRun, HasWindow};
 ghost use Rattle.gateway_top.specs.Words.{by_file};
-ghost use Rattle.gateway_top.specs.Works.{scope_of, task_of, zone_of};
+ghost use Rattle.gateway_top.specs.Works.{board_of, scope_of, task_of, zone_of};
 
+use crate::boards::board_at;
 use crate::deliveries::deliveries;
 use crate::done::Done;
 use crate::exit::Exit;
@@ -15,7 +16,7 @@ use crate::feeds::{feed_file, lines_of, siri_of, sx_of};
 use crate::folder_end::folder_end;
 use crate::reading::{ZONE_LIMIT, further_file};
 use crate::samples::made_line;
-use crate::words::{Scope, Task, ZoneWord};
+use crate::words::{AtStop, Scope, Task, ZoneWord};
 use gateway_core::{Gateway, Setting};
 use gw_base::{Files, Moment, Text};
 use service_day::{Window, Zone, ZoneFault};
@@ -286,6 +287,20 @@ fn show<F: Files>(alloc: Global, files: &mut F, scope: &Scope<'_>, feed: &str) -
     }
 }
 
+// The work of `board`.
+fn board<F: Files>(alloc: Global, files: &mut F, board: &AtStop<'_>) -> Result<Done, Exit>
+    requires { HasWindow board.now.scope.from board.now.scope.days }
+    ensures told { IfSome (F.told files.old) (λ told. UnlessFree is_free result
+        (steps.IsBoardWork (board_of board.now) told)) }
+    ensures counts { Counts (IsErrOf result Exit.Failed) (F.faults files.old) (F.faults files.new) }
+    ensures same { F.told files.new ≡ F.told files.old }
+{
+    match setting(alloc, files, &board.scope, None) {
+        Ok(setting) => board_at(alloc, files, board, setting),
+        Err(end) => Err(end),
+    }
+}
+
 /// The work of a command over the files: what it writes, or how it ends.
 pub fn task_work<F: Files>(alloc: Global, task: &Task<'_>, files: &mut F) -> Result<Done, Exit>
     requires { CanRun (task_of task.now) }
@@ -300,6 +315,7 @@ pub fn task_work<F: Files>(alloc: Global, task: &Task<'_>, files: &mut F) -> Res
         Task::ToSiri { scope, at, feed } => to_siri(alloc, files, scope, *at, feed.as_str()),
         Task::ToSiriSx { scope, at, feed } => to_siri_sx(alloc, files, scope, *at, feed.as_str()),
         Task::Show { scope, feed } => show(alloc, files, scope, feed.as_str()),
+        Task::Board(at_stop) => board(alloc, files, at_stop),
         Task::Make { seed, trips, stops } => made_line(alloc, *seed, *trips, *stops),
     }
 }

@@ -37,6 +37,12 @@ pub const FEWEST_STOPS: u64 = 2;
 /// The most stops of a trip of a sample.
 pub const MOST_STOPS: u64 = 100;
 
+/// The most minutes of a board: a day.
+pub const MOST_MINUTES: u64 = 1440;
+
+/// The most visits that a board shows.
+pub const MOST_VISITS: u64 = 10_000;
+
 /// The most digits of a number.
 pub const MOST_DIGITS: usize = 10;
 
@@ -61,6 +67,10 @@ pub enum Form {
     TripCount,
     /// A number of stops from 2 to 100.
     StopCount,
+    /// A number of minutes from 1 to 1,440.
+    MinuteCount,
+    /// A number of visits from 1 to 10,000.
+    VisitCount,
 }
 
 /// The value of a word that is a day from 1971 to 9997.
@@ -155,6 +165,20 @@ pub fn stop_count(word: &Text) -> Option<u32>
     Some(number_in(FEWEST_STOPS, MOST_STOPS, word)? as u32)
 }
 
+/// The value of a word that is a number of minutes.
+pub fn minute_count(word: &Text) -> Option<u32>
+    ensures { result ≡ spec.minute_count word.now }
+{
+    Some(number_in(1, MOST_MINUTES, word)? as u32)
+}
+
+/// The value of a word that is a number of visits.
+pub fn visit_count(word: &Text) -> Option<u32>
+    ensures { result ≡ spec.visit_count word.now }
+{
+    Some(number_in(1, MOST_VISITS, word)? as u32)
+}
+
 // That many days from the first one on, if there is a first one, end in 9997 at the latest.
 fn ends_in_time(first: Option<Day>, days: u8) -> bool
     ensures { result ≡ spec.ends_in_time first (Some days) }
@@ -202,5 +226,7 @@ pub fn has_form(form: Form, before: &Text, word: &Text) -> bool
         Form::Seed => seed_number(word).is_some(),
         Form::TripCount => trip_count(word).is_some(),
         Form::StopCount => stop_count(word).is_some(),
+        Form::MinuteCount => minute_count(word).is_some(),
+        Form::VisitCount => visit_count(word).is_some(),
     }
 }

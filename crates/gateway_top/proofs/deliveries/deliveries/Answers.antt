@@ -9,6 +9,7 @@ loop-flag-preserved g c =
     let took = rw (held.same, c.as_str.ensures.same, c.as_str-in-Some.ensures.same) at c.in-Ok.ensures.told in
     let more = rw c.as_str-in-Some-2.ensures.same at c.in_ok-add_report.ensures in
     record {
+      stands = c.in-Ok.ensures.stands held.stands;
       arrived = goes_on (g.F.Files.told c.args.files.now) c.args.gate.now.setting c.loop-flag.gate.setting c.args.at c.args.words.now c.loop-flag.rest.now c.in-Some.after.now c.in-Some.flag.now c.in-Some.name.now
           c.loop-flag.gate c.file_taken.new.gate c.loop-flag.so_far c.add_report.new.so_far c.in-Ok.report held.setting c.in-Some.ensures more held.arrived took;
       counts = let falls = c.file_taken.ensures.counts.never_falls in let before = held.counts in omega (arith, falls, before);

@@ -13,6 +13,9 @@ to_siri_sx-requires g c = rw c.in-ToSiriSx.is at c.requires
 pub show-requires : goal.show-requires
 show-requires g c = rw c.in-Show.is at c.requires
 
+pub board-requires : goal.board-requires
+board-requires g c = rw c.in-Board.is at c.requires
+
 pub made_line-requires : goal.made_line-requires
 made_line-requires g c = rw c.in-Make.is at c.requires
 
@@ -27,6 +30,9 @@ returns-in-ToSiriSx-clause-told g c = rw c.in-ToSiriSx.is (rw c.as_str-in-ToSiri
 
 pub returns-in-Show-clause-told : goal.returns-in-Show-clause-told
 returns-in-Show-clause-told g c = rw c.in-Show.is (rw c.as_str-in-Show.ensures.same at c.show.ensures.told)
+
+pub returns-in-Board-clause-told : goal.returns-in-Board-clause-told
+returns-in-Board-clause-told g c = rw c.in-Board.is c.board.ensures.told
 
 pub returns-in-Make-clause-told : goal.returns-in-Make-clause-told
 returns-in-Make-clause-told g c = rw c.in-Make.is c.made_line.ensures.told
