@@ -1,1 +1,3 @@
-mod ShownLemmas
+pub mod ReadLemmas
+pub mod ShownLemmas
+pub mod SortedLemmas

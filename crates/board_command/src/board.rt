@@ -2,12 +2,14 @@
 ghost use Rattle.std.specs.Prelude.{◌≡◌, ◌<◌, ◌++◌, List as Values, All, IfOk, OnOk, length};
 ghost use Rattle.std.specs.List.{flat_map};
 ghost use Rattle.feed_reading.specs.Tables.{MeansFeed};
-ghost use Rattle.gateway_core.specs.Arrivals.{Arrival};
+ghost use Rattle.gw_base.specs.declared.messages.Feed as feeds;
+ghost use Rattle.gateway_core.specs.Arrivals.{Arrival, moments_of, present, schedule_at};
+ghost use Rattle.gateway_core.specs.Gives.{SaysLatest};
 ghost use Rattle.gateway_core.specs.Standing.{Stands};
 ghost use Rattle.propagation.specs.Feeds.{IsServable};
 ghost use Rattle.stop_board.specs.Boards.{IsOver};
 ghost use Rattle.stop_board.specs.Visits.{visits_of};
-ghost use Rattle.board_command.specs.Shown.{IsServedFeed, ShowsBoard};
+ghost use Rattle.board_command.specs.Shown.{ShowsBoard};
 
 use feed_messages::read_feed;
 use gateway_core::Gateway;
@@ -20,7 +22,7 @@ use timetable::StopNo;
 
 // The feed that bytes mean; where they mean none there is nothing to show of it, which is told as want of memory.
 fn meant(alloc: Global, bytes: &[u8]) -> Result<Feed, AllocError>
-    ensures { IfOk result (λ feed. MeansFeed bytes.now feed) }
+    ensures only { (other : feeds.Feed) → MeansFeed bytes.now other → IfOk result (λ feed. feed ≡ other) }
 {
     match read_feed(alloc, bytes) {
         Ok(feed) => Ok(feed),
@@ -28,10 +30,11 @@ fn meant(alloc: Global, bytes: &[u8]) -> Result<Feed, AllocError>
     }
 }
 
-// The feed that a gateway serves at a moment, read again.
+// The feed that a gateway serves at a moment, read again: it says just the latest records.
 fn served_feed(alloc: Global, gate: &Gateway, at: Moment) -> Result<Feed, AllocError>
     ensures { (arrivals : Values Arrival) → Stands gate.now arrivals
-        → IfOk result (IsServedFeed gate.now.setting at arrivals) }
+        → IfOk result (SaysLatest (schedule_at gate.now.setting (moments_of arrivals))
+        (present gate.now.setting arrivals)) }
 {
     let mut sink = MemorySink::make(alloc, gate.feed_len(at), List::new(alloc))?;
     match gate.write_feed(at, &mut sink) {
@@ -59,8 +62,8 @@ fn add_all(
 }
 
 /// What a display at a stop shows of what a gateway took (SIRI 2.0, StopMonitoringDelivery): the first so many visits,
-/// from that moment on for so many minutes, of the journeys of the feed that the gateway serves at that moment. The
-/// stop is one of the gateway's timetable. Err for want of memory.
+/// from that moment on for so many minutes, of the latest record of each journey. They are read from the feed that the
+/// gateway serves at that moment. The stop is one of the gateway's timetable. Err for want of memory.
 pub fn board_of(
     alloc: Global,
     gate: &Gateway,

@@ -4,7 +4,7 @@ use Rattle.std.proofs.lemmas.Bool.Decides.{Decides-int_eq}
 use Rattle.std.proofs.lemmas.Int.{ints}
 use Rattle.std.proofs.lemmas.Bool.{and_parts, eqb-true, false_from_ne_true, ltb-true, or_cases}
 use Rattle.std.proofs.lemmas.List.Elements.{filter_map-append}
-use Rattle.std.specs.Prelude.{find, option_map, int_lt, nat_lt, if◌then◌else◌}
+use Rattle.std.specs.Prelude.{cond, filter, find, not, option_map, int_lt, nat_lt, if◌then◌else◌}
 use Rattle.std.specs.List.{AllByRecursion, filter_map, flat_map, list_all}
 use Rattle.std.specs.Option.{option_or}
 use Rattle.std.specs.Ordering.{int_eq}
@@ -34,7 +34,7 @@ use Rattle.latest_store.specs.Reads.{SaysItself, dated_reading}
 use Rattle.latest_store.proofs.EntityLemmas.{messages_none, messages_one}
 use Rattle.gateway_core.specs.Alerts.{alerts}
 use Rattle.gateway_core.specs.Feeds.{IsRebuilt, are_ordered_by, comes_before, entities_of}
-use Rattle.gateway_core.specs.Gives.{GivesEach}
+use Rattle.gateway_core.specs.Gives.{GivesEach, says_something}
 use Rattle.gateway_core.proofs.OneLemmas.{same_counts}
 use Rattle.gateway_core.proofs.SaidLemmas.{alerts_passed, nothing_aside}
 
@@ -173,6 +173,26 @@ given_after schedule feed records situations says =
     ∙ append-nil (filter_map given (map (entity_said schedule feed) journeys))
     ∙ given_is schedule feed records says
 
+-- the reading of a record is the one that its messages give, where it says something
+one_dated : (schedule : Schedule) (one : Recorded) (others : List Recorded) → IsServable schedule one.trip one.day one.reading
+    → dated schedule one ++ map dated_reading (filter says_something others) ≡ map dated_reading (filter says_something (one ∷ others))
+one_dated schedule one others servable = by (is_silent one.reading) refl
+  where
+    rest : List DatedReading
+    rest = map dated_reading (filter says_something others)
+
+    by : (b : Bool) → is_silent one.reading ≡ b
+        → dated schedule one ++ rest ≡ map dated_reading (cond (not (is_silent one.reading)) (one ∷ filter says_something others) (filter says_something others))
+    by true silent = rw (messages_none schedule one servable.run servable.on_day silent, silent) refl
+    by false silent = rw (messages_one schedule one servable.run servable.on_day silent, silent) refl
+
+-- so what the messages of records give are the readings of those that say something
+all_dated : (schedule : Schedule) (records : List Recorded) → AllByRecursion (λ one. IsServable schedule one.trip one.day one.reading) records
+    → flat_map (dated schedule) records ≡ map dated_reading (filter says_something records)
+all_dated schedule [] servable = refl
+all_dated schedule (one ∷ others) servable =
+    ap (λ end. dated schedule one ++ end) (all_dated schedule others servable.1) ∙ one_dated schedule one others servable.0
+
 -- the feed of the latest records gives just their readings
 pub gives_each : (at : ℤ) (schedule : Schedule) (records : List Recorded) (situations : List Situation) (bytes : List ℕ) (is : IsRebuilt at schedule records situations bytes)
     → AllByRecursion (SaysItself schedule) is.ordered → AllByRecursion (λ one. IsServable schedule one.trip one.day one.reading) is.ordered
@@ -187,6 +207,13 @@ gives_each at schedule records situations bytes is says servable = record {
       ap (λ all. or_nothing (last_reading trip day all) (nothing_known schedule trip)) (given_after schedule (full_dataset at entities) is.ordered is.numbered says)
       ∙ all_read schedule trip day is.ordered servable is.in_order
       ∙ ap (λ one. or_nothing (option_map (λ (one : Recorded). one.reading) one) (nothing_known schedule trip)) same;
+  says = record {
+    latest = is.ordered;
+    are_latest = record { in_order = is.in_order; latest = λ key. is.latest key.1 key.0; };
+    given =
+        given_after schedule (full_dataset at (entities_of schedule is.ordered is.numbered)) is.ordered is.numbered says
+        ∙ all_dated schedule is.ordered servable;
+  };
   aside = nothing_aside schedule (full_dataset at (entities_of schedule is.ordered is.numbered)) is.ordered is.numbered says;
   passed = alerts_passed schedule (full_dataset at (entities_of schedule is.ordered is.numbered)) is.ordered is.numbered says;
 }
