@@ -1,5 +1,5 @@
 -- The journeys of the served feed that is read again are the latest records that say something.
-use Rattle.std.proofs.Common.{◌≡◌, ◌∙◌, ◌∷◌, [], ℕ, ℤ, Bool, true, false, cond, List, map, Option, None, Ordering, Less, Equal, Greater, is_none, refl, sym, ap, subst}
+use Rattle.std.proofs.Common.{◌≡◌, ◌∙◌, ◌∷◌, [], Bool, true, false, List, map, None, Ordering, Less, Equal, Greater, refl, sym, ap, subst}
 use Rattle.std.proofs.lemmas.Bool.{and_parts, false≢true, true≢false}
 use Rattle.std.proofs.lemmas.List.Sorted.{ranks_by}
 use Rattle.std.specs.Prelude.{filter}
