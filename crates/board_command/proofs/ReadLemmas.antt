@@ -42,7 +42,7 @@ reversed Greater e = absurd (false≢true (ap is_lt e))
 
 less_apart : (r : Ordering) → is_lt r ≡ true → is_eq r ≡ false
 less_apart Less e = refl
-less_apart Equal e = refl
+less_apart Equal e = absurd (false≢true e)
 less_apart Greater e = refl
 
 equal_is : (r : Ordering) → is_eq r ≡ true → r ≡ Equal

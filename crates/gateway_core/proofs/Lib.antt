@@ -10,11 +10,11 @@ mod JourneyLemmas
 mod JsonLemmas
 mod KeepsLemmas
 mod KeptAnswers
-mod LatestLemmas
+pub mod LatestLemmas
 mod LengthLemmas
 mod OneLemmas
 mod OrderOfArrival
-mod OrderedLemmas
+pub mod OrderedLemmas
 mod RecordingLemmas
 mod ReportLemmas
 mod RollLemmas
@@ -26,9 +26,9 @@ mod ServedLemmas
 mod ServingLemmas
 mod SituationAnswers
 mod SituationLemmas
-mod StandingLemmas
+pub mod StandingLemmas
 mod StateLemmas
 mod StepLemmas
 mod TakenLemmas
 mod WindowLemmas
-mod WinnerLemmas
+pub mod WinnerLemmas
