@@ -24,7 +24,7 @@ use Rattle.journey_model.proofs.AsideLemmas.{aside-all-more}
 abbrev pub Said : Type 0
 Said = Option (Result DatedReading Fault)
 
-given-push : (said : List Said) (last : Said) → given_all (said ++ last ∷ []) ≡ given_all said ++ given_all (last ∷ [])
+pub given-push : (said : List Said) (last : Said) → given_all (said ++ last ∷ []) ≡ given_all said ++ given_all (last ∷ [])
 given-push [] last = refl
 given-push (None ∷ said) last = given-push said last
 given-push (Some (Ok one) ∷ said) last = ap (λ rest. one ∷ rest) (given-push said last)
@@ -118,10 +118,10 @@ last_none given left keys last same no_keys none = record {
 }
 
 -- a reading of a trip on a day has its numbers
-of-trip : (trip : ℕ) (day : ℤ) (one : DatedReading) → is_of trip day one ≡ true → one.trip.0 ≡ trip
+pub of-trip : (trip : ℕ) (day : ℤ) (one : DatedReading) → is_of trip day one ≡ true → one.trip.0 ≡ trip
 of-trip trip day one e = eqb-true one.trip.0 trip (and-left (one.trip.0 == trip) (int_eq one.day day) e)
 
-of-day : (trip : ℕ) (day : ℤ) (one : DatedReading) → is_of trip day one ≡ true → one.day ≡ day
+pub of-day : (trip : ℕ) (day : ℤ) (one : DatedReading) → is_of trip day one ≡ true → one.day ≡ day
 of-day trip day one e = (signed_Decides one.day day).0 (and-right (one.trip.0 == trip) (int_eq one.day day) e)
 
 -- so readings of one journey have the same after them

@@ -5,6 +5,7 @@ pub mod FoldLemmas
 pub mod KnownLemmas
 pub mod LastLemmas
 pub mod PlaceLemmas
+pub mod ReplacedLemmas
 pub mod ServableLemmas
 pub mod SpreadLemmas
 pub mod StationLemmas

@@ -1,19 +1,19 @@
 -- What the entities of a feed say that come one by one, before its header is known (GTFS Realtime reference,
 -- FeedMessage, whose header may come last).
-use Rattle.std.specs.Prelude.{◌≡◌, ◌+◌, ℕ, pos, Bool, List, [], ◌∷◌, length, map, Option, Some, None, is_none, is_some, option_map, Result, Ok, Err, if◌then◌else◌}
-use Rattle.std.specs.List.{filter}
+use Rattle.std.specs.Prelude.{◌≡◌, ℕ, pos, Bool, List, [], length, map, Option, Some, None, is_none, is_some, option_map, Result, Ok, Err, if◌then◌else◌}
+use Rattle.std.specs.List.{filter, filter_map}
 use Rattle.std.specs.Option.{option_or}
 use Rattle.gw_base.specs.declared.messages.Entity.{Entity}
 use Rattle.gw_base.specs.declared.messages.Feed.{Feed}
 use Rattle.gw_base.specs.declared.messages.FeedHead.{FeedHead}
 use Rattle.gw_base.specs.declared.messages.TripUpdate.{TripUpdate}
-use Rattle.journey_model.specs.FeedReadings.{given, moment_in, update_said}
+use Rattle.journey_model.specs.FeedReadings.{aside_all, entity_said, given, given_all, last_of_each, moment_in, update_said}
 use Rattle.journey_model.specs.Schedules.{Schedule}
 use Rattle.journey_model.specs.Names.{filled_text}
 use Rattle.journey_model.specs.declared.fault.Fault.{Fault}
 use Rattle.journey_model.specs.declared.readings.DatedReading.{DatedReading}
 use Rattle.propagation.specs.declared.entity_said.EntitySaid.{EntitySaid}
-use Rattle.propagation.specs.declared.entity_said.EntitySaid.TheVariants.{Given, Aside, Waits}
+use Rattle.propagation.specs.declared.entity_said.EntitySaid.TheVariants.{Given, Aside, Waits, Replaced}
 
 -- the feed of a head and of entities
 abbrev pub feed_with : FeedHead → List Entity → Feed
@@ -49,47 +49,61 @@ abbrev pub entity_early : Schedule → Entity → Option EntitySaid
 entity_early schedule entity =
     if entity.deleted then None else option_map (update_early schedule) entity.trip_update
 
--- what was not passed, each with the number of its entity, from that number on
-abbrev pub numbered : ℕ → List (Option EntitySaid) → List (ℕ × EntitySaid)
-numbered number [] = []
-numbered number (None ∷ said) = numbered (number + 1) said
-numbered number (Some one ∷ said) = (number, one) ∷ numbered (number + 1) said
-
--- what is held of entities: how many were passed, and what the others say, each with its number, in order
+-- what is held of entities: how many were passed, and what the others say, each with the number of its entity, in
+-- order
 pub record Folded : Type 0 where
   pub passed : ℕ
   pub said : List (ℕ × EntitySaid)
 
--- what is held of these entities, which are counted from 0
-abbrev pub fold_of : Schedule → List Entity → Folded
-fold_of schedule entities =
-    let said = map (entity_early schedule) entities in
-    record { passed = length (filter is_none said); said = numbered 0 said }
-
--- a fold stands for these entities over this schedule
-abbrev pub StandsFor : Schedule → Folded → List Entity → Type 0
-StandsFor schedule fold entities = fold ≡ fold_of schedule entities
-
 -- what it says once a feed's header is known: a reading without a moment of its own is recorded by the header's
--- timestamp, and what waited is read
-abbrev pub late_said : Schedule → Feed → EntitySaid → Result DatedReading Fault
-late_said schedule feed (Aside fault) = Err fault
-late_said schedule feed (Waits update) = update_said schedule feed update
+-- timestamp, and what waited is read; a reading in whose place a later one stands says nothing any more
+abbrev pub late_said : Schedule → Feed → EntitySaid → Option (Result DatedReading Fault)
+late_said schedule feed (Aside fault) = Some (Err fault)
+late_said schedule feed (Waits update) = Some (update_said schedule feed update)
+late_said schedule feed Replaced = None
 late_said schedule feed (Given reading) =
-    Ok (record {
+    Some (Ok (record {
       trip = reading.trip;
       day = reading.day;
       recorded = option_or reading.recorded (moment_in feed.timestamp);
       reading = reading.reading;
-    })
+    }))
 
--- the reading that it gives then; or the fault for which it is set aside then, with its number
+-- the reading that it gives then
 abbrev pub given_late : Schedule → Feed → ℕ × EntitySaid → Option DatedReading
-given_late schedule feed one = given (Some (late_said schedule feed one.1))
+given_late schedule feed one = given (late_said schedule feed one.1)
 
-abbrev pub aside_as : ℕ → Result DatedReading Fault → Option (ℕ × Fault)
-aside_as number (Ok reading) = None
-aside_as number (Err fault) = Some (number, fault)
+-- the fault for which it is set aside then, with its number
+abbrev pub aside_as : ℕ → Option (Result DatedReading Fault) → Option (ℕ × Fault)
+aside_as number None = None
+aside_as number (Some (Ok reading)) = None
+aside_as number (Some (Err fault)) = Some (number, fault)
 
 abbrev pub aside_late : Schedule → Feed → ℕ × EntitySaid → Option (ℕ × Fault)
 aside_late schedule feed one = aside_as one.0 (late_said schedule feed one.1)
+
+-- how many are taken then: all that aren't set aside, also a reading in whose place a later one stands
+abbrev pub is_taken_late : Schedule → Feed → ℕ × EntitySaid → Bool
+is_taken_late schedule feed one = is_none (aside_late schedule feed one)
+
+abbrev pub taken_late : Schedule → Feed → List (ℕ × EntitySaid) → ℕ
+taken_late schedule feed held = length (filter (is_taken_late schedule feed) held)
+
+-- what is held gives then what the entities say: how many are taken, of the readings of one journey the last, and
+-- which entities are set aside
+pub record GivesLate (schedule : Schedule) (feed : Feed) (held : List (ℕ × EntitySaid))
+    (said : List (Option (Result DatedReading Fault))) : Type 0 where
+  pub taken : taken_late schedule feed held ≡ length (given_all said)
+  pub last : last_of_each (filter_map (given_late schedule feed) held) ≡ last_of_each (given_all said)
+  pub aside : filter_map (aside_late schedule feed) held ≡ aside_all said
+
+-- how many of these entities are passed
+abbrev pub passed_early : Schedule → List Entity → ℕ
+passed_early schedule entities = length (filter is_none (map (entity_early schedule) entities))
+
+-- a fold stands for these entities over this schedule: it counts those that are passed, and gives what the others say,
+-- whatever the header's timestamp is
+pub record StandsFor (schedule : Schedule) (fold : Folded) (entities : List Entity) : Type 0 where
+  pub passed : fold.passed ≡ passed_early schedule entities
+  pub late : (timestamp : Option ℕ)
+      → GivesLate schedule (bare_feed timestamp) fold.said (map (entity_said schedule (bare_feed timestamp)) entities)

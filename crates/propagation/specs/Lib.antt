@@ -1,6 +1,7 @@
 pub mod Answers
 pub mod Feeds
 pub mod Folding
+pub mod Replacing
 pub mod Saying
 pub mod SortedOut
 pub mod Spreading

@@ -169,21 +169,22 @@ pub(crate) fn read_early(
     }
 }
 
-/// What it says once the header's timestamp is known.
+/// What it says once the header's timestamp is known: None where a later reading stands in its place.
 pub(crate) fn read_late(
     alloc: Global,
     context: &Context<'_>,
     timestamp: Option<u64>,
     said: EntitySaid,
-) -> Result<Result<DatedReading, Fault>, AllocError>
+) -> Result<Option<Result<DatedReading, Fault>>, AllocError>
     ensures { IfOk result (λ found. found ≡ late_said context.now (bare_feed timestamp) said) }
 {
     match said {
-        EntitySaid::Given(reading) => Ok(Ok(DatedReading {
+        EntitySaid::Given(reading) => Ok(Some(Ok(DatedReading {
             recorded: recorded_or(reading.recorded, timestamp),
             ..reading
-        })),
-        EntitySaid::Aside(fault) => Ok(Err(fault)),
-        EntitySaid::Waits(update) => said_of(alloc, context, timestamp, update.get()),
+        }))),
+        EntitySaid::Aside(fault) => Ok(Some(Err(fault))),
+        EntitySaid::Replaced => Ok(None),
+        EntitySaid::Waits(update) => Ok(Some(said_of(alloc, context, timestamp, update.get())?)),
     }
 }

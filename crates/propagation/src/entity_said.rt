@@ -9,6 +9,8 @@ pub enum EntitySaid {
     Given(DatedReading),
     /// Why the update is set aside.
     Aside(Fault),
+    /// A reading in whose place a later one of the same journey stands: it was taken, and gives nothing any more.
+    Replaced,
     /// The update, which names no service day and so waits for the header's timestamp.
     Waits(Boxed<TripUpdate>),
 }

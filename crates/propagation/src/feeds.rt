@@ -24,10 +24,12 @@ pub struct FeedReading {
     pub report: Report,
 }
 
-/// The entities of a feed: what was read, how many were passed, and which were set aside.
+/// The entities of a feed: what was read, but for readings that later ones of their journeys replaced, how many were
+/// taken and passed, and which were set aside.
 #[derive(Drop)]
 pub struct SortedOut {
     pub(crate) given: List<DatedReading>,
+    pub(crate) taken: u64,
     pub(crate) passed: u64,
     pub(crate) aside: List<(u64, Fault)>,
 }
@@ -46,8 +48,10 @@ fn sorted_out(alloc: Global, feed: &Feed, context: &Context<'_>) -> Result<Sorte
             Some(Err(fault)) => aside.push((number as u64, fault))?,
         }
     }
+    let taken = given.len() as u64;
     Ok(SortedOut {
         given,
+        taken,
         passed,
         aside,
     })
@@ -92,10 +96,10 @@ pub(crate) fn reading_of(alloc: Global, sorted: SortedOut) -> Result<FeedReading
 {
     let SortedOut {
         given,
+        taken,
         passed,
         aside,
     } = sorted;
-    let taken = given.len() as u64;
     let journeys = by_journey(last_of_each(alloc, given)?)?;
     Ok(FeedReading {
         journeys,

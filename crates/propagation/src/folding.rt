@@ -5,24 +5,27 @@ ghost use Rattle.std.specs.List.{filter_map};
 ghost use Rattle.gw_base.specs.declared.messages.Entity.{Entity};
 ghost use Rattle.journey_model.specs.Schedules.{Schedule};
 ghost use Rattle.propagation.specs.Feeds.{IsReading};
-ghost use Rattle.propagation.specs.Folding.{StandsFor, aside_late, bare_feed, feed_with, given_late};
+ghost use Rattle.propagation.specs.Folding.{StandsFor, aside_late, bare_feed, feed_with, given_late, taken_late};
 
 use crate::entities::{read_early, read_late};
 use crate::entity_said::EntitySaid;
 use crate::feeds::{FeedReading, SortedOut, reading_of};
+use crate::replacing::{Places, hold};
 use gw_base::{Entity, FeedHead, List};
-use journey_model::Context;
+use journey_model::{Context, DatedReading, Fault};
 use std::alloc::{AllocError, Global};
+use std::collections::HashMap;
 use std::marker::Model;
 
 /// What the entities of a feed say that came so far (GTFS Realtime reference, FeedEntity). An update that names its
-/// service day is read when it comes, one that names none is kept until the header is known, and of an entity that is
-/// passed nothing is kept. A contract sees what is held.
+/// service day is read when it comes, and of the readings of one journey only the last is kept; one that names none is
+/// kept until the header is known; and of an entity that is passed nothing is kept. A contract sees what is held.
 #[derive(Debug, Drop)]
 pub struct ReadingFold {
     alloc: Global,
     passed: u64,
-    said: List<(u64, EntitySaid)>,
+    said: Vec<(u64, EntitySaid)>,
+    places: Places,
 }
 
 impl Model for ReadingFold {
@@ -30,33 +33,55 @@ impl Model for ReadingFold {
 
     ghost Value = { Folded };
 
-    ghost view = { λ f. record { passed = f.passed; said = f.said } };
+    ghost view = { λ f. record { passed = f.passed; said = f.said.items } };
 }
 
-// What was said, sorted out once the header's timestamp is known.
+// What was said, parted once the header's timestamp is known: what it gives, and what is set aside.
+fn parted_late(
+    alloc: Global,
+    context: &Context<'_>,
+    timestamp: Option<u64>,
+    said: Vec<(u64, EntitySaid)>,
+) -> Result<(List<DatedReading>, List<(u64, Fault)>), AllocError>
+    ensures given { IfOk result (λ parts. parts.0
+        ≡ filter_map (given_late context.now (bare_feed timestamp)) said.items) }
+    ensures aside { IfOk result (λ parts. parts.1
+        ≡ filter_map (aside_late context.now (bare_feed timestamp)) said.items) }
+{
+    let mut given = List::new(alloc);
+    let mut aside = List::new(alloc);
+    for (number, one) in said {
+        match read_late(alloc, context, timestamp, one)? {
+            Some(Ok(reading)) => given.push(reading)?,
+            Some(Err(fault)) => aside.push((number, fault))?,
+            None => {}
+        }
+    }
+    Ok((given, aside))
+}
+
+// What was said, sorted out once the header's timestamp is known. What isn't set aside is taken.
 fn sorted_late(
     alloc: Global,
     context: &Context<'_>,
     timestamp: Option<u64>,
     passed: u64,
-    said: List<(u64, EntitySaid)>,
+    said: Vec<(u64, EntitySaid)>,
 ) -> Result<SortedOut, AllocError>
     ensures given { IfOk result (λ sorted. sorted.given
-        ≡ filter_map (given_late context.now (bare_feed timestamp)) said) }
+        ≡ filter_map (given_late context.now (bare_feed timestamp)) said.items) }
+    ensures taken { IfOk result (λ sorted. sorted.taken
+        ≡ taken_late context.now (bare_feed timestamp) said.items) }
     ensures passed { IfOk result (λ sorted. sorted.passed ≡ passed) }
     ensures aside { IfOk result (λ sorted. sorted.aside
-        ≡ filter_map (aside_late context.now (bare_feed timestamp)) said) }
+        ≡ filter_map (aside_late context.now (bare_feed timestamp)) said.items) }
 {
-    let mut given = List::new(alloc);
-    let mut aside = List::new(alloc);
-    for (number, one) in said.into_vec() {
-        match read_late(alloc, context, timestamp, one)? {
-            Ok(reading) => given.push(reading)?,
-            Err(fault) => aside.push((number, fault))?,
-        }
-    }
+    let held = said.len();
+    let (given, aside) = parted_late(alloc, context, timestamp, said)?;
+    let taken = (held - aside.len()) as u64;
     Ok(SortedOut {
         given,
+        taken,
         passed,
         aside,
     })
@@ -70,7 +95,8 @@ impl ReadingFold {
         ReadingFold {
             alloc,
             passed: 0,
-            said: List::new(alloc),
+            said: Vec::new(alloc),
+            places: HashMap::new(alloc),
         }
     }
 
@@ -88,7 +114,7 @@ impl ReadingFold {
         ensures refused { OnErr result (self.new ≡ self.old) }
     {
         match read_early(self.alloc, context, entity)? {
-            Some(said) => self.said.push((index, said)),
+            Some(said) => hold(&mut self.places, &mut self.said, index, said),
             None => self.pass(),
         }
     }
@@ -117,6 +143,7 @@ impl ReadingFold {
             alloc,
             passed,
             said,
+            places: _,
         } = self;
         reading_of(
             alloc,

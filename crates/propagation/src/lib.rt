@@ -15,6 +15,7 @@ mod naming;
 mod place_sizes;
 mod placing;
 mod propagating;
+mod replacing;
 mod room;
 mod update_fault;
 mod updates;

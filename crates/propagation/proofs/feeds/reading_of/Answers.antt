@@ -1,4 +1,3 @@
-use Rattle.std.proofs.Common.{◌∙◌, ap, length}
 use Rattle.std.proofs.lemmas.List.Sorted.{IsPermutation-reverse, IsPermutation-trans}
 use Rattle.std.specs.List.Sorted.{IsPermutation}
 use Rattle.journey_model.specs.FeedReadings.{given_all, last_of_each, readings}
@@ -11,7 +10,7 @@ returns c = λ schedule feed sorted_out.
     let given = given_all (readings schedule feed) in
     let last = last_of_each given in
     let front : IsPermutation last c.in_ok-last_of_each.field-0.items =
-    rw (c.in_ok-last_of_each.ensures, sorted_out.given) (IsPermutation-reverse last) in
+    rw (c.in_ok-last_of_each.ensures, sorted_out.last) (IsPermutation-reverse last) in
     let same : IsPermutation last c.in_ok-journeys.journeys =
     IsPermutation-trans last c.in_ok-last_of_each.field-0.items c.in_ok-journeys.journeys front
     c.in_ok-journeys.ensures.same in
@@ -20,7 +19,7 @@ returns c = λ schedule feed sorted_out.
       each_last = λ trip day. last_there trip day given c.in_ok-journeys.journeys same;
       sorted = c.in_ok-journeys.ensures.sorted;
       servable = all-servable schedule feed c.in_ok-journeys.journeys same;
-      taken = c.len-taken.ensures.value ∙ ap length sorted_out.given;
+      taken = sorted_out.taken;
       passed = sorted_out.passed;
       aside = sorted_out.aside;
     }

@@ -1,5 +1,5 @@
-use Rattle.std.proofs.Common.{◌∙◌}
-use Rattle.propagation.specs.Folding.{feed_with}
+use Rattle.std.proofs.Common.{sym, subst}
+use Rattle.propagation.specs.Folding.{Folded, StandsFor, feed_with}
 use Rattle.propagation.proofs.FoldLemmas.{late_sorted}
 use Rattle.propagation.proofs.folding.ReadingFold.finish.Goals as goal
 
@@ -9,6 +9,8 @@ returns c =
     let sorted = c.in_ok-sorted_late.ensures in
     record {
       reads = λ entities stands. c.reading_of.ensures schedule (feed_with c.args.head.now entities)
-          (late_sorted schedule c.args.head.now (record { passed = c.self.inside.passed; said = c.self.inside.said })
-          entities c.in_ok-sorted_late.field-0 (c.self.view_is ∙ stands) sorted.given sorted.passed sorted.aside);
+          (late_sorted schedule c.args.head.now (record { passed = c.self.inside.passed; said = c.self.inside.said.items })
+          entities c.in_ok-sorted_late.field-0
+          (subst (λ (fold : Folded). StandsFor schedule fold entities) (sym c.self.view_is) stands)
+          sorted.given sorted.taken sorted.passed sorted.aside);
     }
