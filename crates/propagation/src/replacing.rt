@@ -25,9 +25,9 @@ fn held_at(said: &[(u64, EntitySaid)], place: usize, reading: &DatedReading) -> 
     ensures { IfSome result (IsEarlier said.now reading.now) }
 {
     match said.get(place) {
-        Some((number, EntitySaid::Given(one))) if are_of_one(reading, one) => Some((
-            place, *number,
-        )),
+        Some((number, EntitySaid::Given(one))) if are_of_one(reading, one) => {
+            Some((place, *number))
+        }
         _ => None,
     }
 }
