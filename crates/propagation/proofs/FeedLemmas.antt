@@ -1,7 +1,7 @@
 -- The entities of a feed are sorted out one by one, and of the readings of one journey the last is kept.
-use Rattle.std.proofs.Common.{◌≡◌, ◌∙◌, ◌+◌, ◌<◌, ◌≤◌, ◌==◌, ◌&&◌, ◌||◌, ◌++◌, ◌∷◌, [], ℕ, zero, suc, ℤ, not, Bool, true, false, List, map, take, reverse, length, get_or, Option, Some, None, is_some, Result, Ok, Err, if◌then◌else◌, refl, sym, ap, arith}
+use Rattle.std.proofs.Common.{◌≡◌, ◌∙◌, ◌+◌, ◌<◌, ◌≤◌, ◌==◌, ◌&&◌, ◌||◌, ◌++◌, ◌∷◌, [], ℕ, zero, suc, ℤ, not, Bool, true, false, List, map, take, length, get_or, Option, Some, None, is_some, Result, Ok, Err, if◌then◌else◌, refl, sym, ap, arith}
 use Rattle.std.proofs.lemmas.Bool.{eqb-true, false≢true}
-use Rattle.std.proofs.lemmas.List.{append-nil, append_assoc, map-append, take_more, reverse-append}
+use Rattle.std.proofs.lemmas.List.{map-append, take_more, reverse-append}
 use Rattle.std.proofs.lemmas.List.Sorted.{list_any-IsPermutation}
 use Rattle.std.specs.Cmp.{int_eq_equiv, nat_eq_equiv, signed_Decides}
 use Rattle.std.specs.List.{list_any}
@@ -19,6 +19,7 @@ use Rattle.journey_model.specs.declared.fault.Fault.{Fault}
 use Rattle.journey_model.specs.declared.readings.DatedReading.{DatedReading}
 use Rattle.journey_model.specs.declared.readings.JourneyReading.{JourneyReading}
 use Rattle.journey_model.proofs.AsideLemmas.{aside-all-more}
+use Rattle.propagation.specs.SortedOut.{AreLast, key_of, same_key}
 
 -- what an entity says
 abbrev pub Said : Type 0
@@ -93,29 +94,11 @@ sorted_more schedule feed number given given' passed passed' aside aside' entity
     length-push [] one = refl
     length-push (first ∷ all) one = omega (arith, length-push all one)
 
--- a trip on a day, by their numbers
-abbrev pub same_key : ℤ × ℕ → ℤ × ℕ → Bool
-same_key a b = int_eq a.0 b.0 && (a.1 == b.1)
-
-abbrev pub key_of : DatedReading → ℤ × ℕ
-key_of one = (one.day, one.trip.0)
-
--- of the readings from the end on, those that were seen, and the last of each journey
+-- of readings from the end on, the last of each journey
 pub record LastTo (given left : List DatedReading) (keys : List (ℤ × ℕ)) (last : List DatedReading) : Type 0 where
   pub after : List DatedReading
   pub split : given ≡ left ++ after
-  pub saw : (one : DatedReading)
-      → list_any (same_key (key_of one)) keys ≡ is_some (last_reading one.trip.0 one.day after)
-  pub last_is : last ≡ reverse (last_of_each after)
-
-pub last_none : (given left : List DatedReading) (keys : List (ℤ × ℕ)) (last : List DatedReading) → left ≡ given
-    → keys ≡ [] → last ≡ [] → LastTo given left keys last
-last_none given left keys last same no_keys none = record {
-  after = [];
-  split = sym (append-nil left ∙ same);
-  saw = λ one. rw no_keys refl;
-  last_is = none;
-}
+  pub are_last : AreLast after keys last
 
 -- a reading of a trip on a day has its numbers
 pub of-trip : (trip : ℕ) (day : ℤ) (one : DatedReading) → is_of trip day one ≡ true → one.trip.0 ≡ trip
@@ -155,54 +138,44 @@ not_false true e = refl
 not_false false e = e
 
 -- a reading whose journey is new is the last of it, and one whose journey was seen isn't
-pub last_new : (given left left' : List DatedReading) (keys keys' : List (ℤ × ℕ)) (last last' : List DatedReading)
+pub last_new : (after : List DatedReading) (keys keys' : List (ℤ × ℕ)) (last last' : List DatedReading)
     (one : DatedReading) (key : ℤ × ℕ)
-    → LastTo given left keys last → left ≡ left' ++ one ∷ [] → key ≡ key_of one
+    → AreLast after keys last → key ≡ key_of one
     → true ≡ not (list_any (same_key key) keys)
-    → IsPermutation (key ∷ keys) keys' → last' ≡ last ++ one ∷ [] → LastTo given left' keys' last'
-last_new given left left' keys keys' last last' one key h popped same new puts pushed =
-    let none : is_some (last_reading one.trip.0 one.day h.after) ≡ false =
+    → IsPermutation (key ∷ keys) keys' → last' ≡ last ++ one ∷ [] → AreLast (one ∷ after) keys' last'
+last_new after keys keys' last last' one key h same new puts pushed =
+    let none : is_some (last_reading one.trip.0 one.day after) ≡ false =
     sym (h.saw one) ∙ (rw (← same) (not_true _ new)) in
     record {
-      after = one ∷ h.after;
-      split = h.split ∙ (rw popped (append_assoc left' (one ∷ []) h.after));
       saw = λ other. sym (list_any-IsPermutation (same_key (key_of other)) (key ∷ keys) keys' puts)
           ∙ (rw same (ap (λ rest. same_key (key_of other) (key_of one) || rest) (h.saw other)))
-          ∙ ap (λ own. own || is_some (last_reading other.trip.0 other.day h.after)) (key_is other one)
-          ∙ or-some (is_of other.trip.0 other.day one) (last_reading other.trip.0 other.day h.after) one.reading;
-      last_is = pushed ∙ (rw (h.last_is, none) (sym (reverse-append (one ∷ []) (last_of_each h.after))));
+          ∙ ap (λ own. own || is_some (last_reading other.trip.0 other.day after)) (key_is other one)
+          ∙ or-some (is_of other.trip.0 other.day one) (last_reading other.trip.0 other.day after) one.reading;
+      last_is = pushed ∙ (rw (h.last_is, none) (sym (reverse-append (one ∷ []) (last_of_each after))));
     }
 
-pub last_seen : (given left left' : List DatedReading) (keys keys' : List (ℤ × ℕ)) (last : List DatedReading)
+pub last_seen : (after : List DatedReading) (keys keys' : List (ℤ × ℕ)) (last : List DatedReading)
     (one : DatedReading) (key : ℤ × ℕ)
-    → LastTo given left keys last → left ≡ left' ++ one ∷ [] → key ≡ key_of one
-    → false ≡ not (list_any (same_key key) keys) → keys' ≡ keys → LastTo given left' keys' last
-last_seen given left left' keys keys' last one key h popped same old kept =
-    let seen : is_some (last_reading one.trip.0 one.day h.after) ≡ true =
+    → AreLast after keys last → key ≡ key_of one
+    → false ≡ not (list_any (same_key key) keys) → keys' ≡ keys → AreLast (one ∷ after) keys' last
+last_seen after keys keys' last one key h same old kept =
+    let seen : is_some (last_reading one.trip.0 one.day after) ≡ true =
     sym (h.saw one) ∙ (rw (← same) (not_false _ old)) in
     record {
-      after = one ∷ h.after;
-      split = h.split ∙ (rw popped (append_assoc left' (one ∷ []) h.after));
       saw = λ other. rw kept (h.saw other ∙ repeated other (is_of other.trip.0 other.day one) refl seen);
       last_is = h.last_is ∙ (rw seen refl);
     }
   where
     repeated : (other : DatedReading) (own : Bool) → is_of other.trip.0 other.day one ≡ own
-        → is_some (last_reading one.trip.0 one.day h.after) ≡ true
-        → is_some (last_reading other.trip.0 other.day h.after)
-        ≡ is_some (option_or (last_reading other.trip.0 other.day h.after)
+        → is_some (last_reading one.trip.0 one.day after) ≡ true
+        → is_some (last_reading other.trip.0 other.day after)
+        ≡ is_some (option_or (last_reading other.trip.0 other.day after)
         (if is_of other.trip.0 other.day one then Some one.reading else None))
     repeated other true e seen =
-        or-kept (last_reading other.trip.0 other.day h.after) _
-        (ap (λ (found : Option JourneyReading). is_some found) (same-after other.trip.0 other.day one h.after e)
+        or-kept (last_reading other.trip.0 other.day after) _
+        (ap (λ (found : Option JourneyReading). is_some found) (same-after other.trip.0 other.day one after e)
         ∙ seen)
-    repeated other false e seen = rw e (or-some false (last_reading other.trip.0 other.day h.after) one.reading)
-
-pub last_done : (given left : List DatedReading) (keys : List (ℤ × ℕ)) (last : List DatedReading)
-    → LastTo given left keys last → length left ≡ 0
-    → last ≡ reverse (last_of_each given)
-last_done given [] keys last h none = rw h.split h.last_is
-last_done given (one ∷ left) keys last h none = absurd (omega arith)
+    repeated other false e seen = rw e (or-some false (last_reading other.trip.0 other.day after) one.reading)
 
 -- all entities were sorted out
 pub sorted_all : (schedule : Schedule) (feed : Feed) (number : ℕ) → length feed.entities ≤ number

@@ -1,5 +1,5 @@
 -- What a fold holds says, once the header is known, what the feed's entities say.
-use Rattle.std.proofs.Common.{◌≡◌, ◌∙◌, ◌+◌, ◌||◌, ◌++◌, ◌∷◌, [], ℕ, ℤ, Bool, true, false, List, map, length, Option, Some, None, is_none, is_some, option_map, Result, Ok, Err, OnOk, if◌then◌else◌, refl, sym, ap, arith}
+use Rattle.std.proofs.Common.{◌≡◌, ◌∙◌, ◌+◌, ◌||◌, ◌++◌, ◌∷◌, [], ℕ, ℤ, Bool, true, false, List, map, length, reverse, Option, Some, None, is_none, is_some, option_map, Result, Ok, Err, OnOk, if◌then◌else◌, refl, sym, ap, arith}
 use Rattle.std.specs.Prelude.{cond}
 use Rattle.std.proofs.lemmas.Bool.{false≢true}
 use Rattle.std.proofs.lemmas.List.{append-nil, length-map, length_push, map-append}
@@ -23,7 +23,7 @@ use Rattle.journey_model.specs.declared.readings.JourneyReading.{JourneyReading}
 use Rattle.journey_model.proofs.AsideLemmas.{aside-all-more}
 use Rattle.propagation.specs.Folding.{Folded, GivesLate, StandsFor, aside_as, aside_late, bare_feed, entity_early, feed_with, given_late, given_or_aside, is_dated, is_taken_late, late_said, passed_early, taken_late, update_early}
 use Rattle.propagation.specs.Replacing.{Holds}
-use Rattle.propagation.specs.SortedOut.{IsSortedOut}
+use Rattle.propagation.specs.SortedOut.{AreLast, IsSortedOut}
 use Rattle.propagation.specs.declared.entity_said.EntitySaid.{EntitySaid}
 use Rattle.propagation.specs.declared.entity_said.EntitySaid.TheVariants.{Waits}
 use Rattle.propagation.specs.declared.feeds.SortedOut.{SortedOut}
@@ -197,43 +197,32 @@ bare_readings schedule feed (entity ∷ entities) =
 -- what a fold stands for is sorted out
 pub late_sorted : (schedule : Schedule) (head : FeedHead) (fold : Folded) (entities : List Entity) (sorted : SortedOut)
     → StandsFor schedule fold entities
-    → sorted.given ≡ filter_map (given_late schedule (bare_feed head.timestamp)) fold.said
+    → sorted.last.items ≡ reverse (last_of_each (filter_map (given_late schedule (bare_feed head.timestamp)) fold.said))
     → sorted.taken ≡ taken_late schedule (bare_feed head.timestamp) fold.said
     → sorted.passed ≡ fold.passed
     → sorted.aside ≡ filter_map (aside_late schedule (bare_feed head.timestamp)) fold.said
     → IsSortedOut (readings schedule (feed_with head entities)) sorted
-late_sorted schedule head fold entities sorted stands is_given is_taken is_passed is_aside =
+late_sorted schedule head fold entities sorted stands is_last is_taken is_passed is_aside =
     let feed = feed_with head entities in
     let late = stands.late head.timestamp in
     let same = bare_readings schedule feed entities in
     record {
-      last = ap last_of_each is_given
-          ∙ (late.last ∙ ap (λ (said : List (Option (Result DatedReading Fault))). last_of_each (given_all said)) same);
+      last = is_last
+          ∙ ap (λ (last : List DatedReading). reverse last) (late.last
+          ∙ ap (λ (said : List (Option (Result DatedReading Fault))). last_of_each (given_all said)) same);
       taken = is_taken
           ∙ (late.taken ∙ ap (λ (said : List (Option (Result DatedReading Fault))). length (given_all said)) same);
       passed = is_passed ∙ (stands.passed ∙ late_passed schedule feed entities);
       aside = is_aside ∙ (late.aside ∙ ap aside_all same);
     }
 
--- what was held so far, sorted out once the header is known
-pub record LateTo (schedule : Schedule) (feed : Feed) (held : List (ℕ × EntitySaid)) (given : List DatedReading)
-    (aside : List (ℕ × Fault)) : Type 0 where
-  pub given_is : given ≡ filter_map (given_late schedule feed) held
-  pub aside_is : aside ≡ filter_map (aside_late schedule feed) held
-
-pub late_more : (schedule : Schedule) (feed : Feed) (held : List (ℕ × EntitySaid)) (given given' : List DatedReading)
-    (aside aside' : List (ℕ × Fault)) (number : ℕ) (early : EntitySaid) (said : Option (Result DatedReading Fault))
-    → LateTo schedule feed held given aside → said ≡ late_said schedule feed early
-    → given' ≡ given ++ given_all (said ∷ []) → aside' ≡ aside ++ cons_option (aside_as number said) []
-    → LateTo schedule feed (held ++ (number, early) ∷ []) given' aside'
-late_more schedule feed held given given' aside aside' number early said h is more_given more_aside =
-    let one : List (ℕ × EntitySaid) = (number, early) ∷ [] in
-    record {
-      given_is = more_given
-          ∙ (rw (h.given_is, is) (sym (filter_map-append (given_late schedule feed) held one)));
-      aside_is = more_aside
-          ∙ (rw (h.aside_is, is) (sym (filter_map-append (aside_late schedule feed) held one)));
-    }
+-- what is held, read from the end on once the header is known
+pub record LateTo (schedule : Schedule) (feed : Feed) (held left : List (ℕ × EntitySaid)) (keys : List (ℤ × ℕ))
+    (last : List DatedReading) (aside : List (ℕ × Fault)) : Type 0 where
+  pub after : List (ℕ × EntitySaid)
+  pub split : held ≡ left ++ after
+  pub are_last : AreLast (filter_map (given_late schedule feed) after) keys last
+  pub aside_is : aside ≡ reverse (filter_map (aside_late schedule feed) after)
 
 -- what isn't set aside is taken
 pub taken_rest : (schedule : Schedule) (feed : Feed) (held : List (ℕ × EntitySaid))

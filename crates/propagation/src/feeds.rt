@@ -1,11 +1,12 @@
 //! What a feed says of journeys. The functions meet `specs/Feeds.antt`.
-ghost use Rattle.std.specs.Prelude.{◌≡◌, reverse, IfOk};
+ghost use Rattle.std.specs.Prelude.{◌≡◌, ◌∷◌, List as Values, reverse, IfOk, OnOk};
 ghost use Rattle.std.specs.List.Sorted.{IsPermutation, IsSorted};
 ghost use Rattle.gw_base.specs.declared.messages.Feed.{Feed};
 ghost use Rattle.journey_model.specs.FeedReadings as spec;
 ghost use Rattle.journey_model.specs.Schedules.{Schedule};
+ghost use Rattle.journey_model.specs.declared.readings.DatedReading.{DatedReading};
 ghost use Rattle.propagation.specs.Feeds.{IsReading, journey_cmp};
-ghost use Rattle.propagation.specs.SortedOut.{IsSortedOut};
+ghost use Rattle.propagation.specs.SortedOut.{AreLast, IsSortedOut};
 
 use crate::entities::read_entity;
 use gw_base::{Feed, List};
@@ -24,11 +25,11 @@ pub struct FeedReading {
     pub report: Report,
 }
 
-/// The entities of a feed: what was read, but for readings that later ones of their journeys replaced, how many were
-/// taken and passed, and which were set aside.
+/// The entities of a feed: of the readings of one journey the last, from the last on, how many were taken and passed,
+/// and which were set aside.
 #[derive(Drop)]
 pub struct SortedOut {
-    pub(crate) given: List<DatedReading>,
+    pub(crate) last: Vec<DatedReading>,
     pub(crate) taken: u64,
     pub(crate) passed: u64,
     pub(crate) aside: List<(u64, Fault)>,
@@ -50,11 +51,29 @@ fn sorted_out(alloc: Global, feed: &Feed, context: &Context<'_>) -> Result<Sorte
     }
     let taken = given.len() as u64;
     Ok(SortedOut {
-        given,
+        last: last_of_each(alloc, given)?,
         taken,
         passed,
         aside,
     })
+}
+
+/// The journeys of which a reading was seen, by service day and trip.
+pub(crate) type Seen = HashSet<(i32, u32)>;
+
+/// Keeps a reading where none of its journey was seen: the readings come from the last on.
+pub(crate) fn keep_last(
+    seen: &mut Seen,
+    last: &mut Vec<DatedReading>,
+    reading: DatedReading,
+) -> Result<(), AllocError>
+    ensures { (after : Values DatedReading) → AreLast after seen.old.keys last.old.items
+        → OnOk result (AreLast (reading ∷ after) seen.new.keys last.new.items) }
+{
+    if seen.insert((reading.day.number(), reading.trip.0))? {
+        last.push(reading)?;
+    }
+    Ok(())
 }
 
 // Of the readings of one journey the last, from the last on.
@@ -65,9 +84,7 @@ fn last_of_each(alloc: Global, given: List<DatedReading>) -> Result<Vec<DatedRea
     let mut seen = HashSet::new(alloc);
     let mut last = Vec::new(alloc);
     while let Some(reading) = left.pop() {
-        if seen.insert((reading.day.number(), reading.trip.0))? {
-            last.push(reading)?;
-        }
+        keep_last(&mut seen, &mut last, reading)?;
     }
     Ok(last)
 }
@@ -90,17 +107,17 @@ fn by_journey(readings: Vec<DatedReading>) -> Result<List<DatedReading>, AllocEr
 }
 
 /// What a feed says of journeys whose entities are sorted out.
-pub(crate) fn reading_of(alloc: Global, sorted: SortedOut) -> Result<FeedReading, AllocError>
+pub(crate) fn reading_of(sorted: SortedOut) -> Result<FeedReading, AllocError>
     ensures { (schedule : Schedule) (feed : Feed) → IsSortedOut (spec.readings schedule feed) sorted
         → IfOk result (IsReading schedule feed) }
 {
     let SortedOut {
-        given,
+        last,
         taken,
         passed,
         aside,
     } = sorted;
-    let journeys = by_journey(last_of_each(alloc, given)?)?;
+    let journeys = by_journey(last)?;
     Ok(FeedReading {
         journeys,
         report: Report {
@@ -121,5 +138,5 @@ pub fn readings_of(
 ) -> Result<FeedReading, AllocError>
     ensures { IfOk result (IsReading context.now feed.now) }
 {
-    reading_of(alloc, sorted_out(alloc, feed, context)?)
+    reading_of(sorted_out(alloc, feed, context)?)
 }

@@ -1,20 +1,21 @@
 //! What a feed says of journeys, entity by entity, where its header may come last. Contracts see it as
 //! `Folded` of `specs/Folding.antt`.
-ghost use Rattle.std.specs.Prelude.{◌≡◌, ◌+◌, ◌++◌, ◌∷◌, [], List as Values, length, IfOk, OnErr, OnOk};
+ghost use Rattle.std.specs.Prelude.{◌≡◌, ◌+◌, ◌++◌, ◌∷◌, [], List as Values, length, reverse, IfOk, OnErr, OnOk};
 ghost use Rattle.std.specs.List.{filter_map};
 ghost use Rattle.gw_base.specs.declared.messages.Entity.{Entity};
+ghost use Rattle.journey_model.specs.FeedReadings.{last_of_each};
 ghost use Rattle.journey_model.specs.Schedules.{Schedule};
 ghost use Rattle.propagation.specs.Feeds.{IsReading};
 ghost use Rattle.propagation.specs.Folding.{StandsFor, aside_late, bare_feed, feed_with, given_late, taken_late};
 
 use crate::entities::{read_early, read_late};
 use crate::entity_said::EntitySaid;
-use crate::feeds::{FeedReading, SortedOut, reading_of};
+use crate::feeds::{FeedReading, SortedOut, keep_last, reading_of};
 use crate::replacing::{Places, hold};
 use gw_base::{Entity, FeedHead, List};
 use journey_model::{Context, DatedReading, Fault};
 use std::alloc::{AllocError, Global};
-use std::collections::HashMap;
+use std::collections::{HashMap, HashSet};
 use std::marker::Model;
 
 /// What the entities of a feed say that came so far (GTFS Realtime reference, FeedEntity). An update that names its
@@ -36,28 +37,32 @@ impl Model for ReadingFold {
     ghost view = { λ f. record { passed = f.passed; said = f.said.items } };
 }
 
-// What was said, parted once the header's timestamp is known: what it gives, and what is set aside.
-fn parted_late(
+// What was said, read from the last on once the header's timestamp is known: of the readings of one journey the last,
+// from the last on, and what is set aside. An earlier reading of a journey is dropped as soon as it is read.
+fn last_late(
     alloc: Global,
     context: &Context<'_>,
     timestamp: Option<u64>,
     said: Vec<(u64, EntitySaid)>,
-) -> Result<(List<DatedReading>, List<(u64, Fault)>), AllocError>
-    ensures given { IfOk result (λ parts. parts.0
-        ≡ filter_map (given_late context.now (bare_feed timestamp)) said.items) }
+) -> Result<(Vec<DatedReading>, List<(u64, Fault)>), AllocError>
+    ensures last { IfOk result (λ parts. parts.0.items
+        ≡ reverse (last_of_each (filter_map (given_late context.now (bare_feed timestamp)) said.items))) }
     ensures aside { IfOk result (λ parts. parts.1
         ≡ filter_map (aside_late context.now (bare_feed timestamp)) said.items) }
 {
-    let mut given = List::new(alloc);
-    let mut aside = List::new(alloc);
-    for (number, one) in said {
+    let mut left = said;
+    let mut seen = HashSet::new(alloc);
+    let mut last = Vec::new(alloc);
+    let mut aside = Vec::new(alloc);
+    while let Some((number, one)) = left.pop() {
         match read_late(alloc, context, timestamp, one)? {
-            Some(Ok(reading)) => given.push(reading)?,
+            Some(Ok(reading)) => keep_last(&mut seen, &mut last, reading)?,
             Some(Err(fault)) => aside.push((number, fault))?,
             None => {}
         }
     }
-    Ok((given, aside))
+    aside.reverse();
+    Ok((last, List::from_vec(aside)))
 }
 
 // What was said, sorted out once the header's timestamp is known. What isn't set aside is taken.
@@ -68,8 +73,8 @@ fn sorted_late(
     passed: u64,
     said: Vec<(u64, EntitySaid)>,
 ) -> Result<SortedOut, AllocError>
-    ensures given { IfOk result (λ sorted. sorted.given
-        ≡ filter_map (given_late context.now (bare_feed timestamp)) said.items) }
+    ensures last { IfOk result (λ sorted. sorted.last.items
+        ≡ reverse (last_of_each (filter_map (given_late context.now (bare_feed timestamp)) said.items))) }
     ensures taken { IfOk result (λ sorted. sorted.taken
         ≡ taken_late context.now (bare_feed timestamp) said.items) }
     ensures passed { IfOk result (λ sorted. sorted.passed ≡ passed) }
@@ -77,10 +82,10 @@ fn sorted_late(
         ≡ filter_map (aside_late context.now (bare_feed timestamp)) said.items) }
 {
     let held = said.len();
-    let (given, aside) = parted_late(alloc, context, timestamp, said)?;
+    let (last, aside) = last_late(alloc, context, timestamp, said)?;
     let taken = (held - aside.len()) as u64;
     Ok(SortedOut {
-        given,
+        last,
         taken,
         passed,
         aside,
@@ -145,9 +150,6 @@ impl ReadingFold {
             said,
             places: _,
         } = self;
-        reading_of(
-            alloc,
-            sorted_late(alloc, context, head.timestamp, passed, said)?,
-        )
+        reading_of(sorted_late(alloc, context, head.timestamp, passed, said)?)
     }
 }

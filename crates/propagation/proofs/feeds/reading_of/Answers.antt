@@ -9,10 +9,10 @@ pub returns : goal.returns
 returns c = λ schedule feed sorted_out.
     let given = given_all (readings schedule feed) in
     let last = last_of_each given in
-    let front : IsPermutation last c.in_ok-last_of_each.field-0.items =
-    rw (c.in_ok-last_of_each.ensures, sorted_out.last) (IsPermutation-reverse last) in
+    let front : IsPermutation last c.args.sorted.last.items =
+    rw sorted_out.last (IsPermutation-reverse last) in
     let same : IsPermutation last c.in_ok-journeys.journeys =
-    IsPermutation-trans last c.in_ok-last_of_each.field-0.items c.in_ok-journeys.journeys front
+    IsPermutation-trans last c.args.sorted.last.items c.in_ok-journeys.journeys front
     c.in_ok-journeys.ensures.same in
     record {
       same = same;

@@ -1,6 +1,7 @@
-use Rattle.std.proofs.Common.{◌∙◌, List, None, Some, Ok, Err, length, sym, ap, arith}
+use Rattle.std.proofs.Common.{◌∙◌, List, None, Some, Ok, Err, length, reverse, sym, ap, arith}
 use Rattle.std.proofs.lemmas.List.{append-nil}
 use Rattle.journey_model.specs.FeedReadings.{aside_all, given_all, last_of_each, passed_count}
+use Rattle.journey_model.specs.declared.readings.DatedReading.{DatedReading}
 use Rattle.propagation.proofs.FeedLemmas.{Said, said_to, sorted_none, sorted_more, sorted_all, passed-most}
 use Rattle.propagation.proofs.feeds.sorted_out.Goals as goal
 use Rattle.propagation.proofs.feeds.sorted_out.Goals.{in-None, in-Some-Ok+in_ok-push-in-Some-Ok, in-Some-Err+in_ok-push-in-Some-Err}
@@ -58,7 +59,9 @@ returns c =
     let all = sorted_all c.args.context.now c.args.feed.now c.loop-number.number
     (rw c.as_slice-entity-items.ensures.same at c.loop-number-test.false) in
     record {
-      last = ap last_of_each so_far.given_is ∙ ap (λ (said : List Said). last_of_each (given_all said)) all;
+      last = c.in_ok-last_of_each.ensures
+          ∙ ap (λ (given : List DatedReading). reverse (last_of_each given))
+          (so_far.given_is ∙ ap (λ (said : List Said). given_all said) all);
       taken = c.len-taken.ensures.value
           ∙ (ap length so_far.given_is ∙ ap (λ (said : List Said). length (given_all said)) all);
       passed = so_far.passed_is ∙ ap passed_count all;

@@ -10,7 +10,7 @@ overflow_sub-taken c =
       c.args.said.ok.0,
       c.len-held.ensures,
       c.len.ensures.value,
-      ap length c.in_ok-given.ensures.aside,
+      ap length c.in_ok-last.ensures.aside,
       taken_rest c.args.context.now (bare_feed c.args.timestamp) c.args.said.items,
     )
 
@@ -21,6 +21,6 @@ returns-clause-taken c =
       c.args.said.ok.0,
       c.len-held.ensures,
       c.len.ensures.value,
-      ap length c.in_ok-given.ensures.aside,
+      ap length c.in_ok-last.ensures.aside,
       taken_rest c.args.context.now (bare_feed c.args.timestamp) c.args.said.items,
     )

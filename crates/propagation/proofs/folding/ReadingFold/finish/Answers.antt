@@ -12,5 +12,5 @@ returns c =
           (late_sorted schedule c.args.head.now (record { passed = c.self.inside.passed; said = c.self.inside.said.items })
           entities c.in_ok-sorted_late.field-0
           (subst (λ (fold : Folded). StandsFor schedule fold entities) (sym c.self.view_is) stands)
-          sorted.given sorted.taken sorted.passed sorted.aside);
+          sorted.last sorted.taken sorted.passed sorted.aside);
     }
