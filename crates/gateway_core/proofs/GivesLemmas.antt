@@ -209,7 +209,7 @@ gives_each at schedule records situations bytes is says servable = record {
       ∙ ap (λ one. or_nothing (option_map (λ (one : Recorded). one.reading) one) (nothing_known schedule trip)) same;
   says = record {
     latest = is.ordered;
-    are_latest = record { in_order = is.in_order; latest = λ key. is.latest key.1 key.0; };
+    are_latest = record { in_order = is.in_order; latest = λ key. is.latest key.1 key.0 };
     given =
         given_after schedule (full_dataset at (entities_of schedule is.ordered is.numbered)) is.ordered is.numbered says
         ∙ all_dated schedule is.ordered servable;
