@@ -235,6 +235,22 @@ reads_none words (show_task other) command is and = absurd (name_differs (slice_
 reads_none words (board_task other) command is and = absurd (name_differs (slice_get words 0) is.name and.name refl)
 reads_none words (make_task other) command is and = refl
 
+-- a first word that is there and is `board`
+named_board : (words : List (List ℕ)) (first name : List ℕ) → first ≡ get_or words 0 first → first ≡ codes "board" → slice_get words 0 ≡ Some name
+    → slice_get words 0 ≡ Some (codes "board")
+named_board words first name at is has = slice_get_read words _ 0 _ refl (slice_get_within words 0 _ has) at ∙ ap Some is
+
+-- words that can be read, of which the first is `board`, say what that command does
+pub board_said : (words : List (List ℕ)) (first : List ℕ) → first ≡ get_or words 0 first → first ≡ codes "board" → (job : Job) × Says words job
+    → (command : Board) × SaysBoard words command
+board_said words first at is (serve_job command, says) = absurd (name_differs (slice_get words 0) says.name (named_board words first _ at is says.name) refl)
+board_said words first at is (task_job (gtfsrt_task command), says) = absurd (name_differs (slice_get words 0) says.name (named_board words first _ at is says.name) refl)
+board_said words first at is (task_job (siri_task command), says) = absurd (name_differs (slice_get words 0) says.name (named_board words first _ at is says.name) refl)
+board_said words first at is (task_job (sx_task command), says) = absurd (name_differs (slice_get words 0) says.name (named_board words first _ at is says.name) refl)
+board_said words first at is (task_job (show_task command), says) = absurd (name_differs (slice_get words 0) says.name (named_board words first _ at is says.name) refl)
+board_said words first at is (task_job (board_task command), says) = (command, says)
+board_said words first at is (task_job (make_task command), says) = absurd (name_differs (slice_get words 0) says.name (named_board words first _ at is says.name) refl)
+
 -- what is read at a place where a value is known to be is the value
 pub read_at : {A : Type 0} (f : List ℕ → Option A) (words : List (List ℕ)) (k : ℕ) (known value : A) (word : List ℕ)
     → option_and_then f (slice_get words k) ≡ Some known → word ≡ get_or words k word → f word ≡ Some value
