@@ -22,18 +22,19 @@ SCHEDULE  --gtfs DIR ZONE --from DAY --days N: a GTFS Schedule folder, its zone,
           the first service day, and how many service days, from 1 to 32
 ZONE      --zone-rule RULE, a POSIX rule, or --zone-file FILE, a TZif file, such
           as /usr/share/zoneinfo/Europe/Paris
-DAY       YYYY-MM-DD; of serve, any day that is over
+DAY       YYYY-MM-DD; for serve, any past day
 K         how many past days the window keeps, below N and at most 31
-ADDRESS   where connections are taken, such as 127.0.0.1:8080
-C         how many connections are served, from 1 to 4294967295
-F         a file that keeps each accepted body, so that a start goes on from them
-MOMENT    the moment of the result, in UTC: YYYY-MM-DDThh:mm:ssZ
+ADDRESS   where serve listens, such as 127.0.0.1:8080
+C         how many connections serve answers before it ends, from 1 to 4294967295
+F         a journal: serve writes each accepted body to this file before it
+          answers, and reads them all again when it starts
+MOMENT    the time of the result, in UTC: YYYY-MM-DDThh:mm:ssZ
 FILE      a delivery in JSON (--et, --sx), or a feed in protobuf (--feed)
 STOP      a stop_id of the folder
-M, V      how many minutes a board looks ahead, from 1 to 1440, and how many
-          visits it has at most, from 1 to 10000
-X, T, S   the numbers of a sample: a seed, from 0 to 2147483647, how many trips,
-          from 1 to 20000, and at how many stops each stops, from 2 to 100
+M, V      how many minutes the board looks ahead, from 1 to 1440, and the most
+          visits that it lists, from 1 to 10000
+X, T, S   a sample's seed, from 0 to 2147483647, its number of trips, from 1 to
+          20000, and the number of stops of each trip, from 2 to 100
 
 serve accepts deliveries and feeds by POST, and answers GET with a feed and a
 SIRI delivery; its window of days moves with the clock:
@@ -42,36 +43,36 @@ SIRI delivery; its window of days moves with the clock:
     --connections 1000000
   curl --data-binary @timetables.json http://127.0.0.1:8080/siri/et
   curl http://127.0.0.1:8080/gtfs-rt > feed.pb
-to-gtfsrt makes a GTFS Realtime feed of SIRI timetables and situations:
+to-gtfsrt turns SIRI timetables and situations into a GTFS Realtime feed:
   ./gateway to-gtfsrt --gtfs examples/sample \\
     --zone-rule CET-1CEST,M3.5.0,M10.5.0/3 --from 2024-05-01 --days 2 \\
     --at 2024-05-01T06:00:00Z --et examples/late.json > late.pb
-to-siri makes a SIRI delivery with every call of the journeys of a feed:
+to-siri turns a feed's trip updates into a SIRI delivery with every call:
   ./gateway to-siri --gtfs examples/sample \\
     --zone-rule CET-1CEST,M3.5.0,M10.5.0/3 --from 2024-05-01 --days 2 \\
     --at 2024-05-01T06:00:00Z --feed examples/late.pb > late.json
-to-siri-sx makes a SIRI delivery of situations of the alerts of a feed:
+to-siri-sx turns a feed's alerts into a SIRI delivery of situations:
   ./gateway to-siri-sx --gtfs examples/sample \\
     --zone-rule CET-1CEST,M3.5.0,M10.5.0/3 --from 2024-05-01 --days 2 \\
     --at 2024-05-01T06:00:00Z --feed examples/alert.pb > alert.json
-show prints how each stop of the journeys of a feed reads:
+show prints what a feed says of every stop of its journeys:
   ./gateway show --gtfs examples/sample \\
     --zone-rule CET-1CEST,M3.5.0,M10.5.0/3 --from 2024-05-01 --days 2 \\
     --feed examples/late.pb
-board makes a SIRI StopMonitoring delivery of what stops soon at one stop:
+board makes a SIRI StopMonitoring delivery of the next visits to one stop:
   ./gateway board --gtfs examples/sample \\
     --zone-rule CET-1CEST,M3.5.0,M10.5.0/3 --from 2024-05-01 --days 2 \\
     --at 2024-05-01T06:00:00Z --stop B --minutes 60 --max 10 \\
     --et examples/late.json > board.json
-make generates a folder and deliveries from three numbers, runs them end to
-end without reading files, and counts what the feed says of all stops:
+make makes up a folder and deliveries from three numbers, takes them end to
+end without reading a file, and counts what the feed says of all stops:
   ./gateway make --seed 0 --trips 1 --stops 3
 
 The result goes to standard output. Standard error gets a report on each file,
 or the reason why there is no result; show ends its result with the report, and
-serve answers each body with one. Statuses: 0 done, 2 bad words (word K, counted
-from 0, which is the command, can't stand there), 65 bad input, 66 a missing
-file, 71 no memory, 74 a file, a stream or the network failed.
+serve answers each body with one. Statuses: 0 done; 2 word K of the command line
+can't stand there (the command itself is word 0); 65 bad input; 66 a file is
+missing; 71 out of memory; 74 a file, a stream or the network failed.
 ";
 
 // The most bytes of a word: Linux takes no longer one.

@@ -1,18 +1,14 @@
 -- What a delivery of journeys makes, and what a gateway answers to it.
 use Rattle.std.proofs.Common.{◌≡◌, ◌∙◌, ◌∷◌, [], ℕ, ℤ, List, map, drop, ap, sym, refl, subst, Option, Some, None, Result, Ok, Err}
 use Rattle.std.specs.Prelude.{filter}
-use Rattle.std.specs.List.{AllByRecursion}
 use Rattle.gw_base.specs.declared.member.Member.{Member}
-use Rattle.journey_model.specs.Records.{Recorded, recorded}
-use Rattle.journey_model.specs.Schedules.{IsServable, Schedule, schedule_from}
+use Rattle.journey_model.specs.Records.{Recorded}
+use Rattle.journey_model.specs.Schedules.{Schedule, schedule_from}
 use Rattle.journey_model.specs.declared.fault.Fault.{Fault}
 use Rattle.journey_model.specs.declared.report.Report.{Report}
 use Rattle.serde_json.specs.Data.{Data}
-use Rattle.journey_model.specs.declared.readings.JourneyRecord.{JourneyRecord}
-use Rattle.siri_calls.specs.Deliveries.{AreServable, ReadsBody}
-use Rattle.siri_json.specs.Deliveries.{Reads, ReadsTree, tree_of, without_count}
+use Rattle.siri_json.specs.Deliveries.{Reads, ReadsTree, passed_count, tree_of, without_count}
 use Rattle.siri_calls.specs.Verdicts.{verdicts}
-use Rattle.siri_json.specs.declared.delivery.Delivery.{Delivery}
 use Rattle.siri_json.specs.declared.delivery.DeliveryFault.{DeliveryFault}
 use Rattle.siri_json.specs.declared.delivery.DeliveryFault.TheVariants.{NotJson, NotDelivery, Memory}
 use Rattle.service_day.specs.Windows.{DayStarts}
@@ -22,61 +18,64 @@ use Rattle.feed_index.specs.declared.entry.Entry.{Entry}
 use Rattle.gateway_core.specs.Arrivals.{Arrival, admitted, is_within, moments_of, schedule_at, window_at}
 use Rattle.gateway_core.specs.Deliveries.{schedule_over, taken}
 use Rattle.feed_index.specs.Drafts.{Drafted, after}
-use Rattle.gateway_core.specs.JourneySteps.{GathersJourneys, MakesJourneys, RefusesJourneys, key_order, seen_after}
+use Rattle.gateway_core.specs.JourneySteps.{HasTaken, MakesJourneys, RefusesJourneys, key_order, seen_after}
 use Rattle.gateway_core.specs.Standing.{JourneyEntry, Kept, KeepsJourneys, Stands, journey_seen}
 use Rattle.gateway_core.specs.Steps.{JourneysAfter}
 use Rattle.gateway_core.specs.Taking.{JourneysAnswer, journeys_with_room, report_on}
+use Rattle.gateway_core.specs.Tallied.{Tallied, report_of}
+use Rattle.gateway_core.specs.Winners.{AreServable}
 use Rattle.gateway_core.specs.declared.accepted.Accepted.{Accepted}
+use Rattle.gateway_core.specs.declared.items.journeys.JourneyTaking.{JourneyTaking}
 use Rattle.gateway_core.specs.declared.keys.JourneyKey.{JourneyKey}
 use Rattle.gateway_core.specs.declared.setting.Setting.{Setting}
 use Rattle.gateway_core.proofs.SeenLemmas.{journeys_drop}
 use Rattle.gateway_core.proofs.StandingLemmas.{stands_journeys}
-use Rattle.gateway_core.proofs.TakenLemmas.{taken_servable}
 
 -- ---- what a body makes
 
-module _ (schedule : Schedule) (body : List ℕ) where
-  -- of a delivery that was read
-  pub journeys_made : (before : List Recorded) (delivery : Delivery JourneyRecord) (report : Report) (entries : List JourneyEntry) → ReadsBody schedule body (Ok delivery)
-      → AreServable schedule delivery.items → GathersJourneys schedule before delivery entries report → MakesJourneys schedule before body report entries
-  journeys_made before delivery report entries reads servable gathers = by (tree_of body) refl reads
+-- what verdicts make: what is kept, and the report
+pub record Makes (schedule : Schedule) (before : List Recorded) (all : List (Result (Recorded × ℕ) Fault)) (report : Report) (entries : List JourneyEntry) : Type 0 where
+  pub servable : AreServable schedule (taken (map without_count all))
+  pub entries_are : JourneysAfter schedule before (map without_count all) entries
+  pub report_is : report ≡ report_on (journeys_with_room schedule.window before (map without_count all)) (passed_count all)
+
+module _ (schedule : Schedule) (body : List ℕ) {D : Type 0} (StandsFor : D → List (Result (Recorded × ℕ) Fault) → Type 0) where
+  -- of a delivery whose journeys were taken, when it stands for them
+  pub journeys_made : (before : List Recorded) (given : D) (report : Report) (entries : List JourneyEntry)
+      → ((all : List (Result (Recorded × ℕ) Fault)) → StandsFor given all → Makes schedule before all report entries)
+      → Reads StandsFor (verdicts schedule) (tree_of body) (Ok given) → MakesJourneys schedule before body report entries
+  journeys_made before given report entries makes reads = by (tree_of body) refl reads
     where
-      by : (tree : Option Data) → tree_of body ≡ tree → Reads recorded (verdicts schedule) tree (Ok delivery) → MakesJourneys schedule before body report entries
+      by : (tree : Option Data) → tree_of body ≡ tree → Reads StandsFor (verdicts schedule) tree (Ok given) → MakesJourneys schedule before body report entries
       by None e h = absurd h
       by (Some root) e h = at (verdicts schedule root) refl h
         where
-          at : (answer : Result (List (Result (Recorded × ℕ) Fault)) Member) → verdicts schedule root ≡ answer → ReadsTree recorded answer (Ok delivery)
+          at : (answer : Result (List (Result (Recorded × ℕ) Fault)) Member) → verdicts schedule root ≡ answer → ReadsTree StandsFor answer (Ok given)
               → MakesJourneys schedule before body report entries
-          at (Ok all) f has = record {
-            root = root;
-            is_tree = e;
-            all = all;
-            judged = f;
-            servable = record {
-              servable =
-                  subst (λ (these : List (Result Recorded Fault)). AllByRecursion (λ one. IsServable schedule one.trip one.day one.reading) (taken these)) has.items_are
-                  (taken_servable schedule delivery.items servable);
-              known = tt;
-            };
-            entries_are = subst (λ (these : List (Result Recorded Fault)). JourneysAfter schedule before these entries) has.items_are gathers.entries_are;
-            report_is =
-                gathers.report_is
-                ∙ ap (λ (these : List (Result Recorded Fault)). report_on (journeys_with_room schedule.window before these) delivery.passed) has.items_are
-                ∙ ap (λ (passed : ℕ). report_on (journeys_with_room schedule.window before (map without_count all)) passed) has.passed_is;
-          }
+          at (Ok all) f has =
+              let makes = makes all has in
+              record {
+                root = root;
+                is_tree = e;
+                all = all;
+                judged = f;
+                servable = record { servable = makes.servable; known = tt };
+                entries_are = makes.entries_are;
+                report_is = makes.report_is;
+              }
           at (Err member) f has = absurd has
 
   -- of one that was refused
-  pub journeys_refused : (fault : DeliveryFault) → ReadsBody schedule body (Err fault) → RefusesJourneys schedule body fault
+  pub journeys_refused : (fault : DeliveryFault) → Reads StandsFor (verdicts schedule) (tree_of body) (Err fault) → RefusesJourneys schedule body fault
   journeys_refused fault reads = by (tree_of body) refl fault reads
     where
-      by : (tree : Option Data) → tree_of body ≡ tree → (fault : DeliveryFault) → Reads recorded (verdicts schedule) tree (Err fault) → RefusesJourneys schedule body fault
+      by : (tree : Option Data) → tree_of body ≡ tree → (fault : DeliveryFault) → Reads StandsFor (verdicts schedule) tree (Err fault) → RefusesJourneys schedule body fault
       by None e NotJson h = e
       by None e (NotDelivery member) h = absurd h
       by None e Memory h = tt
       by (Some root) e fault h = at (verdicts schedule root) refl fault h
         where
-          at : (answer : Result (List (Result (Recorded × ℕ) Fault)) Member) → verdicts schedule root ≡ answer → (fault : DeliveryFault) → ReadsTree recorded answer (Err fault)
+          at : (answer : Result (List (Result (Recorded × ℕ) Fault)) Member) → verdicts schedule root ≡ answer → (fault : DeliveryFault) → ReadsTree StandsFor answer (Err fault)
               → RefusesJourneys schedule body fault
           at (Ok all) f NotJson has = absurd cc
           at (Ok all) f (NotDelivery member) has = absurd cc
@@ -84,6 +83,15 @@ module _ (schedule : Schedule) (body : List ℕ) where
           at (Err member) f NotJson has = absurd has
           at (Err member) f (NotDelivery told) has = (root, e, f ∙ ap (λ (m : Member). Err m) (sym has))
           at (Err member) f Memory has = tt
+
+-- what was taken, and is reported on
+pub taking_makes : (schedule : Schedule) (before : List Recorded) (first now : JourneyTaking) (report : Report) (all : List (Result (Recorded × ℕ) Fault))
+    → KeepsJourneys schedule (filter (is_within schedule.window) before) (seen_after first.draft)
+    → ((faults : List (Option Fault)) (sum : ℕ) → Tallied faults sum now.tally → report ≡ report_of faults sum)
+    → HasTaken schedule first now all → Makes schedule before all report (seen_after now.draft)
+taking_makes schedule before first now report all keeps reported h =
+    let gathered = h.gathers before keeps in
+    record { servable = h.servable; entries_are = gathered.entries_are; report_is = reported _ _ gathered.tally_is }
 
 -- ---- what is to be put
 

@@ -29,6 +29,6 @@ mod SituationLemmas
 pub mod StandingLemmas
 mod StateLemmas
 mod StepLemmas
-mod TakenLemmas
+mod TallyLemmas
 mod WindowLemmas
 pub mod WinnerLemmas

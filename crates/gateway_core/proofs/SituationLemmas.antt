@@ -1,10 +1,10 @@
 -- The items of a delivery of situations, one after the other: what is kept, and those that are set aside.
-use Rattle.std.proofs.Common.{◌≡◌, ◌∙◌, ◌+◌, ◌-◌, ◌++◌, ◌∷◌, ◌<◌, ◌≤◌, [], ℕ, suc, Bool, true, false, cond, not, List, Option, Some, None, Result, Ok, Err, length, map, take, get_or, ap, sym, subst, refl, arith, zero-add}
-use Rattle.std.proofs.lemmas.List.{append-nil, length-append, length-map, length-take-le, map-append, take_more}
+use Rattle.std.proofs.Common.{◌≡◌, ◌∙◌, ◌+◌, ◌-◌, ◌++◌, ◌∷◌, ◌<◌, ◌≤◌, [], ℕ, Bool, true, false, not, List, Some, None, Result, Ok, Err, length, map, ap, sym, subst, refl, arith}
+use Rattle.std.proofs.lemmas.List.{append-nil, map-append}
 use Rattle.std.proofs.lemmas.Bool.Decides.{nat_tests}
-use Rattle.std.specs.Prelude.{filter, if◌then◌else◌, is_none, nat_le, nat_lt}
+use Rattle.std.specs.Prelude.{IfOk, filter, if◌then◌else◌, nat_le, nat_lt}
 use Rattle.std.specs.Cmp.Lexicographic.{slice_cmp}
-use Rattle.std.specs.List.{AllByRecursion, count_by}
+use Rattle.std.specs.List.{AllByRecursion}
 use Rattle.std.specs.Ordering.{nat_cmp}
 use Rattle.std.specs.Result.{result_err}
 use Rattle.alert_map.specs.Alerts.{alert_message}
@@ -13,23 +13,26 @@ use Rattle.feed_index.specs.Entries.{value_at}
 use Rattle.feed_index.specs.declared.entry.Entry.{Entry}
 use Rattle.feed_reading.specs.Tables.{MeansFeed, with_entity}
 use Rattle.gw_base.specs.declared.messages.Feed.{Feed}
+use Rattle.journey_model.specs.Schedules.{Schedule}
+use Rattle.journey_model.specs.Situations.{AreKnown}
 use Rattle.journey_model.specs.declared.fault.Fault.{Fault}
 use Rattle.journey_model.specs.declared.fault.Fault.TheVariants.{EntityTooLong, Full}
-use Rattle.journey_model.specs.declared.report.Report.{Report}
 use Rattle.journey_model.specs.declared.situation.Situation.{Situation}
-use Rattle.siri_json.specs.declared.delivery.Item.{Item}
+use Rattle.siri_json.specs.Deliveries.{passed_in, without_count}
 use Rattle.timetable.specs.Table.{Table}
 use Rattle.gateway_core.specs.Alerts.{alert_len, alert_limit}
-use Rattle.gateway_core.specs.Arrivals.{always, has_room, is_same_number, most_numbers}
-use Rattle.journey_model.specs.Reports.{aside_from, aside_at}
-use Rattle.gateway_core.specs.SituationSteps.{GathersSituations, GathersVerdicts, IsVerdictServed, after_situation, item_verdict, situation_verdict, verdict_fault, verdict_step, with_alert}
-use Rattle.gateway_core.specs.Standing.{KeepsSituations, SituationEntry, situation_entry, situation_seen}
+use Rattle.gateway_core.specs.Arrivals.{always, is_same_number, most_numbers}
+use Rattle.gateway_core.specs.Deliveries.{taken}
+use Rattle.gateway_core.specs.SituationSteps.{GathersSituations, HasTaken, IsVerdictServed, after_situation, alerts_after, situation_verdict, verdict_fault, verdict_step, with_alert}
+use Rattle.gateway_core.specs.Standing.{KeepsSituations, SituationEntry, situation_seen}
 use Rattle.gateway_core.specs.Steps.{SituationsAfter, situation_counts, situation_fits, situation_kept, with_situation}
-use Rattle.gateway_core.specs.Taking.{limited_verdict, situations_with_room, with_room}
+use Rattle.gateway_core.specs.Taking.{limited_verdict, limited_verdicts, situations_with_room}
+use Rattle.gateway_core.specs.Tallied.{Tallied}
+use Rattle.gateway_core.specs.declared.items.situations.SituationTaking.{SituationTaking}
+use Rattle.gateway_core.specs.declared.items.tally.Tally.{Tally}
 use Rattle.gateway_core.specs.declared.keys.Edition.{Edition}
-use Rattle.journey_model.proofs.AsideLemmas.{aside-more}
 use Rattle.gateway_core.proofs.KeepsLemmas.{roomy_aside}
-use Rattle.gateway_core.proofs.ReportLemmas.{taken_or_aside}
+use Rattle.gateway_core.proofs.TallyLemmas.{CountsOne, one_counted}
 use Rattle.gateway_core.proofs.RollLemmas.{filter_all}
 use Rattle.gateway_core.proofs.SeenLemmas.{situation_counts_found, situation_counts_new, situation_fits_found, situation_fits_new}
 use Rattle.gateway_core.proofs.StepLemmas.{situation_aside, situation_full, situation_lost, situation_verdict_full, situation_verdict_taken, situation_won}
@@ -42,114 +45,111 @@ pub alert_put : (table : Table) (entries : List SituationEntry) (one : Situation
 alert_put table entries one number alert e is =
     ap (λ (entry : SituationEntry). with_situation entries entry) (λ i. record { key = e i; value = (one.version, one.served); bytes = is i })
 
--- there is one verdict for each
-pub length-with_room : {A : Type 0} (is_same : A → A → Bool) (counts : A → Bool) (limit : ℕ) (before : List A) (verdicts : List (Result A Fault))
-    → length (with_room is_same counts limit before verdicts) ≡ length verdicts
-length-with_room is_same counts limit before [] = refl
-length-with_room is_same counts limit before (Err fault ∷ others) = ap (λ (n : ℕ). suc n) (length-with_room is_same counts limit before others)
-length-with_room {A} is_same counts limit before (Ok one ∷ others) =
-    by (has_room is_same counts limit before one) (length-with_room is_same counts limit (before ++ one ∷ []) others) (length-with_room is_same counts limit before others)
-  where
-    by : (b : Bool)
-        → length (with_room is_same counts limit (before ++ one ∷ []) others) ≡ length others
-        → length (with_room is_same counts limit before others) ≡ length others
-        → length (cond b (Ok one ∷ with_room is_same counts limit (before ++ one ∷ []) others) (Err Full ∷ with_room is_same counts limit before others)) ≡ suc (length others)
-    by true e f = ap (λ (n : ℕ). suc n) e
-    by false e f = ap (λ (n : ℕ). suc n) f
-
 -- ---- one verdict more
 
-module _ (table : Table) (before : List Situation) (so_far : List (Result Situation Fault)) (entries : List SituationEntry) (aside : List (ℕ × Fault)) (h : GathersVerdicts table before so_far entries aside) where
-  left_aside : (verdict last : Result Situation Fault) (left : List SituationEntry) → SituationsAfter table before (so_far ++ verdict ∷ []) left
+module _ (table : Table) (before : List Situation) (all : List (Result (Situation × ℕ) Fault)) (entries : List SituationEntry) (tally : Tally) (h : GathersSituations table before all entries tally) where
+  abbrev so_far : List (Result Situation Fault)
+  so_far = limited_verdicts table all
+
+  with_last : (one : Result (Situation × ℕ) Fault) (verdict last : Result Situation Fault) (left : List SituationEntry) (later : Tally) → limited_verdict table (without_count one) ≡ verdict
+      → CountsOne (result_err last) (passed_in one) tally later → SituationsAfter table before (so_far ++ verdict ∷ []) left
       → situations_with_room before (so_far ++ verdict ∷ []) ≡ situations_with_room before so_far ++ last ∷ []
-      → GathersVerdicts table before (so_far ++ verdict ∷ []) left (aside ++ aside_at (length so_far) (result_err last))
-  left_aside verdict last left keeps has = record {
-    entries_are = keeps;
-    aside_are =
-        ap (λ (front : List (ℕ × Fault)). front ++ aside_at (length so_far) (result_err last)) h.aside_are
-        ∙ ap (λ (n : ℕ). aside_from 0 (map result_err (situations_with_room before so_far)) ++ aside_at n (result_err last)) count
-        ∙ sym (aside-more 0 (map result_err (situations_with_room before so_far)) (result_err last))
-        ∙ ap (aside_from 0) (sym (map-append result_err (situations_with_room before so_far) (last ∷ [])))
-        ∙ ap (λ (verdicts : List (Result Situation Fault)). aside_from 0 (map result_err verdicts)) (sym has);
+      → GathersSituations table before (all ++ one ∷ []) left later
+  with_last one verdict last left later is counted keeps has = record {
+    entries_are = rw more keeps;
+    tally_is =
+        one_counted (situations_with_room before so_far) (situations_with_room before (limited_verdicts table (all ++ one ∷ []))) last all one tally later
+        (ap (situations_with_room before) more ∙ has) counted h.tally_is;
   }
     where
-      count : length so_far ≡ 0 + length (map result_err (situations_with_room before so_far))
-      count =
-          sym (length-with_room is_same_number always most_numbers before so_far)
-          ∙ sym (length-map (situations_with_room before so_far) result_err)
-          ∙ sym (zero-add (length (map result_err (situations_with_room before so_far))))
+      more : limited_verdicts table (all ++ one ∷ []) ≡ so_far ++ verdict ∷ []
+      more =
+          ap (map (limited_verdict table)) (map-append without_count all (one ∷ []))
+          ∙ map-append (limited_verdict table) (map without_count all) (without_count one ∷ [])
+          ∙ ap (λ (last : Result Situation Fault). so_far ++ last ∷ []) is
 
-  pub gathers_more : (verdict : Result Situation Fault) → IsVerdictServed table verdict
-      → GathersVerdicts table before (so_far ++ verdict ∷ []) (verdict_step table entries verdict) (aside ++ aside_at (length so_far) (verdict_fault entries verdict))
-  gathers_more (Err fault) served =
-      left_aside (Err fault) (Err fault) entries (situation_aside table before so_far entries h.entries_are fault) (roomy_aside is_same_number always most_numbers before so_far fault)
-  gathers_more (Ok one) served = by (situation_fits entries one) refl (situation_counts (situation_kept entries one) one) refl
+  gathers_more : (one : Result (Situation × ℕ) Fault) (verdict : Result Situation Fault) (left : List SituationEntry) (later : Tally) → limited_verdict table (without_count one) ≡ verdict
+      → IsVerdictServed table verdict → left ≡ verdict_step table entries verdict → CountsOne (verdict_fault entries verdict) (passed_in one) tally later
+      → GathersSituations table before (all ++ one ∷ []) left later
+  gathers_more one (Err fault) left later is served left_is counted =
+      with_last one (Err fault) (Err fault) left later is counted
+      (rw left_is (situation_aside table before so_far entries h.entries_are fault)) (roomy_aside is_same_number always most_numbers before so_far fault)
+  gathers_more one (Ok situation) left later is served left_is counted =
+      by (situation_fits entries situation) refl (situation_counts (situation_kept entries situation) situation) refl left_is counted
     where
-      by : (fits : Bool) → situation_fits entries one ≡ fits → (counts : Bool) → situation_counts (situation_kept entries one) one ≡ counts
-          → GathersVerdicts table before (so_far ++ Ok one ∷ []) (after_situation table entries one (if fits then Some counts else None))
-          (aside ++ aside_at (length so_far) (room_fault (if fits then Some counts else None)))
-      by false e counts k =
-          left_aside (Ok one) (Err Full) entries (situation_full table before so_far entries h.entries_are one e) (situation_verdict_full table before so_far entries h.entries_are one e)
-      by true e true k =
-          left_aside (Ok one) (Ok one) (with_situation entries (situation_entry table one)) (situation_won table before so_far entries h.entries_are one served e k)
-          (situation_verdict_taken table before so_far entries h.entries_are one e)
-      by true e false k =
-          left_aside (Ok one) (Ok one) entries (situation_lost table before so_far entries h.entries_are one e k)
-          (situation_verdict_taken table before so_far entries h.entries_are one e)
+      by : (fits : Bool) → situation_fits entries situation ≡ fits → (counts : Bool) → situation_counts (situation_kept entries situation) situation ≡ counts
+          → left ≡ after_situation table entries situation (if fits then Some counts else None)
+          → CountsOne (room_fault (if fits then Some counts else None)) (passed_in one) tally later
+          → GathersSituations table before (all ++ one ∷ []) left later
+      by false e counts k same told =
+          with_last one (Ok situation) (Err Full) left later is told
+          (rw same (situation_full table before so_far entries h.entries_are situation e)) (situation_verdict_full table before so_far entries h.entries_are situation e)
+      by true e true k same told =
+          with_last one (Ok situation) (Ok situation) left later is told
+          (rw same (situation_won table before so_far entries h.entries_are situation served e k)) (situation_verdict_taken table before so_far entries h.entries_are situation e)
+      by true e false k same told =
+          with_last one (Ok situation) (Ok situation) left later is told
+          (rw same (situation_lost table before so_far entries h.entries_are situation e k)) (situation_verdict_taken table before so_far entries h.entries_are situation e)
 
 -- before the first
-pub gathers_none : (table : Table) (before : List Situation) (entries : List SituationEntry) → KeepsSituations table before entries → GathersVerdicts table before [] entries []
-gathers_none table before entries h = record {
+gathers_none : (table : Table) (before : List Situation) (entries : List SituationEntry) (tally : Tally) → Tallied [] 0 tally → KeepsSituations table before entries
+    → GathersSituations table before [] entries tally
+gathers_none table before entries tally none h = record {
   entries_are = subst (λ (all : List Situation). KeepsSituations table all entries) (sym (append-nil (filter always before) ∙ filter_all always before (each before))) h;
-  aside_are = refl;
+  tally_is = none;
 }
   where
     each : (all : List Situation) → AllByRecursion (λ (one : Situation). always one ≡ true) all
     each [] = tt
     each (one ∷ others) = (refl, each others)
 
--- the item at a place
-pub gathers_next : (table : Table) (before : List Situation) (items : List (Item Situation)) (i : ℕ) (item : Item Situation) (entries : List SituationEntry) (aside : List (ℕ × Fault))
-    → i < length items → item ≡ get_or items i item → IsVerdictServed table (item_verdict table item) → GathersVerdicts table before (map (item_verdict table) (take i items)) entries aside
-    → GathersVerdicts table before (map (item_verdict table) (take (i + 1) items)) (verdict_step table entries (item_verdict table item))
-    (aside ++ aside_at i (verdict_fault entries (item_verdict table item)))
-gathers_next table before items i item entries aside within is served h =
-    subst
-    (λ (n : ℕ). GathersVerdicts table before (map (item_verdict table) (take (i + 1) items)) (verdict_step table entries (item_verdict table item))
-    (aside ++ aside_at n (verdict_fault entries (item_verdict table item)))) counted
-    (subst
-    (λ (verdicts : List (Result Situation Fault)). GathersVerdicts table before verdicts (verdict_step table entries (item_verdict table item))
-    (aside ++ aside_at (length (map (item_verdict table) (take i items))) (verdict_fault entries (item_verdict table item)))) (sym more)
-    (gathers_more table before (map (item_verdict table) (take i items)) entries aside h (item_verdict table item) served))
+-- ---- what takes them
+
+-- what is taken refers to what is there, with one verdict more
+abbrev AreThere : Table → List (Result Situation Fault) → Type 0
+AreThere table verdicts = AllByRecursion (λ (one : Situation). AreKnown table one.refs) (taken verdicts)
+
+known_limited : (table : Table) (one : Result (Situation × ℕ) Fault) → IfOk one (λ found. AreKnown table found.0.refs) → AreThere table (limited_verdict table (without_count one) ∷ [])
+known_limited table (Err fault) its = tt
+known_limited table (Ok found) its = by (nat_le (alert_len table found.0) alert_limit)
   where
-    more : map (item_verdict table) (take (i + 1) items) ≡ map (item_verdict table) (take i items) ++ item_verdict table item ∷ []
-    more =
-        ap (map (item_verdict table)) (take_more items i item within ∙ ap (λ (last : Item Situation). take i items ++ last ∷ []) (sym is))
-        ∙ map-append (item_verdict table) (take i items) (item ∷ [])
+    by : (fits : Bool) → AreThere table ((if fits then Ok found.0 else Err (EntityTooLong (alert_len table found.0))) ∷ [])
+    by true = (its, tt)
+    by false = tt
 
-    counted : length (map (item_verdict table) (take i items)) ≡ i
-    counted = length-map (take i items) (item_verdict table) ∙ length-take-le i items (omega arith)
+joined : (table : Table) (verdicts : List (Result Situation Fault)) (last : Result Situation Fault) → AreThere table verdicts → AreThere table (last ∷ []) → AreThere table (verdicts ++ last ∷ [])
+joined table [] last h its = its
+joined table (Ok one ∷ others) last h its = (h.0, joined table others last h.1 its)
+joined table (Err fault ∷ others) last h its = joined table others last h its
 
--- it is set aside, or it isn't
-pub gathers_aside : (table : Table) (before : List Situation) (items : List (Item Situation)) (i : ℕ) (item : Item Situation) (fault : Fault) (entries left : List SituationEntry) (aside : List (ℕ × Fault))
-    → i < length items → item ≡ get_or items i item → IsVerdictServed table (item_verdict table item) → Some fault ≡ verdict_fault entries (item_verdict table item) → left ≡ verdict_step table entries (item_verdict table item)
-    → GathersVerdicts table before (map (item_verdict table) (take i items)) entries aside
-    → GathersVerdicts table before (map (item_verdict table) (take (i + 1) items)) left (aside ++ (i, fault) ∷ [])
-gathers_aside table before items i item fault entries left aside within is served told step h =
-    subst (λ (kept : List SituationEntry). GathersVerdicts table before (map (item_verdict table) (take (i + 1) items)) kept (aside ++ (i, fault) ∷ [])) (sym step)
-    (subst (λ (last : Option Fault). GathersVerdicts table before (map (item_verdict table) (take (i + 1) items)) (verdict_step table entries (item_verdict table item)) (aside ++ aside_at i last))
-    (sym told) (gathers_next table before items i item entries aside within is served h))
+known_more : (table : Table) (all : List (Result (Situation × ℕ) Fault)) (one : Result (Situation × ℕ) Fault) → AreThere table (limited_verdicts table all)
+    → IfOk one (λ found. AreKnown table found.0.refs) → AreThere table (limited_verdicts table (all ++ one ∷ []))
+known_more table all one h its =
+    subst (AreThere table)
+    (sym (ap (map (limited_verdict table)) (map-append without_count all (one ∷ [])) ∙ map-append (limited_verdict table) (map without_count all) (without_count one ∷ [])))
+    (joined table (limited_verdicts table all) (limited_verdict table (without_count one)) h (known_limited table one its))
 
-pub gathers_taken : (table : Table) (before : List Situation) (items : List (Item Situation)) (i : ℕ) (item : Item Situation) (entries left : List SituationEntry) (aside : List (ℕ × Fault))
-    → i < length items → item ≡ get_or items i item → IsVerdictServed table (item_verdict table item) → None ≡ verdict_fault entries (item_verdict table item) → left ≡ verdict_step table entries (item_verdict table item)
-    → GathersVerdicts table before (map (item_verdict table) (take i items)) entries aside
-    → GathersVerdicts table before (map (item_verdict table) (take (i + 1) items)) left aside
-gathers_taken table before items i item entries left aside within is served told step h =
-    subst (λ (kept : List SituationEntry). GathersVerdicts table before (map (item_verdict table) (take (i + 1) items)) kept aside) (sym step)
-    (subst (λ (all : List (ℕ × Fault)). GathersVerdicts table before (map (item_verdict table) (take (i + 1) items)) (verdict_step table entries (item_verdict table item)) all)
-    (append-nil aside)
-    (subst (λ (last : Option Fault). GathersVerdicts table before (map (item_verdict table) (take (i + 1) items)) (verdict_step table entries (item_verdict table item)) (aside ++ aside_at i last))
-    (sym told) (gathers_next table before items i item entries aside within is served h)))
+-- it took nothing yet
+pub takes_none : (schedule : Schedule) (taking : SituationTaking) → Tallied [] 0 taking.tally → HasTaken schedule taking taking []
+takes_none schedule taking none = record {
+  kept_is = refl;
+  known = tt;
+  gathers = λ before keeps. gathers_none schedule.table before (alerts_after taking.draft) taking.tally none keeps;
+}
+
+-- it took one more
+pub takes_more : (schedule : Schedule) (first old now : SituationTaking) (all : List (Result (Situation × ℕ) Fault)) (one : Result (Situation × ℕ) Fault)
+    → now.draft.kept ≡ old.draft.kept → IfOk one (λ found. AreKnown schedule.table found.0.refs) → IsVerdictServed schedule.table (limited_verdict schedule.table (without_count one))
+    → alerts_after now.draft ≡ verdict_step schedule.table (alerts_after old.draft) (limited_verdict schedule.table (without_count one))
+    → CountsOne (verdict_fault (alerts_after old.draft) (limited_verdict schedule.table (without_count one))) (passed_in one) old.tally now.tally
+    → HasTaken schedule first old all → HasTaken schedule first now (all ++ one ∷ [])
+takes_more schedule first old now all one same its served now_is counted h = record {
+  kept_is = same ∙ h.kept_is;
+  known = known_more schedule.table all one h.known its;
+  gathers = λ before keeps.
+      gathers_more schedule.table before all (alerts_after old.draft) old.tally (h.gathers before keeps) one (limited_verdict schedule.table (without_count one)) (alerts_after now.draft) now.tally refl
+      served now_is counted;
+}
 
 -- ---- the verdict on a situation
 
@@ -215,35 +215,3 @@ module _ (entries : List (Entry (List ℕ) Edition)) (one : Situation) where
     pub verdict_full : most_numbers ≤ count → None ≡ situation_verdict (map situation_seen entries) one
     verdict_full many =
         by_test false true (situation_fits_new entries one new ∙ ap (λ (n : ℕ). nat_lt n most_numbers) (sym is) ∙ room_passed count many) (situation_counts_new entries one new)
-
--- ---- lists
-
-pub one_longer : {X : Type 0} (xs ys : List X) (x : X) (n : ℕ) → ys ≡ xs ++ x ∷ [] → length xs ≤ n → length ys ≤ n + 1
-one_longer xs ys x n e few = let same = ap length e ∙ length-append xs (x ∷ []) in omega (arith, same, few)
-
--- ---- the report on a delivery
-
--- those that aren't set aside are taken
-pub report_of : (table : Table) (before : List Situation) (items seen_items : List (Item Situation)) (passed : ℕ) (entries : List SituationEntry) (aside : List (ℕ × Fault)) (report : Report)
-    → seen_items ≡ items → GathersVerdicts table before (map (item_verdict table) seen_items) entries aside
-    → report.taken ≡ length items - length aside → report.passed ≡ passed → report.aside ≡ aside
-    → GathersSituations table before (map (item_verdict table) items) passed entries report
-report_of table before items seen_items passed entries aside report same h taken_is passed_is aside_is = record {
-  entries_are = k.entries_are;
-  report_is = λ i. record { taken = all i; passed = passed_is i; aside = (aside_is ∙ k.aside_are) i };
-}
-  where
-    k : GathersVerdicts table before (map (item_verdict table) items) entries aside
-    k = subst (λ (these : List (Item Situation)). GathersVerdicts table before (map (item_verdict table) these) entries aside) same h
-
-    counted : length (map result_err (situations_with_room before (map (item_verdict table) items))) ≡ length items
-    counted =
-        length-map (situations_with_room before (map (item_verdict table) items)) result_err
-        ∙ length-with_room is_same_number always most_numbers before (map (item_verdict table) items)
-        ∙ length-map items (item_verdict table)
-
-    all : report.taken ≡ count_by is_none (map result_err (situations_with_room before (map (item_verdict table) items)))
-    all =
-        let each = taken_or_aside (map result_err (situations_with_room before (map (item_verdict table) items))) 0 in
-        let long = ap length k.aside_are in
-        omega (arith, each, long, counted, taken_is)

@@ -1,8 +1,8 @@
 -- What becomes of the items of a delivery of journeys, one after the other, and what is to be put of them.
-use Rattle.std.specs.Prelude.{◌≡◌, ℕ, Bool, true, false, List, map, Option, Some, None, Result, Ok, Err, ⊤, if◌then◌else◌}
+use Rattle.std.specs.Prelude.{◌≡◌, ℕ, Bool, true, false, List, filter, map, sum_by, Option, Some, None, Result, Ok, Err, ⊤, if◌then◌else◌}
 use Rattle.std.specs.Result.{result_err}
 use Rattle.std.specs.declared.cmp.Ordering.{Ordering}
-use Rattle.journey_model.specs.Records.{Recorded, recorded}
+use Rattle.journey_model.specs.Records.{Recorded}
 use Rattle.journey_model.specs.Schedules.{Schedule}
 use Rattle.journey_model.specs.declared.fault.Fault.{Fault}
 use Rattle.journey_model.specs.declared.fault.Fault.TheVariants.{Full}
@@ -10,20 +10,20 @@ use Rattle.journey_model.specs.declared.readings.JourneyRecord.{JourneyRecord}
 use Rattle.journey_model.specs.declared.report.Report.{Report}
 use Rattle.service_day.specs.declared.moments.Instant.{Instant}
 use Rattle.serde_json.specs.Data.{Data}
-use Rattle.siri_json.specs.Deliveries.{passed_count, shown, tree_of, without_count}
+use Rattle.siri_json.specs.Deliveries.{passed_count, passed_in, tree_of, without_count}
 use Rattle.siri_calls.specs.Verdicts.{verdicts}
 use Rattle.siri_json.specs.declared.delivery.DeliveryFault.{DeliveryFault}
 use Rattle.siri_json.specs.declared.delivery.DeliveryFault.TheVariants.{NotJson, NotDelivery, Memory}
-use Rattle.siri_json.specs.declared.delivery.Delivery.{Delivery}
-use Rattle.siri_json.specs.declared.delivery.Item.{Item}
-use Rattle.siri_json.specs.declared.delivery.Item.TheVariants.{Taken, Aside}
-use Rattle.gateway_core.specs.Arrivals.{CanBeServed, journeys}
+use Rattle.gateway_core.specs.Arrivals.{CanBeServed, is_within, journeys}
 use Rattle.gateway_core.specs.Deliveries.{taken}
 use Rattle.feed_index.specs.Drafts.{Drafted, after}
-use Rattle.journey_model.specs.Reports.{aside_from}
-use Rattle.gateway_core.specs.Standing.{IsServed, JourneyEntry, journey_entry, journey_seen}
+use Rattle.gateway_core.specs.Standing.{IsServed, JourneyEntry, KeepsJourneys, journey_entry, journey_seen}
 use Rattle.gateway_core.specs.Steps.{JourneysAfter, journey_counts, journey_fits, journey_kept, with_journey}
 use Rattle.gateway_core.specs.Taking.{journeys_with_room, report_on}
+use Rattle.gateway_core.specs.Tallied.{Tallied}
+use Rattle.gateway_core.specs.Winners.{AreServable}
+use Rattle.gateway_core.specs.declared.items.journeys.JourneyTaking.{JourneyTaking}
+use Rattle.gateway_core.specs.declared.items.tally.Tally.{Tally}
 use Rattle.gateway_core.specs.declared.keys.JourneyKey.{JourneyKey}
 use Rattle.gateway_core.specs.contracts.keys.JourneyKeyOrd.TheImpl as derived
 
@@ -61,33 +61,33 @@ abbrev pub room_fault : Option Bool → Option Fault
 room_fault None = Some Full
 room_fault (Some counts) = None
 
--- what is kept after an item, and why it is set aside, if it is
-abbrev pub item_step : Schedule → List JourneyEntry → Item JourneyRecord → List JourneyEntry
-item_step schedule entries (Taken one) =
-    after_verdict schedule entries (recorded one) (journey_verdict entries (recorded one))
-item_step schedule entries (Aside fault) = entries
+-- what is kept after a verdict on an item, and why the item is set aside, if it is
+abbrev pub verdict_step : Schedule → List JourneyEntry → Result Recorded Fault → List JourneyEntry
+verdict_step schedule entries (Ok one) = after_verdict schedule entries one (journey_verdict entries one)
+verdict_step schedule entries (Err fault) = entries
 
-abbrev pub item_fault : List JourneyEntry → Item JourneyRecord → Option Fault
-item_fault entries (Taken one) = room_fault (journey_verdict entries (recorded one))
-item_fault entries (Aside fault) = Some fault
+abbrev pub verdict_fault : List JourneyEntry → Result Recorded Fault → Option Fault
+verdict_fault entries (Ok one) = room_fault (journey_verdict entries one)
+verdict_fault entries (Err fault) = Some fault
 
-abbrev pub IsItemPut : Schedule → List JourneyEntry → Item JourneyRecord → Type 0
-IsItemPut schedule entries (Taken one) = IsPut schedule (recorded one) (journey_verdict entries (recorded one))
-IsItemPut schedule entries (Aside fault) = ⊤
+abbrev pub IsVerdictPut : Schedule → List JourneyEntry → Result Recorded Fault → Type 0
+IsVerdictPut schedule entries (Ok one) = IsPut schedule one (journey_verdict entries one)
+IsVerdictPut schedule entries (Err fault) = ⊤
 
--- after some items of a delivery: what is kept, and those that are set aside
-pub record GathersItems (schedule : Schedule) (before : List Recorded) (items : List (Item JourneyRecord))
-    (entries : List JourneyEntry) (aside : List (ℕ × Fault)) : Type 0 where
-  pub entries_are : JourneysAfter schedule before (map (shown recorded) items) entries
-  pub aside_are : aside
-      ≡ aside_from 0 (map result_err (journeys_with_room schedule.window before (map (shown recorded) items)))
+-- after some items of a delivery with these verdicts: what is kept, and what is counted
+pub record GathersJourneys (schedule : Schedule) (before : List Recorded) (all : List (Result (Recorded × ℕ) Fault))
+    (entries : List JourneyEntry) (tally : Tally) : Type 0 where
+  pub entries_are : JourneysAfter schedule before (map without_count all) entries
+  pub tally_is : Tallied (map result_err (journeys_with_room schedule.window before (map without_count all)))
+      (sum_by passed_in all) tally
 
--- after all of them: what is kept, and the report
-pub record GathersJourneys (schedule : Schedule) (before : List Recorded) (delivery : Delivery JourneyRecord)
-    (entries : List JourneyEntry) (report : Report) : Type 0 where
-  pub entries_are : JourneysAfter schedule before (map (shown recorded) delivery.items) entries
-  pub report_is : report
-      ≡ report_on (journeys_with_room schedule.window before (map (shown recorded) delivery.items)) delivery.passed
+-- what takes journeys took items with these verdicts, each of which can be served: over what is kept then
+pub record HasTaken (schedule : Schedule) (first now : JourneyTaking) (all : List (Result (Recorded × ℕ) Fault))
+    : Type 0 where
+  pub kept_is : now.draft.kept ≡ first.draft.kept
+  pub servable : AreServable schedule (taken (map without_count all))
+  pub gathers : (before : List Recorded) → KeepsJourneys schedule (filter (is_within schedule.window) before)
+      (seen_after first.draft) → GathersJourneys schedule before all (seen_after now.draft) now.tally
 
 -- what a body makes before anything changes: the report, and what will be kept
 pub record MakesJourneys (schedule : Schedule) (before : List Recorded) (body : List ℕ)

@@ -18,4 +18,5 @@ pub mod SituationSteps
 pub mod Standing
 pub mod Steps
 pub mod Taking
+pub mod Tallied
 pub mod Winners

@@ -1,5 +1,5 @@
 -- What becomes of the items of a delivery of situations, one after the other, and what is to be put of them.
-use Rattle.std.specs.Prelude.{◌≡◌, ℕ, Bool, List, map, Option, Some, None, Result, Ok, Err, if◌then◌else◌, ⊤}
+use Rattle.std.specs.Prelude.{◌≡◌, ℕ, Bool, List, map, sum_by, Option, Some, None, Result, Ok, Err, if◌then◌else◌, ⊤}
 use Rattle.std.specs.Cmp.Lexicographic.{slice_cmp}
 use Rattle.std.specs.Ordering.{nat_cmp}
 use Rattle.std.specs.List.{AllByRecursion}
@@ -10,19 +10,19 @@ use Rattle.journey_model.specs.declared.fault.Fault.{Fault}
 use Rattle.journey_model.specs.declared.report.Report.{Report}
 use Rattle.journey_model.specs.declared.situation.Situation.{Situation}
 use Rattle.serde_json.specs.Data.{Data}
-use Rattle.siri_json.specs.Deliveries.{passed_count, shown, tree_of}
+use Rattle.siri_json.specs.Deliveries.{passed_count, passed_in, tree_of}
 use Rattle.siri_json.specs.declared.delivery.DeliveryFault.{DeliveryFault}
 use Rattle.siri_json.specs.declared.delivery.DeliveryFault.TheVariants.{NotJson, NotDelivery, Memory}
-use Rattle.siri_situations.specs.Deliveries.{same}
 use Rattle.siri_situations.specs.Situations as judged
-use Rattle.siri_json.specs.declared.delivery.Item.{Item}
 use Rattle.timetable.specs.Table.{Table}
 use Rattle.gateway_core.specs.Deliveries.{taken}
 use Rattle.feed_index.specs.Drafts.{Drafted, after}
-use Rattle.journey_model.specs.Reports.{aside_from}
-use Rattle.gateway_core.specs.Standing.{IsAlertServed, SituationEntry, situation_entry, situation_seen}
+use Rattle.gateway_core.specs.Standing.{IsAlertServed, KeepsSituations, SituationEntry, situation_entry, situation_seen}
 use Rattle.gateway_core.specs.Steps.{SituationsAfter, situation_counts, situation_fits, situation_kept, with_situation}
-use Rattle.gateway_core.specs.Taking.{limited_verdict, limited_verdicts, report_on, situations_with_room}
+use Rattle.gateway_core.specs.Taking.{limited_verdicts, report_on, situations_with_room}
+use Rattle.gateway_core.specs.Tallied.{Tallied}
+use Rattle.gateway_core.specs.declared.items.situations.SituationTaking.{SituationTaking}
+use Rattle.gateway_core.specs.declared.items.tally.Tally.{Tally}
 use Rattle.gateway_core.specs.declared.keys.Edition.{Edition}
 use Rattle.gateway_core.specs.JourneySteps.{room_fault}
 
@@ -53,26 +53,25 @@ abbrev pub verdict_fault : List SituationEntry → Result Situation Fault → Op
 verdict_fault entries (Ok one) = room_fault (situation_verdict entries one)
 verdict_fault entries (Err fault) = Some fault
 
--- the verdicts on items, of which one is set aside that has too long an alert
-abbrev pub item_verdict : Table → Item Situation → Result Situation Fault
-item_verdict table item = limited_verdict table (shown same item)
-
 -- a situation that is taken has an alert that means it, and isn't too long
 abbrev pub IsVerdictServed : Table → Result Situation Fault → Type 0
 IsVerdictServed table (Ok one) = IsAlertServed table one
 IsVerdictServed table (Err fault) = ⊤
 
--- after some verdicts: what is kept, and the items that are set aside
-pub record GathersVerdicts (table : Table) (before : List Situation) (verdicts : List (Result Situation Fault))
-    (entries : List SituationEntry) (aside : List (ℕ × Fault)) : Type 0 where
-  pub entries_are : SituationsAfter table before verdicts entries
-  pub aside_are : aside ≡ aside_from 0 (map result_err (situations_with_room before verdicts))
+-- after some items of a delivery with these verdicts: what is kept, and what is counted
+pub record GathersSituations (table : Table) (before : List Situation) (all : List (Result (Situation × ℕ) Fault))
+    (entries : List SituationEntry) (tally : Tally) : Type 0 where
+  pub entries_are : SituationsAfter table before (limited_verdicts table all) entries
+  pub tally_is : Tallied (map result_err (situations_with_room before (limited_verdicts table all)))
+      (sum_by passed_in all) tally
 
--- after all of them: what is kept, and the report
-pub record GathersSituations (table : Table) (before : List Situation) (verdicts : List (Result Situation Fault))
-    (passed : ℕ) (entries : List SituationEntry) (report : Report) : Type 0 where
-  pub entries_are : SituationsAfter table before verdicts entries
-  pub report_is : report ≡ report_on (situations_with_room before verdicts) passed
+-- what takes situations took items with these verdicts, each of which refers to what is there: over what is kept then
+pub record HasTaken (schedule : Schedule) (first now : SituationTaking) (all : List (Result (Situation × ℕ) Fault))
+    : Type 0 where
+  pub kept_is : now.draft.kept ≡ first.draft.kept
+  pub known : AllByRecursion (λ one. AreKnown schedule.table one.refs) (taken (limited_verdicts schedule.table all))
+  pub gathers : (before : List Situation) → KeepsSituations schedule.table before (alerts_after first.draft)
+      → GathersSituations schedule.table before all (alerts_after now.draft) now.tally
 
 -- a body's items are taken over those that were admitted before: what is kept then, and the report
 pub record TakesBody (schedule : Schedule) (before : List Situation) (body : List ℕ) (entries : List SituationEntry)
@@ -82,8 +81,9 @@ pub record TakesBody (schedule : Schedule) (before : List Situation) (body : Lis
   pub all : List (Result (Situation × ℕ) Fault)
   pub verdicts_are : judged.verdicts schedule root ≡ Ok all
   pub known : AllByRecursion (λ one. AreKnown schedule.table one.refs) (taken (limited_verdicts schedule.table all))
-  pub gathers : GathersSituations schedule.table before (limited_verdicts schedule.table all)
-      (passed_count all) entries report
+  pub entries_are : SituationsAfter schedule.table before (limited_verdicts schedule.table all) entries
+  pub report_is : report
+      ≡ report_on (situations_with_room before (limited_verdicts schedule.table all)) (passed_count all)
 
 -- why a body is refused; want of memory is free
 abbrev pub IsRefused : Schedule → List ℕ → DeliveryFault → Type 0

@@ -11,6 +11,7 @@ use Rattle.journey_model.specs.declared.situation.Situation.{Situation}
 use Rattle.timetable.specs.Seen.{seen}
 use Rattle.timetable.specs.Table.{Table}
 use Rattle.siri_calls.specs.Written.DeliveryTree.{delivery_text}
+use Rattle.siri_calls.specs.Written.SaidAgain.{SaysAgain}
 use Rattle.reverse_calls.specs.Siri.{IsSiri}
 use Rattle.service_day.specs.Windows.{DayStarts}
 use Rattle.alert_map.specs.Alerts.{alert_message}
@@ -100,14 +101,15 @@ served moment kept =
     ++ flat_map (λ one. one.bytes) (filter (λ one. one.value.1) kept.situations)
 
 -- a text is the delivery of what the last feed says, at its moment and over the window that was there when it arrived;
--- before any feed, that of no journeys at the moment 0
+-- before any feed, that of no journeys at the moment 0, which says that there is none when it is read again
 abbrev pub OfFeedOr : Schedule → ℤ → Given → List ℕ → Type 0 → Type 0
 OfFeedOr schedule moment (journeys records) text earlier = earlier
 OfFeedOr schedule moment (situations all) text earlier = earlier
 OfFeedOr schedule moment (feed one) text earlier = (report : Report) × IsSiri schedule one moment text report
 
 abbrev pub IsLastSiri : Setting → List Arrival → List ℕ → Type 0
-IsLastSiri setting [] text = text ≡ delivery_text (schedule_at setting []) (pos 0) []
+IsLastSiri setting [] text =
+    (text ≡ delivery_text (schedule_at setting []) (pos 0) []) × SaysAgain (schedule_at setting []) (pos 0) [] text
 IsLastSiri setting (one ∷ earlier) text =
     OfFeedOr (schedule_at setting (one.moment ∷ moments_of earlier)) one.moment one.gives text
     (IsLastSiri setting earlier text)

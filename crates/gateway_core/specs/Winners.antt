@@ -1,17 +1,13 @@
 -- Which of two of one key counts, and the keys of journeys.
-use Rattle.std.specs.Prelude.{◌≡◌, ℕ, ℤ, Bool, true, false, not, List, map, Option, Some, None}
+use Rattle.std.specs.Prelude.{◌≡◌, ℕ, ℤ, Bool, true, false, not, List, Option, Some, None}
 use Rattle.std.specs.Cmp.{IsTotalOrder}
 use Rattle.std.specs.List.{AllByRecursion}
 use Rattle.std.specs.Ordering.{int_cmp, is_eq, nat_cmp, ordering_then}
 use Rattle.std.specs.declared.cmp.Ordering.{Ordering}
 use Rattle.std.specs.declared.cmp.Ordering.TheVariants.{Equal}
-use Rattle.journey_model.specs.Records.{Recorded, recorded}
+use Rattle.journey_model.specs.Records.{Recorded}
 use Rattle.journey_model.specs.Schedules.{IsServable, Schedule}
-use Rattle.journey_model.specs.declared.readings.JourneyRecord.{JourneyRecord}
-use Rattle.siri_json.specs.Deliveries.{shown}
-use Rattle.siri_json.specs.declared.delivery.Item as journeys
 use Rattle.latest_store.specs.Latest.{is_of}
-use Rattle.gateway_core.specs.Deliveries.{taken}
 
 -- ---- which counts of each key
 
@@ -30,10 +26,6 @@ pub record IsKeyed {A Q : Type 0} (cmp : Q → Q → Ordering) (key_of : A → Q
   pub after : (a b c : A) → is_later a b ≡ true → is_later a c ≡ false → is_later b c ≡ false
 
 -- ---- journeys
-
--- the records of items that are taken
-abbrev pub taken_in : List (journeys.Item JourneyRecord) → List Recorded
-taken_in items = taken (map (shown recorded) items)
 
 -- by service day, then trip number
 abbrev pub Key : Type 0

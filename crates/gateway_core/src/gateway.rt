@@ -41,14 +41,17 @@ impl Model for Gateway {
 }
 
 impl Gateway {
-    /// A gateway that took nothing yet: its SIRI text is that of a feed without journeys at the moment 0. Err
-    /// for want of memory.
+    /// A gateway that took nothing yet: its SIRI text is that of a feed without journeys at the moment 0, and says that
+    /// there is none when it is read again. Err for want of memory.
     pub fn start(alloc: Global, setting: Setting) -> Result<Gateway, AllocError>
         ensures setting { IfOk result (λ gate. gate.setting ≡ setting) }
         ensures stands { IfOk result (λ gate. Stands gate []) }
     {
         let nothing: List<DatedReading> = List::new(alloc);
         let moment = Moment::new(0).unwrap();
+        // What the text says when it is read again rests on both.
+        setting.table.soundness_law();
+        let _ = moment.secs();
         let text = write_delivery(alloc, &setting.context(), nothing.as_slice(), moment)?;
         let window = Window::make(&setting.zone, setting.window.first(), setting.window.days())?;
         Ok(Gateway {

@@ -9,24 +9,11 @@ use Rattle.journey_model.specs.declared.report.Report.{Report}
 use Rattle.reverse_alerts.specs.Sx as alerts
 use Rattle.reverse_alerts.specs.declared.sx_fault.SxFault.{SxFault}
 use Rattle.reverse_alerts.specs.declared.sx_fault.SxFault.TheVariants as sx_fault
-use Rattle.reverse_calls.specs.Siri.{IsAnswer, IsFullAnswer}
-use Rattle.reverse_calls.specs.declared.reverse_fault.ReverseFault.{ReverseFault}
-use Rattle.reverse_calls.specs.declared.reverse_fault.ReverseFault.TheVariants.{Differential}
 
 -- what stands whatever files are told stands of those that are
 pub whatever : {X : Type 0} (told : Option X) (P : Type 0) → P → IfSome told (λ x. P)
 whatever None P holds = tt
 whatever (Some x) P holds = holds
-
--- the answer for a full dataset
-pub full_answer : (schedule : Schedule) (feed : Feed) (moment : ℤ) (answer : Result (List ℕ × Report) ReverseFault) → is_differential feed ≡ false
-    → IsAnswer schedule feed moment answer → IsFullAnswer schedule feed moment answer
-full_answer schedule feed moment answer full is = by (is_differential feed) full is
-  where
-    by : (b : Bool) → b ≡ false → MatchBool b (answer ≡ Err Differential) (IsFullAnswer schedule feed moment answer)
-        → IsFullAnswer schedule feed moment answer
-    by true e h = absurd (true≢false e)
-    by false e h = h
 
 -- the answer of alerts for a full dataset
 pub full_sx_answer : (schedule : Schedule) (feed : Feed) (moment : ℤ) (answer : Result (List ℕ × Report) SxFault) → is_differential feed ≡ false

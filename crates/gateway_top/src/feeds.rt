@@ -2,7 +2,9 @@
 ghost use Rattle.std.specs.Prelude.{◌≡◌, ◌++◌, false, Ok, IfOk, IfSome, IsErrOf, codes, decimal};
 ghost use Rattle.gw_base.specs.Answers.{UnlessFree};
 ghost use Rattle.gw_base.specs.Count.{Counts};
+ghost use Rattle.gateway_core.specs.Deliveries.{schedule_in};
 ghost use Rattle.journey_model.specs.FeedReadings.{is_differential};
+ghost use Rattle.propagation.specs.Feeds.{IsReading};
 ghost use Rattle.gateway_top.specs.Bodies as ends;
 ghost use Rattle.gateway_top.specs.Exits.{is_free};
 ghost use Rattle.gateway_top.specs.Work as steps;
@@ -16,9 +18,9 @@ use gw_base::incrementality::DIFFERENTIAL;
 use gw_base::{BODY_LIMIT, Bytes, Feed, Files, Moment, Text};
 use http_talk::kind_name;
 use itoa::Buffer;
-use propagation::readings_of;
+use propagation::{FeedReading, readings_of};
 use reverse_alerts::SxFault;
-use reverse_calls::ReverseFault;
+use reverse_calls::{ReadingsFault, siri_of_readings};
 use show_command::show_lines;
 use std::alloc::{AllocError, Global};
 
@@ -111,28 +113,34 @@ pub fn feed_file<F: Files>(alloc: Global, files: &mut F, name: &str) -> Result<F
     body_feed(alloc, name, body.as_slice())
 }
 
+// What a feed says of journeys. The feed is let go, so that its memory is there for the text.
+fn readings_in(alloc: Global, setting: &Setting, feed: Feed) -> Result<FeedReading, AllocError>
+    ensures { IfOk result (IsReading (schedule_in setting.now) feed) }
+{
+    readings_of(alloc, &feed, &setting.context())
+}
+
 /// The delivery that says what a feed says, and the report on its entities.
 pub fn siri_of(
     alloc: Global,
     at: Moment,
     setting: &Setting,
     name: &str,
-    feed: &Feed,
+    feed: Feed,
 ) -> Result<Done, Exit>
-    requires { is_differential feed.now ≡ false }
-    ensures told { UnlessFree is_free result (steps.IsSiriOf at setting.now name.now feed.now) }
+    ensures told { UnlessFree is_free result (steps.IsSiriOf at setting.now name.now feed) }
     ensures calm { ¬ IsErrOf result Exit.Failed }
 {
-    match reverse_calls::siri_of(alloc, feed, &setting.context(), at) {
-        Ok((out, report)) => {
-            let err = feed_report(alloc, name, &report)?;
+    let reading = readings_in(alloc, setting, feed)?;
+    match siri_of_readings(alloc, &setting.context(), &reading, at) {
+        Ok(out) => {
+            let err = feed_report(alloc, name, &reading.report)?;
             Ok(Done::texts(out, err))
         }
-        Err(ReverseFault::TooManyCalls(count)) => {
+        Err(ReadingsFault::TooManyCalls(count)) => {
             Err(Exit::Refused(numbered(alloc, name, " TooManyCalls ", count)?))
         }
-        Err(ReverseFault::Differential) => unreachable!(),
-        Err(ReverseFault::Memory) => Err(Exit::Memory),
+        Err(ReadingsFault::Memory) => Err(Exit::Memory),
     }
 }
 
@@ -159,10 +167,10 @@ pub fn sx_of(
 }
 
 /// The lines of what a feed says.
-pub fn lines_of(alloc: Global, setting: &Setting, feed: &Feed) -> Result<Done, AllocError>
-    ensures { IfOk result (λ done. steps.IsLinesOf setting.now feed.now (Ok done)) }
+pub fn lines_of(alloc: Global, setting: &Setting, feed: Feed) -> Result<Done, AllocError>
+    ensures { IfOk result (λ done. steps.IsLinesOf setting.now feed (Ok done)) }
 {
-    let reading = readings_of(alloc, feed, &setting.context())?;
+    let reading = readings_in(alloc, setting, feed)?;
     let out = show_lines(alloc, &setting.context(), &reading)?;
     Ok(Done::texts(out, Bytes::new(alloc)))
 }

@@ -189,7 +189,7 @@ fn siri_of_file<F: Files>(
     ensures same { F.told files.new ≡ F.told files.old }
 {
     match feed_file(alloc, files, name) {
-        Ok(feed) => siri_of(alloc, at, setting, name, &feed),
+        Ok(feed) => siri_of(alloc, at, setting, name, feed),
         Err(end) => Err(end),
     }
 }
@@ -268,7 +268,7 @@ fn lines_of_file<F: Files>(
     ensures same { F.told files.new ≡ F.told files.old }
 {
     match feed_file(alloc, files, name) {
-        Ok(feed) => Ok(lines_of(alloc, setting, &feed)?),
+        Ok(feed) => Ok(lines_of(alloc, setting, feed)?),
         Err(end) => Err(end),
     }
 }

@@ -30,16 +30,14 @@ use Rattle.journey_model.proofs.Delays.{event_near}
 use Rattle.timetable.specs.Planned.{planned}
 use Rattle.timetable.specs.declared.numbers.StopNo.{StopNo}
 use Rattle.timetable.specs.declared.stop_row.StopRow.{StopRow}
-use Rattle.siri_calls.specs.Deliveries.{AreServable, CanServe}
+use Rattle.siri_calls.specs.Deliveries.{AreServable, CanServe, HasTaken}
 use Rattle.siri_calls.specs.Journeys.{Call, Header}
 use Rattle.siri_calls.specs.Judged as spec
 use Rattle.siri_calls.specs.Servable.{IsServable}
 use Rattle.siri_calls.proofs.StationLemmas.{call-stands, other-way}
-use Rattle.siri_json.specs.Deliveries.{IsAdded}
+use Rattle.siri_json.specs.Deliveries.{IsAdded, shown}
 use Rattle.siri_json.specs.declared.delivery.Delivery.{Delivery}
 use Rattle.siri_json.specs.declared.delivery.Item.TheVariants.{Aside, Taken}
-use Rattle.siri_json.specs.declared.read_fault.ReadFault.{ReadFault}
-use Rattle.siri_json.specs.declared.read_fault.ReadFault.TheVariants as read
 
 shifted : (plan delay : ℤ) → (plan +ℤ delay) -ℤ plan ≡ delay
 shifted plan delay = omega (arith, ints)
@@ -356,8 +354,14 @@ servable schedule head all one count h = by (spec.trip_named schedule head) refl
     by (Ok trip) e told = with trip (spec.trip_read schedule trip head all) (known-trip schedule head trip e) refl told
 
 -- one item more can be served
-pub one_served : (schedule : Schedule) (old new : Delivery JourneyRecord) (answer : Result (JourneyRecord × ℕ) ReadFault) → IfOk answer (λ one. IsServable schedule one.0)
+pub one_served : (schedule : Schedule) (old new : Delivery JourneyRecord) (answer : Result (JourneyRecord × ℕ) Fault) → IfOk answer (λ one. IsServable schedule one.0)
     → IsAdded answer old new → AreServable schedule old.items → AreServable schedule new.items
 one_served schedule old new (Ok one) servable added all = rw added.0 (all_more (CanServe schedule) old.items (Taken one.0) all servable)
-one_served schedule old new (Err (read.Aside fault)) servable added all = rw added.0 (all_more (CanServe schedule) old.items (Aside fault) all tt)
-one_served schedule old new (Err read.Memory) servable added all = absurd added
+one_served schedule old new (Err fault) servable added all = rw added.0 (all_more (CanServe schedule) old.items (Aside fault) all tt)
+
+-- a delivery without an item took none
+pub takes_none : (schedule : Schedule) (delivery : Delivery JourneyRecord) → delivery.items ≡ [] → delivery.passed ≡ 0 → HasTaken schedule delivery []
+takes_none schedule delivery none zero_passed = record {
+  verdicts = record { items_are = ap (map (shown recorded)) none; passed_is = zero_passed };
+  servable = rw none tt;
+}

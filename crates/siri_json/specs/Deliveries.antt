@@ -11,8 +11,6 @@ use Rattle.siri_json.specs.declared.delivery.DeliveryFault.{DeliveryFault}
 use Rattle.siri_json.specs.declared.delivery.DeliveryFault.TheVariants.{NotJson, NotDelivery, Memory}
 use Rattle.siri_json.specs.declared.delivery.Item.{Item}
 use Rattle.siri_json.specs.declared.delivery.Item.TheVariants.{Taken, Aside}
-use Rattle.siri_json.specs.declared.read_fault.ReadFault.{ReadFault}
-use Rattle.siri_json.specs.declared.read_fault.ReadFault.TheVariants as read
 
 -- the tree that a body is, where it is UTF-8 and JSON
 abbrev pub tree_of : List ℕ → Option Data
@@ -37,35 +35,38 @@ abbrev pub shown : {A B : Type 0} → (A → B) → Item A → Result B Fault
 shown seen (Taken one) = Ok (seen one)
 shown seen (Aside fault) = Err fault
 
+-- the verdict as it is seen where what the item says is
+abbrev pub verdict_seen : {A B : Type 0} → (A → B) → Result (A × ℕ) Fault → Result (B × ℕ) Fault
+verdict_seen seen (Ok one) = Ok (seen one.0, one.1)
+verdict_seen seen (Err fault) = Err fault
+
 -- a delivery has these verdicts
 pub record HasVerdicts {A B : Type 0} (seen : A → B) (delivery : Delivery A)
     (all : List (Result (B × ℕ) Fault)) : Type 0 where
   pub items_are : map (shown seen) delivery.items ≡ map without_count all
   pub passed_is : delivery.passed ≡ passed_count all
 
--- the answer over a tree: its verdicts, or the member that is wrong
-abbrev pub ReadsTree : {A B : Type 0} → (A → B) → Result (List (Result (B × ℕ) Fault)) Member
-    → Result (Delivery A) DeliveryFault → Type 0
-ReadsTree seen (Ok all) (Ok delivery) = HasVerdicts seen delivery all
-ReadsTree seen (Ok all) (Err fault) = fault ≡ Memory
-ReadsTree seen (Err member) (Ok delivery) = ⊥
-ReadsTree seen (Err member) (Err Memory) = ⊤
-ReadsTree seen (Err member) (Err NotJson) = ⊥
-ReadsTree seen (Err member) (Err (NotDelivery told)) = told ≡ member
+-- the answer over a tree: something that stands for its verdicts, or the member that is wrong
+abbrev pub ReadsTree : {D V : Type 0} → (D → List V → Type 0) → Result (List V) Member → Result D DeliveryFault → Type 0
+ReadsTree StandsFor (Ok all) (Ok given) = StandsFor given all
+ReadsTree StandsFor (Ok all) (Err fault) = fault ≡ Memory
+ReadsTree StandsFor (Err member) (Ok given) = ⊥
+ReadsTree StandsFor (Err member) (Err Memory) = ⊤
+ReadsTree StandsFor (Err member) (Err NotJson) = ⊥
+ReadsTree StandsFor (Err member) (Err (NotDelivery told)) = told ≡ member
 
 -- the answer over a body, of whose tree the verdicts are these: it isn't JSON, or as its tree says; want of memory may
 -- come in the place of any
-abbrev pub Reads : {A B : Type 0} → (A → B) → (Data → Result (List (Result (B × ℕ) Fault)) Member) → Option Data
-    → Result (Delivery A) DeliveryFault → Type 0
-Reads seen verdicts None (Ok delivery) = ⊥
-Reads seen verdicts None (Err NotJson) = ⊤
-Reads seen verdicts None (Err (NotDelivery member)) = ⊥
-Reads seen verdicts None (Err Memory) = ⊤
-Reads seen verdicts (Some root) answer = ReadsTree seen (verdicts root) answer
+abbrev pub Reads : {D V : Type 0} → (D → List V → Type 0) → (Data → Result (List V) Member) → Option Data
+    → Result D DeliveryFault → Type 0
+Reads StandsFor verdicts None (Ok given) = ⊥
+Reads StandsFor verdicts None (Err NotJson) = ⊤
+Reads StandsFor verdicts None (Err (NotDelivery member)) = ⊥
+Reads StandsFor verdicts None (Err Memory) = ⊤
+Reads StandsFor verdicts (Some root) answer = ReadsTree StandsFor (verdicts root) answer
 
 -- a delivery has one item more than another one, with this verdict on it
-abbrev pub IsAdded : {A : Type 0} → Result (A × ℕ) ReadFault → Delivery A → Delivery A → Type 0
+abbrev pub IsAdded : {A : Type 0} → Result (A × ℕ) Fault → Delivery A → Delivery A → Type 0
 IsAdded (Ok one) old new =
     (new.items ≡ old.items ++ Taken one.0 ∷ []) × (new.passed ≡ min (old.passed + one.1) last_count)
-IsAdded (Err (read.Aside fault)) old new = (new.items ≡ old.items ++ Aside fault ∷ []) × (new.passed ≡ old.passed)
-IsAdded (Err read.Memory) old new = ⊥
+IsAdded (Err fault) old new = (new.items ≡ old.items ++ Aside fault ∷ []) × (new.passed ≡ old.passed)

@@ -2,7 +2,6 @@
 ghost use Rattle.std.specs.Prelude.{◌≡◌, [], OnOk};
 ghost use Rattle.siri_json.specs.Deliveries.{IsAdded};
 
-use crate::read_fault::ReadFault;
 use gw_base::{List, Member};
 use journey_model::Fault;
 use json_tree::TreeFault;
@@ -98,7 +97,7 @@ impl<T: Drop> Delivery<T> {
 
     /// One item more, with the verdict on it: what it says and how many of its parts were passed over, or the fault for
     /// which it is set aside. An error is want of memory.
-    pub fn add(&mut self, verdict: Result<(T, u64), ReadFault>) -> Result<(), AllocError>
+    pub fn add(&mut self, verdict: Result<(T, u64), Fault>) -> Result<(), AllocError>
         ensures { OnOk result (IsAdded verdict self.old self.new) }
     {
         match verdict {
@@ -107,8 +106,7 @@ impl<T: Drop> Delivery<T> {
                 self.passed = self.passed.saturating_add(passed);
                 Ok(())
             }
-            Err(ReadFault::Aside(fault)) => self.items.push(Item::Aside(fault)),
-            Err(ReadFault::Memory) => Err(AllocError),
+            Err(fault) => self.items.push(Item::Aside(fault)),
         }
     }
 }

@@ -1,26 +1,27 @@
 -- What a situation affects is known.
 use Rattle.std.proofs.Common.{◌≡◌, ◌∙◌, ℕ, refl, ap, subst, Bool, true, false, ◌&&◌, List, [], ◌∷◌, ◌++◌, length, map, Option, Some, None, option_map, Result, Ok, Err, if◌then◌else◌}
 use Rattle.std.proofs.lemmas.Bool.{and_parts}
-use Rattle.std.specs.Prelude.{⊤, cond, nat_lt, option_to_list, position}
+use Rattle.std.specs.Prelude.{⊤, IfOk, cond, nat_lt, option_to_list, position}
 use Rattle.std.specs.List.{cons_option, list_all, position_or_len}
 use Rattle.std.specs.Str.{bytes_eq}
 use Rattle.std.proofs.lemmas.List.Folds.{list_all-append}
 use Rattle.gw_base.specs.declared.member.Member.{Member}
 use Rattle.gw_base.specs.Chains.{◌>>=◌}
+use Rattle.gw_base.proofs.Elements.{all_more}
 use Rattle.journey_model.specs.Schedules.{Schedule}
-use Rattle.journey_model.specs.Situations.{is_known}
+use Rattle.journey_model.specs.Situations.{AreKnown, is_known}
 use Rattle.journey_model.specs.declared.fault.Fault.{Fault}
 use Rattle.journey_model.specs.declared.situation.Ref.{Ref}
 use Rattle.journey_model.specs.declared.situation.Situation.{Situation}
 use Rattle.serde_json.specs.Data.{Data}
 use Rattle.siri_json.specs.Fields.{optional_member, required_member}
 use Rattle.siri_json.specs.Forms.{day, is_object, text}
-use Rattle.siri_json.specs.Deliveries.{shown, without_count}
-use Rattle.siri_json.specs.declared.delivery.Item.{Item}
+use Rattle.siri_json.specs.Deliveries.{IsAdded, shown}
+use Rattle.siri_json.specs.declared.delivery.Delivery.{Delivery}
 use Rattle.siri_json.specs.declared.delivery.Item.TheVariants.{Taken, Aside}
 use Rattle.timetable.specs.Table.{Table}
 use Rattle.siri_situations.specs.Affected as spec
-use Rattle.siri_situations.specs.Deliveries.{ReferToKnown, RefersToKnown, same}
+use Rattle.siri_situations.specs.Deliveries.{HasTaken, ReferToKnown, RefersToKnown, same}
 use Rattle.siri_situations.specs.Situations.{content, effect, situation, touched, verdict}
 use Rattle.siri_situations.specs.Steps.{gather, trees_at, walk}
 use Rattle.siri_situations.specs.declared.affected.AffectedKind.{AffectedKind}
@@ -161,18 +162,18 @@ of_verdict schedule tree = by (is_object tree)
     by true = of_situation schedule tree
     by false = tt
 
-of_item : (table : Table) (item : Item Situation) (answer : Result (Situation × ℕ) Fault) → OnFound (KnowsAll table) answer → shown same item ≡ without_count answer
-    → RefersToKnown table item
-of_item table (Aside fault) answer holds e = tt
-of_item table (Taken one) (Ok other) holds e = let same : one ≡ other.0 = cc in rw same holds
-of_item table (Taken one) (Err fault) holds e = cc
+-- a situation that is taken refers to what is there
+pub knows_verdict : (schedule : Schedule) (tree : Data) (one : Situation × ℕ) → verdict schedule tree ≡ Ok one → AreKnown schedule.table one.0.refs
+knows_verdict schedule tree one is = found (KnowsAll schedule.table) _ one (of_verdict schedule tree) is
 
--- each situation that is taken refers to what is there
-pub of_items : (schedule : Schedule) (trees : List Data) (items : List (Item Situation)) → map (shown same) items ≡ map without_count (map (verdict schedule) trees)
-    → ReferToKnown schedule.table items
-of_items schedule trees [] e = tt
-of_items schedule [] (item ∷ items) e = cc
-of_items schedule (tree ∷ trees) (item ∷ items) e =
-    let first : shown same item ≡ without_count (verdict schedule tree) = cc in
-    let rest : map (shown same) items ≡ map without_count (map (verdict schedule) trees) = cc in
-    (of_item schedule.table item (verdict schedule tree) (of_verdict schedule tree) first, of_items schedule trees items rest)
+pub knows_more : (table : Table) (old new : Delivery Situation) (answer : Result (Situation × ℕ) Fault) → IfOk answer (λ one. AreKnown table one.0.refs)
+    → IsAdded answer old new → ReferToKnown table old.items → ReferToKnown table new.items
+knows_more table old new (Ok one) known added all = rw added.0 (all_more (RefersToKnown table) old.items (Taken one.0) all known)
+knows_more table old new (Err fault) known added all = rw added.0 (all_more (RefersToKnown table) old.items (Aside fault) all tt)
+
+-- a delivery without an item took none
+pub takes_none : (schedule : Schedule) (delivery : Delivery Situation) → delivery.items ≡ [] → delivery.passed ≡ 0 → HasTaken schedule delivery []
+takes_none schedule delivery none zero_passed = record {
+  verdicts = record { items_are = ap (map (shown same)) none; passed_is = zero_passed };
+  known = rw none tt;
+}

@@ -22,11 +22,17 @@ const TOO_MANY_FILES_IN_SYSTEM: i32 = 23;
 
 const TOO_MANY_FILES: i32 = 24;
 
+const OUT_OF_STREAMS: i32 = 63;
+
 const NOT_ON_THE_NETWORK: i32 = 64;
 
 const PROTOCOL: i32 = 71;
 
 const NO_PROTOCOL_OPTION: i32 = 92;
+
+const PROTOCOL_NOT_SUPPORTED: i32 = 93;
+
+const SOCKET_TYPE_NOT_SUPPORTED: i32 = 94;
 
 const NOT_SUPPORTED: i32 = 95;
 
@@ -37,14 +43,16 @@ const HOST_DOWN: i32 = 112;
 /// What an error of `accept` tells.
 pub fn kind_of(fault: &Error) -> Refused {
     match fault.raw_os_error() {
-        Some(OUT_OF_MEMORY | TOO_MANY_FILES_IN_SYSTEM | TOO_MANY_FILES | NO_BUFFERS) => {
-            Refused::Room
-        }
+        Some(
+            OUT_OF_MEMORY | TOO_MANY_FILES_IN_SYSTEM | TOO_MANY_FILES | OUT_OF_STREAMS | NO_BUFFERS,
+        ) => Refused::Room,
         Some(
             NOT_PERMITTED
             | NOT_ON_THE_NETWORK
             | PROTOCOL
             | NO_PROTOCOL_OPTION
+            | PROTOCOL_NOT_SUPPORTED
+            | SOCKET_TYPE_NOT_SUPPORTED
             | NOT_SUPPORTED
             | HOST_DOWN,
         ) => Refused::Client,

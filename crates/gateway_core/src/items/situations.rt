@@ -1,24 +1,22 @@
 //! The items of a delivery of situations, gone through over what is kept. The functions meet
 //! `specs/SituationSteps.antt`.
-ghost use Rattle.std.specs.Prelude.{◌≡◌, ◌≤◌, Ok, Err, length, map, List as Values, IfOk, MatchResult, OnOk};
+ghost use Rattle.std.specs.Prelude.{◌≡◌, Ok, Err, IfOk, MatchResult, OnOk};
 ghost use Rattle.feed_writing.specs.Written.{written};
 ghost use Rattle.alert_map.specs.Alerts.{alert_message};
 ghost use Rattle.journey_model.specs.Situations.{AreKnown};
-ghost use Rattle.journey_model.specs.declared.situation.Situation as of_journeys;
-ghost use Rattle.siri_situations.specs.Deliveries.{RefersToKnown, ReferToKnown};
 ghost use Rattle.timetable.specs.Seen.{seen};
 ghost use Rattle.timetable.specs.Table.{Table};
 ghost use Rattle.gateway_core.specs.JourneySteps.{room_fault};
 ghost use Rattle.gateway_core.specs.SituationSteps as spec;
-ghost use Rattle.gateway_core.specs.Standing.{KeepsSituations};
 ghost use Rattle.gateway_core.specs.Taking.{limited_verdict};
 
+use crate::items::tally::Tally;
 use crate::keys::Edition;
 use alert_map::{alert_entity, entity_body_len};
 use feed_index::Draft;
-use gw_base::{Bytes, List, Text};
-use journey_model::{Fault, Report, Situation};
-use siri_situations::{Item, SituationDelivery};
+use gw_base::{Bytes, Text};
+use journey_model::{Context, Fault, Situation};
+use siri_situations::TakesSituations;
 use std::alloc::{AllocError, Global};
 use timetable::Timetable;
 
@@ -139,74 +137,31 @@ fn take_situation(
     }
 }
 
-// Takes an item; the fault where it is set aside.
-fn take_item(
-    alloc: Global,
-    table: &Timetable,
-    item: &Item,
-    draft: &mut SituationDraft<'_>,
-) -> Result<Option<Fault>, AllocError>
-    requires { RefersToKnown (seen table.now) item.now }
-    ensures same { draft.new.kept ≡ draft.old.kept }
-    ensures fault { IfOk result (λ fault. fault ≡ spec.verdict_fault (spec.alerts_after draft.old)
-        (spec.item_verdict (seen table.now) item.now)) }
-    ensures entries { OnOk result (spec.alerts_after draft.new
-        ≡ spec.verdict_step (seen table.now) (spec.alerts_after draft.old)
-        (spec.item_verdict (seen table.now) item.now)) }
-    ensures served { OnOk result (spec.IsVerdictServed (seen table.now)
-        (spec.item_verdict (seen table.now) item.now)) }
-{
-    match item {
-        Item::Taken(situation) => take_situation(alloc, table, situation, draft),
-        Item::Aside(fault) => Ok(Some(*fault)),
-    }
+/// What takes the situations of a delivery: what will be kept, and what became of each so far.
+#[derive(Drop)]
+pub(crate) struct SituationTaking<'a> {
+    /// What will be kept.
+    pub draft: SituationDraft<'a>,
+    /// What became of the situations.
+    pub tally: Tally,
 }
 
-// Goes through items in their order; those that are set aside.
-fn take_items(
-    alloc: Global,
-    table: &Timetable,
-    items: &[Item],
-    draft: &mut SituationDraft<'_>,
-) -> Result<List<(u64, Fault)>, AllocError>
-    requires { ReferToKnown (seen table.now) items.now }
-    ensures same { draft.new.kept ≡ draft.old.kept }
-    ensures few { IfOk result (λ aside. length aside ≤ length items.now) }
-    ensures gathers { (before : Values of_journeys.Situation)
-        → KeepsSituations (seen table.now) before (spec.alerts_after draft.old)
-        → IfOk result (spec.GathersVerdicts (seen table.now) before
-        (map (spec.item_verdict (seen table.now)) items.now) (spec.alerts_after draft.new)) }
-{
-    let mut aside = List::new(alloc);
-    for (number, item) in items.iter().enumerate() {
-        if let Some(fault) = take_item(alloc, table, item, draft)? {
-            aside.push((number as u64, fault))?;
+/// A situation's alert is put where it counts, or the situation is set aside where that is too long or has no room.
+impl<'a> TakesSituations for SituationTaking<'a> {
+    ghost has_taken = { spec.HasTaken };
+
+    fn take(
+        &mut self,
+        alloc: Global,
+        context: &Context<'_>,
+        verdict: Result<(Situation, u64), Fault>,
+    ) -> Result<(), AllocError> {
+        match verdict {
+            Ok((situation, passed)) => {
+                let fault = take_situation(alloc, context.table, &situation, &mut self.draft)?;
+                self.tally.add(passed, fault)
+            }
+            Err(fault) => self.tally.add(0, Some(fault)),
         }
     }
-    Ok(aside)
-}
-
-/// Goes through the items of a delivery in their order: a situation is taken, and its alert put where it counts, or it
-/// is set aside where its alert has a body of more than 65,536 bytes or it has no room. Answers the report on them.
-/// After want of memory the draft holds what was put before.
-pub(crate) fn take_delivery(
-    alloc: Global,
-    table: &Timetable,
-    delivery: SituationDelivery,
-    draft: &mut SituationDraft<'_>,
-) -> Result<Report, AllocError>
-    requires { ReferToKnown (seen table.now) delivery.items }
-    ensures same { draft.new.kept ≡ draft.old.kept }
-    ensures gathers { (before : Values of_journeys.Situation)
-        → KeepsSituations (seen table.now) before (spec.alerts_after draft.old)
-        → IfOk result (spec.GathersSituations (seen table.now) before
-        (map (spec.item_verdict (seen table.now)) delivery.items) delivery.passed
-        (spec.alerts_after draft.new)) }
-{
-    let aside = take_items(alloc, table, delivery.items.as_slice(), draft)?;
-    Ok(Report {
-        taken: delivery.items.len() as u64 - aside.len() as u64,
-        passed: delivery.passed,
-        aside,
-    })
 }

@@ -11,7 +11,8 @@ ghost use Rattle.gateway_core.specs.Taking as taking;
 
 use crate::accepted::{Accepted, TakeFault};
 use crate::gateway::Gateway;
-use crate::items::journeys::take_journeys;
+use crate::items::journeys::JourneyTaking;
+use crate::items::tally::Tally;
 use crate::keys::JourneyKey;
 use crate::report_text::report_json;
 use crate::rolling::{WindowMove, window_move};
@@ -21,7 +22,7 @@ use feed_index::{Batch, Draft, FeedIndex};
 use gw_base::Moment;
 use journey_model::Context;
 use service_day::Instant;
-use siri_calls::read_delivery;
+use siri_calls::hand_on_journeys;
 use std::alloc::{AllocError, Global};
 
 // What a delivery makes: what is answered, and the entries that are to be put.
@@ -52,12 +53,16 @@ fn made_of(
         (map journey_seen (put_all spec.key_order (drop expired journeys.now.entries) made.batch))) }
     ensures refuses { IfErr result (spec.RefusesJourneys context.now body.now) }
 {
-    let delivery = match read_delivery(alloc, body, context) {
-        Ok(delivery) => delivery,
-        Err(fault) => return Err(fault),
+    let mut taking = JourneyTaking {
+        draft: Draft::over(alloc, journeys, expired),
+        tally: Tally::new(alloc),
     };
-    let mut draft = Draft::over(alloc, journeys, expired);
-    let report = take_journeys(alloc, context, delivery, &mut draft)?;
+    match hand_on_journeys(alloc, body, context, &mut taking) {
+        Ok(()) => {}
+        Err(fault) => return Err(fault),
+    }
+    let JourneyTaking { draft, tally } = taking;
+    let report = tally.into_report();
     let text = report_json(alloc, &report)?;
     Ok(Made {
         accepted: Accepted { report, text },

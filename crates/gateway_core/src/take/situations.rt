@@ -13,7 +13,8 @@ ghost use Rattle.gateway_core.specs.Taking.{SituationsAnswer, report_json};
 
 use crate::accepted::{Accepted, TakeFault};
 use crate::gateway::Gateway;
-use crate::items::situations::{SituationDraft, take_delivery};
+use crate::items::situations::SituationTaking;
+use crate::items::tally::Tally;
 use crate::keys::Edition;
 use crate::report_text;
 use crate::rolling::{WindowMove, window_move};
@@ -22,7 +23,7 @@ use crate::state::{Change, News, Prepared, State};
 use feed_index::{Batch, Draft, FeedIndex};
 use gw_base::{Moment, Text};
 use journey_model::{Context, Report};
-use siri_situations::read_situations;
+use siri_situations::hand_on_situations;
 use std::alloc::{AllocError, Global};
 
 // What is answered with a report.
@@ -33,31 +34,6 @@ fn with_text(alloc: Global, report: Report) -> Result<Accepted, TakeFault>
 {
     match report_text::report_json(alloc, &report) {
         Ok(text) => Ok(Accepted { report, text }),
-        Err(AllocError) => Err(TakeFault::Memory),
-    }
-}
-
-// Reads a delivery of situations, and takes its items.
-fn read_into(
-    alloc: Global,
-    body: &[u8],
-    context: &Context<'_>,
-    draft: &mut SituationDraft<'_>,
-) -> Result<Accepted, TakeFault>
-    ensures same { draft.new.kept ≡ draft.old.kept }
-    ensures takes { (before : List of_journeys.Situation)
-        → KeepsSituations context.now.table before (spec.alerts_after draft.old)
-        → IfOk result (λ accepted. spec.TakesBody context.now before body.now
-        (spec.alerts_after draft.new) accepted.report) }
-    ensures refuses { IfErr result (spec.IsRefused context.now body.now) }
-    ensures text { IfOk result (λ accepted. accepted.text ≡ report_json accepted.report) }
-{
-    let delivery = match read_situations(alloc, body, context) {
-        Ok(delivery) => delivery,
-        Err(fault) => return Err(fault),
-    };
-    match take_delivery(alloc, context.table, delivery, draft) {
-        Ok(report) => with_text(alloc, report),
         Err(AllocError) => Err(TakeFault::Memory),
     }
 }
@@ -84,8 +60,16 @@ fn made_of(
     ensures refuses { IfErr result (spec.IsRefused context.now body.now) }
     ensures text { IfOk result (λ made. made.accepted.text ≡ report_json made.accepted.report) }
 {
-    let mut draft = Draft::over(alloc, kept, 0);
-    match read_into(alloc, body, context, &mut draft) {
+    let mut taking = SituationTaking {
+        draft: Draft::over(alloc, kept, 0),
+        tally: Tally::new(alloc),
+    };
+    match hand_on_situations(alloc, body, context, &mut taking) {
+        Ok(()) => {}
+        Err(fault) => return Err(fault),
+    }
+    let SituationTaking { draft, tally } = taking;
+    match with_text(alloc, tally.into_report()) {
         Ok(accepted) => Ok(Made {
             accepted,
             batch: draft.into_batch(),

@@ -7,9 +7,9 @@ use Rattle.gateway_top.proofs.feeds.lines_of.Goals as goal
 
 pub returns : goal.returns
 returns c =
-    subst (λ (done : Done). IsLinesOf c.args.setting.now c.args.feed.now (Ok done)) (sym c.texts.ensures) (
+    subst (λ (done : Done). IsLinesOf c.args.setting.now c.args.feed (Ok done)) (sym c.texts.ensures) (
       c.in_ok-reading.reading,
-      rw c.context.ensures.shows at c.in_ok-reading.ensures,
-      c.in_ok-out.ensures ∙ ap (λ schedule. shown schedule c.in_ok-reading.reading) c.context-2.ensures.shows,
+      c.in_ok-reading.ensures,
+      c.in_ok-out.ensures ∙ ap (λ schedule. shown schedule c.in_ok-reading.reading) c.context.ensures.shows,
       c.new.ensures.empty,
     )

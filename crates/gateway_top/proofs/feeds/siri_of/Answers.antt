@@ -1,22 +1,21 @@
--- A feed that is a full dataset has its delivery, or too many calls.
+-- The readings of a feed have their delivery, or too many calls.
 use Rattle.std.proofs.Common.{◌≡◌, Ok, Err, ap, rules, subst, sym}
-use Rattle.reverse_calls.specs.declared.reverse_fault.ReverseFault.TheVariants.{TooManyCalls}
-use Rattle.reverse_calls.specs.Siri.{IsFullAnswer}
+use Rattle.reverse_calls.specs.declared.readings_fault.ReadingsFault.TheVariants.{TooManyCalls}
+use Rattle.reverse_calls.specs.Siri.{IsTextOfFeed}
 use Rattle.gateway_top.specs.Done.{Done}
 use Rattle.gateway_top.specs.Work.{IsSiriOf}
 use Rattle.gateway_top.specs.declared.exit.Exit.TheVariants.{Refused}
-use Rattle.gateway_top.proofs.FeedSteps.{full_answer}
 use Rattle.gateway_top.proofs.feeds.siri_of.Goals as goal
 
-pub returns-in_ok-err-in-Ok-clause-told : goal.returns-in_ok-err-in-Ok-clause-told
-returns-in_ok-err-in-Ok-clause-told c =
-    let answer = full_answer c.context.result c.args.feed.now c.args.at (Ok (c.in-Ok.out, c.in-Ok.report)) c.requires c.in-Ok.ensures in
-    subst (λ (done : Done). IsSiriOf c.args.at c.args.setting.now c.args.name.now c.args.feed.now (Ok done)) (sym c.texts.ensures)
-    (c.in-Ok.report, rw c.context.ensures.shows at answer, c.in_ok-err-in-Ok.ensures)
+pub returns-in-Ok-clause-told : goal.returns-in-Ok-clause-told
+returns-in-Ok-clause-told c =
+    let answer = c.in-Ok.ensures.of_feed c.args.feed (rw (← c.context.ensures.shows) at c.in_ok-reading.ensures) in
+    subst (λ (done : Done). IsSiriOf c.args.at c.args.setting.now c.args.name.now c.args.feed (Ok done)) (sym c.texts.ensures)
+    (c.in_ok-reading.reading.report, rw c.context.ensures.shows at answer, c.in_ok-err-in-Ok.ensures)
 
-pub returns-in_ok-numbered-in-Err-TooManyCalls-clause-told : goal.returns-in_ok-numbered-in-Err-TooManyCalls-clause-told
-returns-in_ok-numbered-in-Err-TooManyCalls-clause-told c =
+pub returns-in-Err-TooManyCalls-clause-told : goal.returns-in-Err-TooManyCalls-clause-told
+returns-in-Err-TooManyCalls-clause-told c =
     let here : c.in-Err-TooManyCalls.field-0 ≡ TooManyCalls c.in-Err-TooManyCalls.count = search rules in
-    let answer = full_answer c.context.result c.args.feed.now c.args.at (Err c.in-Err-TooManyCalls.field-0) c.requires c.in-Err-TooManyCalls.ensures in
-    let many = subst (λ fault. IsFullAnswer c.context.result c.args.feed.now c.args.at (Err fault)) here answer in
+    let answer = c.in-Err-TooManyCalls.ensures.of_feed c.args.feed (rw (← c.context.ensures.shows) at c.in_ok-reading.ensures) in
+    let many = subst (λ fault. IsTextOfFeed c.context.result c.args.feed c.args.at c.in_ok-reading.reading.report (Err fault)) here answer in
     (c.in-Err-TooManyCalls.count, rw c.context.ensures.shows at many, ap Refused c.in_ok-numbered-in-Err-TooManyCalls.ensures)
