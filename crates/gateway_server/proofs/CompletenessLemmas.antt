@@ -44,8 +44,8 @@ use Rattle.gateway_core.specs.Bodies.{Brings, RefusesDelivery, RefusesFeed}
 use Rattle.gateway_core.specs.declared.take.body.BodyRefusal.{BodyRefusal}
 use Rattle.gateway_core.specs.declared.take.body.BodyRefusal.TheVariants as because
 use Rattle.gateway_server.specs.Bodies.{RefusesBody, fault_of}
-use Rattle.gateway_server.specs.Completeness.{EndsWith, IsSoundDelivery, IsSoundFeed, IsSoundSituations, IsUndisturbed, WantsMemory, none_aside}
-use Rattle.gateway_server.specs.Log.{IsFront, IsLawful, IsPosted, answered, full, lost, no_clock, no_memory, unkept}
+use Rattle.gateway_server.specs.Completeness.{CompletesBy, EndsWith, IsCalm, IsSoundDelivery, IsSoundFeed, IsSoundSituations, IsUndisturbed, WantsMemory, none_aside}
+use Rattle.gateway_server.specs.Log.{IsFront, IsLawfulBy, IsPosted, answered, full, lost, no_clock, no_memory, unkept}
 use Rattle.gateway_server.proofs.RoomLeft.{all_fit, all_pass, alike_journeys, alike_numbers, own_journey, own_number, report_of}
 
 -- ---- an input asks for one thing
@@ -109,18 +109,26 @@ whole Cause output bytes calm front =
       | inr all ↦ front.2 ∙ take_all front.0 bytes all
     ]
 
--- a connection was answered at its moment, or there was no memory for what was posted
-undisturbed : (Cause : Type 0) (setting : Setting) (arrivals : List Arrival) (entry : Entry) (moment : ℤ) → ¬ Cause → entry.moment ≡ Some moment → IsLawful Cause setting arrivals entry
-    → IsAnswered setting arrivals entry.input moment entry.mark entry.output ⊎ (IsPosted entry.input × WantsMemory entry)
-undisturbed Cause setting arrivals entry moment calm timed (no_clock is none front) = absurd (none-some moment (sym none ∙ timed))
-undisturbed Cause setting arrivals entry moment calm timed (lost at is some empty cause) = absurd (calm cause)
-undisturbed Cause setting arrivals entry moment calm timed (no_memory at is some posted front) =
-    inr (posted, (is, whole Cause entry.output (refused_with refusal.Memory) calm front))
-undisturbed Cause setting arrivals entry moment calm timed (unkept at of body is some asks can cause front) = absurd cause
-undisturbed Cause setting arrivals entry moment calm timed (full at of body is some asks can is_full front) = absurd (true≢false (sym is_full))
-undisturbed Cause setting arrivals entry moment calm timed (answered at bytes some says room front) =
-    inl (subst (λ (output : List ℕ). IsAnswered setting arrivals entry.input moment entry.mark output) (sym (whole Cause entry.output bytes calm front))
-    (subst (λ (m : ℤ). IsAnswered setting arrivals entry.input m entry.mark bytes) (same_Some at moment (sym some ∙ timed)) says))
+-- a body that would be taken isn't kept, or it is full
+abbrev IsLeftOut : Type 0 → (List ℕ → Bool) → List ℕ → Type 0
+IsLeftOut Unkept is_full input = (of : Kind) × (body : List ℕ) × IsRequest input (Post of body) × (Unkept ⊎ (is_full body ≡ true))
+
+-- a connection was answered at its moment, or there was no memory for what was posted, or that was left out
+abbrev IsCalmEnd : Type 0 → (List ℕ → Bool) → Setting → List Arrival → Entry → ℤ → Type 0
+IsCalmEnd Unkept is_full setting arrivals entry moment =
+    IsAnswered setting arrivals entry.input moment entry.mark entry.output ⊎ ((IsPosted entry.input × WantsMemory entry) ⊎ IsLeftOut Unkept is_full entry.input)
+
+undisturbed : (Cause Unkept : Type 0) (is_full : List ℕ → Bool) (setting : Setting) (arrivals : List Arrival) (entry : Entry) (moment : ℤ) → IsCalm Cause entry moment
+    → IsLawfulBy Cause Unkept is_full setting arrivals entry → IsCalmEnd Unkept is_full setting arrivals entry moment
+undisturbed Cause Unkept is_full setting arrivals entry moment calm (no_clock is none front) = absurd (none-some moment (sym none ∙ calm.timed))
+undisturbed Cause Unkept is_full setting arrivals entry moment calm (lost at is some empty cause) = absurd (calm.calm cause)
+undisturbed Cause Unkept is_full setting arrivals entry moment calm (no_memory at is some posted front) =
+    inr (inl (posted, (is, whole Cause entry.output (refused_with refusal.Memory) calm.calm front)))
+undisturbed Cause Unkept is_full setting arrivals entry moment calm (unkept at of body is some asks can cause front) = inr (inr (of, body, asks, inl cause))
+undisturbed Cause Unkept is_full setting arrivals entry moment calm (full at of body is some asks can no_room front) = inr (inr (of, body, asks, inr no_room))
+undisturbed Cause Unkept is_full setting arrivals entry moment calm (answered at bytes some says room front) =
+    inl (subst (λ (output : List ℕ). IsAnswered setting arrivals entry.input moment entry.mark output) (sym (whole Cause entry.output bytes calm.calm front))
+    (subst (λ (m : ℤ). IsAnswered setting arrivals entry.input m entry.mark bytes) (same_Some at moment (sym some ∙ calm.timed)) says))
 
 -- ---- deliveries
 
@@ -312,50 +320,44 @@ module _ (setting : Setting) (arrivals : List Arrival) (moment : ℤ) where
 
 -- ---- the law, for any cause
 
-module _ (Cause : Type 0) (setting : Setting) (arrivals : List Arrival) (entry : Entry) (moment : ℤ) (calm : IsUndisturbed Cause setting arrivals entry moment) where
+module _ (Cause Unkept : Type 0) (is_full : List ℕ → Bool) (setting : Setting) (arrivals : List Arrival) (entry : Entry) (lawful : IsLawfulBy Cause Unkept is_full setting arrivals entry) where
   -- what was answered has this, or there was no memory for what was posted
-  or_memory : (Has : Type 0) → (IsAnswered setting arrivals entry.input moment entry.mark entry.output → Has) → Has ⊎ WantsMemory entry
-  or_memory Has has = by (undisturbed Cause setting arrivals entry moment calm.calm calm.timed calm.lawful)
+  or_memory : (Has : Type 0) (moment : ℤ) (of : Kind) (body : List ℕ) → IsUndisturbed Cause Unkept is_full entry moment body → IsRequest entry.input (Post of body)
+      → (IsAnswered setting arrivals entry.input moment entry.mark entry.output → Has) → Has ⊎ WantsMemory entry
+  or_memory Has moment of body quiet posted has = by (undisturbed Cause Unkept is_full setting arrivals entry moment quiet.calm lawful)
     where
-      by : IsAnswered setting arrivals entry.input moment entry.mark entry.output ⊎ (IsPosted entry.input × WantsMemory entry) → Has ⊎ WantsMemory entry
+      by : IsCalmEnd Unkept is_full setting arrivals entry moment → Has ⊎ WantsMemory entry
       by (inl says) = inl (has says)
-      by (inr wants) = inr wants.1
+      by (inr (inl wants)) = inr wants.1
+      by (inr (inr (other, more, asks, inl cause))) = absurd (quiet.keeps cause)
+      by (inr (inr (other, more, asks, inr no_room))) =
+          absurd (true≢false (sym no_room ∙ ap is_full (same_post entry.input more body other of asks posted).1 ∙ quiet.fits))
 
   -- what is got has it
-  got : (Has : Type 0) (what : Resource) → IsRequest entry.input (Get what) → (IsAnswered setting arrivals entry.input moment entry.mark entry.output → Has) → Has
-  got Has what asks has = by (undisturbed Cause setting arrivals entry moment calm.calm calm.timed calm.lawful)
+  got : (Has : Type 0) (moment : ℤ) (what : Resource) → IsCalm Cause entry moment → IsRequest entry.input (Get what)
+      → (IsAnswered setting arrivals entry.input moment entry.mark entry.output → Has) → Has
+  got Has moment what calm asks has = by (undisturbed Cause Unkept is_full setting arrivals entry moment calm lawful)
     where
-      by : IsAnswered setting arrivals entry.input moment entry.mark entry.output ⊎ (IsPosted entry.input × WantsMemory entry) → Has
+      by : IsCalmEnd Unkept is_full setting arrivals entry moment → Has
       by (inl says) = has says
-      by (inr wants) = absurd (not_posted entry.input what asks wants.0)
+      by (inr (inl wants)) = absurd (not_posted entry.input what asks wants.0)
+      by (inr (inr (of, body, posts, why))) = absurd (not_get_post entry.input body what of asks posts)
 
-  pub journeys_are_taken : (body : List ℕ) (records : List Recorded) (passed : ℕ) → IsRequest entry.input (Post kind.Estimated body) → IsSoundDelivery setting arrivals moment body records passed
-      → EndsWith entry mark.Taken (answer_of answer.Json (report_json (none_aside (length records) passed))) ⊎ WantsMemory entry
-  journeys_are_taken body records passed posted sound =
-      or_memory (EndsWith entry mark.Taken (answer_of answer.Json (report_json (none_aside (length records) passed))))
-      (journeys_answered setting arrivals moment entry.input entry.mark entry.output body records passed posted sound)
-
-  pub situations_are_taken : (body : List ℕ) (given : List Situation) (passed : ℕ) → IsRequest entry.input (Post kind.Situations body) → IsSoundSituations setting arrivals moment body given passed
-      → EndsWith entry mark.Taken (answer_of answer.Json (report_json (none_aside (length given) passed))) ⊎ WantsMemory entry
-  situations_are_taken body given passed posted sound =
-      or_memory (EndsWith entry mark.Taken (answer_of answer.Json (report_json (none_aside (length given) passed))))
-      (situations_answered setting arrivals moment entry.input entry.mark entry.output body given passed posted sound)
-
-  pub a_feed_is_taken : ((bytes : List ℕ) (one other : Feed) → MeansFeed bytes one → MeansFeed bytes other → one ≡ other)
-      → (body : List ℕ) (one : Feed) → IsRequest entry.input (Post kind.Feed body) → IsSoundFeed (schedule_at setting (moment ∷ moments_of arrivals)) body one
-      → ((report : Report) × TakesFeed setting arrivals moment body report one × EndsWith entry mark.Fed (answer_of answer.Json (report_json report))) ⊎ WantsMemory entry
-  a_feed_is_taken one_feed body one posted sound =
-      or_memory ((report : Report) × TakesFeed setting arrivals moment body report one × EndsWith entry mark.Fed (answer_of answer.Json (report_json report)))
-      (feed_answered setting arrivals moment entry.input entry.mark entry.output one_feed body one posted sound)
-
-  pub the_feed_is_shown : IsRequest entry.input (Get resource.Feed)
-      → (body : List ℕ) × IsFeedShown setting moment arrivals body × EndsWith entry mark.Shown (answer_of answer.Feed body)
-  the_feed_is_shown asks =
-      got ((body : List ℕ) × IsFeedShown setting moment arrivals body × EndsWith entry mark.Shown (answer_of answer.Feed body)) resource.Feed asks
-      (feed_is_shown setting arrivals moment entry.input entry.mark entry.output asks)
-
-  pub the_text_is_shown : IsRequest entry.input (Get resource.Timetable)
-      → (body : List ℕ) × IsLastSiri setting arrivals body × EndsWith entry mark.Shown (answer_of answer.Json body)
-  the_text_is_shown asks =
-      got ((body : List ℕ) × IsLastSiri setting arrivals body × EndsWith entry mark.Shown (answer_of answer.Json body)) resource.Timetable asks
-      (text_is_shown setting arrivals moment entry.input entry.mark entry.output asks)
+  pub completes : ((bytes : List ℕ) (one other : Feed) → MeansFeed bytes one → MeansFeed bytes other → one ≡ other) → CompletesBy Cause Unkept is_full setting arrivals entry
+  completes one_feed = record {
+    journeys = λ moment body records passed quiet posted sound.
+        or_memory (EndsWith entry mark.Taken (answer_of answer.Json (report_json (none_aside (length records) passed)))) moment kind.Estimated body quiet posted
+        (journeys_answered setting arrivals moment entry.input entry.mark entry.output body records passed posted sound);
+    situations = λ moment body given passed quiet posted sound.
+        or_memory (EndsWith entry mark.Taken (answer_of answer.Json (report_json (none_aside (length given) passed)))) moment kind.Situations body quiet posted
+        (situations_answered setting arrivals moment entry.input entry.mark entry.output body given passed posted sound);
+    feed = λ moment body one quiet posted sound.
+        or_memory ((report : Report) × TakesFeed setting arrivals moment body report one × EndsWith entry mark.Fed (answer_of answer.Json (report_json report))) moment kind.Feed body quiet posted
+        (feed_answered setting arrivals moment entry.input entry.mark entry.output one_feed body one posted sound);
+    feed_shown = λ moment calm asks.
+        got ((body : List ℕ) × IsFeedShown setting moment arrivals body × EndsWith entry mark.Shown (answer_of answer.Feed body)) moment resource.Feed calm asks
+        (feed_is_shown setting arrivals moment entry.input entry.mark entry.output asks);
+    text_shown = λ moment calm asks.
+        got ((body : List ℕ) × IsLastSiri setting arrivals body × EndsWith entry mark.Shown (answer_of answer.Json body)) moment resource.Timetable calm asks
+        (text_is_shown setting arrivals moment entry.input entry.mark entry.output asks);
+  }

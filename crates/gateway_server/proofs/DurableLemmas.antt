@@ -149,10 +149,15 @@ crash_says told may_leave clock left_since first now durable setting is_sound en
 same_entry : (a b : Entry) → ◌≡◌ {A = List Entry} (a ∷ []) (b ∷ []) → a ≡ b
 same_entry a b e = cc
 
+-- the present connection was finished with one entry
+pub one_entry : (told : Connections) (beside : Beside) (one other : Entry) → IsLogged told beside one → IsLogged told beside other → one ≡ other
+one_entry told beside one other is and =
+    let logs : told.log ++ one ∷ [] ≡ told.log ++ other ∷ [] = ap (λ (c : Connections). c.log) (same_Some _ _ (sym is.log ∙ and.log)) in
+    same_entry one other (append_cancel_left told.log (one ∷ []) (other ∷ []) logs)
+
 -- more can be taken afterwards exactly where keeping the body of the entry didn't fail
 pub sound_exactly : (P U : Type 0) (room : Room) (held now : Held) (past : Past) (told : Connections) (clock : Change (List ℤ)) (output : Option (List ℕ)) (beside : Beside) (entry : Entry)
     → ServesAfter P U room held past told clock output beside now → IsLogged told beside entry → now.is_sound ≡ not (is_unkept entry.mark)
 sound_exactly P U room held now past told clock output beside entry serves logged =
-    let logs : told.log ++ serves.entry ∷ [] ≡ told.log ++ entry ∷ [] = ap (λ (c : Connections). c.log) (same_Some _ _ (sym serves.logged.log ∙ logged.log)) in
-    let same : serves.entry ≡ entry = same_entry serves.entry entry (append_cancel_left told.log (serves.entry ∷ []) (entry ∷ []) logs) in
+    let same : serves.entry ≡ entry = one_entry told beside serves.entry entry serves.logged logged in
     sym serves.stands.sound ∙ serves.leaves.sound ∙ ap (λ (e : Entry). not (is_unkept e.mark)) same

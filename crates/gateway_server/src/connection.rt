@@ -12,6 +12,7 @@ ghost use Rattle.gateway_core.specs.Arrivals.{Arrival};
 ghost use Rattle.gateway_core.specs.Standing.{Stands};
 ghost use Rattle.gateway_server.specs.Answers.{refused_with};
 ghost use Rattle.gateway_server.specs.Bodies as bodies;
+ghost use Rattle.gateway_server.specs.Completeness.{Completes};
 ghost use Rattle.gateway_server.specs.Crashes.{HoldsOfBodies};
 ghost use Rattle.gateway_server.specs.Log.{is_taken};
 ghost use Rattle.gateway_server.specs.Past.{Past, StandsFor, is_unkept};
@@ -19,6 +20,7 @@ ghost use Rattle.gateway_server.specs.Serving.{IsFresh, IsLogged, Serves, Serves
 ghost use Rattle.gateway_server.specs.Steps.{Answers, PutsShown, PutsTaken, body_where, entry_at};
 
 use crate::answers::{put_answer, put_feed, put_refusal, put_siri};
+use crate::completeness::what_is_well_formed_is_taken_law;
 use crate::holds_gateway::HoldsGateway;
 use crate::not_taken::NotTaken;
 use crate::posted_body::{PostedBody, emptied};
@@ -240,8 +242,8 @@ pub fn serve_one_with<K, H: HoldsGateway<K>, D: Door, C: Clock>(
 
 /// Serves the present connection: the clock is asked once, the request is read, what is posted is taken and what is
 /// asked for is answered, and the connection is finished, whatever fails (RFC 9112). Where the door tells its
-/// connections, the log has one entry more, which is lawful after what arrived before. `body` holds at most 16,777,216
-/// bytes, where it did before.
+/// connections, the log has one entry more, which is lawful after what arrived before; where no count rose, what is
+/// well formed is taken, and what is asked for is shown. `body` holds at most 16,777,216 bytes, where it did before.
 pub fn serve_one<D: Door, C: Clock>(
     alloc: Global,
     gate: &mut Gateway,
@@ -255,12 +257,17 @@ pub fn serve_one<D: Door, C: Clock>(
         → (arrivals : List Arrival) → Stands gate.old arrivals
         → Serves (Rose (D.faults door.old) (D.faults door.new)) gate.old arrivals told
         (change C.told C.faults clock.old clock.new) (D.told door.new) (D.beside door.new) gate.new }
+    ensures completes { (told : Connections) → IsFresh (D.told door.old) (D.beside door.old) told
+        → (arrivals : List Arrival) → Stands gate.old arrivals
+        → (entry : Entry) → IsLogged told (D.beside door.new) entry
+        → Completes (Rose (D.faults door.old) (D.faults door.new)) gate.old.setting arrivals entry }
     ensures held { length body.old ≤ body_limit → length body.new ≤ body_limit }
     ensures ended { (D.beside door.new).present ≡ false }
     ensures setting { gate.new.setting ≡ gate.old.setting }
     ensures counts { D.faults door.old ≤ D.faults door.new }
     ensures clock { C.faults clock.old ≤ C.faults clock.new }
 {
+    what_is_well_formed_is_taken_law();
     let mut posted = PostedBody::with_buffer(emptied(std::mem::replace(body, Bytes::new(alloc))));
     serve_one_with(alloc, gate, &mut (), reader, &mut posted, door, clock);
     *body = posted.into_buffer(alloc);

@@ -9,21 +9,22 @@ use Rattle.gateway_core.specs.Arrivals.{Arrival, Given, feed, journeys, situatio
 use Rattle.gateway_core.specs.Standing.{Kept}
 use Rattle.gateway_core.specs.declared.setting.Setting.{Setting}
 use Rattle.gateway_server.specs.Answers.{IsAnswered, body_refused, feed_shown, mark_of, refused, taken, text_shown}
-use Rattle.gateway_server.specs.Log.{IsFront, IsLawfulBy, IsLawfulLog, IsLogBy, answered, full, lost, no_clock, no_memory, unkept}
+use Rattle.gateway_server.specs.Completeness.{Completes}
+use Rattle.gateway_server.specs.Log.{IsFront, IsLawful, IsLawfulBy, IsLawfulLog, IsLogBy, Leaves, answered, full, lost, no_clock, no_memory, unkept}
 use Rattle.gateway_server.specs.Holding.{Room}
 use Rattle.gateway_server.specs.Past.{IsLawfulAfter, LeavesPast, Past}
 use Rattle.gateway_server.specs.Serving.{IsEnd, ServesAll, Tells}
 use Rattle.gw_base.specs.Answers.{UnlessFree}
-use Rattle.gateway_top.specs.Exits.{is_free, status_of}
+use Rattle.file_commands.specs.Exits.{is_free, status_of}
 use Rattle.gateway_top.specs.Headline.{HasArrived, HeadlineWith, ServesFeed, ServesText, Shows}
 use Rattle.gateway_top.specs.Runs.{Doorway, EndsServer, HasFailed, RunsServer}
-use Rattle.gateway_top.specs.Serving.{Served}
-use Rattle.gateway_top.specs.Work.{Directory, IsSettingOf}
-use Rattle.gateway_top.specs.Tables.{Pair}
-use Rattle.gateway_top.specs.Words.{IsJobWith, Serve, serve_job}
+use Rattle.gateway_top.specs.Serving.{IsWhole, Served, ServedBy}
+use Rattle.file_commands.specs.Work.{Directory, IsSettingOf}
+use Rattle.command_words.specs.Tables.{Pair}
+use Rattle.command_words.specs.Words.{IsJobWith, Serve, serve_job}
 use Rattle.gateway_top.proofs.PublishedLemmas.{is_setting}
-use Rattle.gateway_top.specs.declared.exit.Exit.{Exit}
-use Rattle.gateway_top.specs.declared.exit.Exit.TheVariants.{Failed, Memory, Missing, Refused}
+use Rattle.file_commands.specs.declared.exit.Exit.{Exit}
+use Rattle.file_commands.specs.declared.exit.Exit.TheVariants.{Failed, Memory, Missing, Refused}
 
 -- what an answer under the mark Shown shows
 answer_shows : (Cause : Type 0) (setting : Setting) (arrivals : List Arrival) (entry : Entry) (moment : ℤ) (bytes : List ℕ) → entry.moment ≡ Some moment
@@ -91,6 +92,30 @@ shows Cause setting past entries now lawful earlier entry later is shown =
     let found = log_shows Cause setting past now earlier entry later (subst (λ (all : List Entry). IsLawfulLog Cause setting past all now) is lawful) shown in
     record { arrivals = found.0; arrived = found.1; served = found.2 }
 
+-- a log of entries of which each is something that follows from what it was
+pub log_as : {P : Type 0} (Lawful Wider : P → Entry → Type 0) (LeavesThis : P → Entry → P → Type 0) (past now : P) (entries : List Entry)
+    → ((before : P) (entry : Entry) → Lawful before entry → Wider before entry) → IsLogBy Lawful LeavesThis past entries now → IsLogBy Wider LeavesThis past entries now
+log_as Lawful Wider LeavesThis past now [] by same = same
+log_as Lawful Wider LeavesThis past now (entry ∷ later) by (is, after, leaves, more) =
+    (by past entry is, after, leaves, log_as Lawful Wider LeavesThis after now later by more)
+
+-- the same of connections that were served, where it is known in another way whether it came to its end
+pub served_by : {P : Type 0} (Lawful Wider : P → Entry → Type 0) (LeavesThis : P → Entry → P → Type 0) (End Other : Type 0) (most : ℕ) (past : P) (told : Connections) (clock : Change (List ℤ)) (now : Beside)
+    → ((before : P) (entry : Entry) → Lawful before entry → Wider before entry) → (Other → End)
+    → ServedBy Lawful LeavesThis End most past told clock now → ServedBy Wider LeavesThis Other most past told clock now
+served_by Lawful Wider LeavesThis End Other most past told clock now wider by served = record {
+  entries = served.entries;
+  left = served.left;
+  logged = served.logged;
+  inputs = served.inputs;
+  few = served.few;
+  all = λ other. served.all (by other);
+  moments = served.moments;
+  timed = served.timed;
+  arrived = served.arrived;
+  lawful = log_as Lawful Wider LeavesThis past served.arrived served.entries wider served.lawful;
+}
+
 -- connections that were served over the setting of the words show as told
 pub headline : (optional : List Pair) (Cause End : Type 0) (words : List (List ℕ)) (files : Directory) (command : Serve) (setting : Setting) (past : List Arrival) (told : Connections) (clock : Change (List ℤ)) (now : Beside)
     → IsJobWith optional words (serve_job command) → IsSettingOf command.scope (Some command.keep) files (Ok setting)
@@ -105,7 +130,9 @@ headline optional Cause End words files command setting past told clock now acce
     accepted = accepted;
     setting = setting;
     has_setting = is_setting command.scope (Some command.keep) files setting setting_is;
-    shows = shows Cause setting past served.entries served.arrived served.lawful earlier entry later is shown;
+    shows = shows Cause setting past served.entries served.arrived
+        (log_as (IsWhole Cause setting) (IsLawful Cause setting) (Leaves setting) past served.arrived served.entries (λ before one whole. whole.0) served.lawful)
+        earlier entry later is shown;
   };
 }
 
@@ -156,7 +183,7 @@ not_turned_away Memory ended is turned = cc
 
 pub served : {A E : Type 0} (Cause : Type 0) (before : Kept) (setting : Setting) (told : Connections) (clock : Change (List ℤ)) (output : Option (List ℕ)) (beside : Beside) (now : Kept) (count most : ℕ) (end : Result A E)
     → before.setting ≡ setting → count ≤ most → ServesAll Cause before [] told clock output beside now count → OnOk end ((count ≡ most) ⊎ IsEnd beside)
-    → Served Cause (IsOk end) most setting [] told clock beside
+    → ServedBy (IsLawful Cause setting) (Leaves setting) (IsOk end) most [] told clock beside
 served {A} {E} Cause before setting told clock output beside now count most end same fits all whole = record {
   entries = all.entries;
   left = all.left;
@@ -175,18 +202,9 @@ served {A} {E} Cause before setting told clock output beside now count most end 
     by (Ok value) ok (inr is) = inr (rw all.tells.tells at is)
     by (Err fault) ok is = absurd cc
 
--- the same, where it is known in another way whether it came to its end
-pub served_as : (Cause End Other : Type 0) (most : ℕ) (setting : Setting) (told : Connections) (clock : Change (List ℤ)) (now : Beside) → (Other → End)
-    → Served Cause End most setting [] told clock now → Served Cause Other most setting [] told clock now
-served_as Cause End Other most setting told clock now by served = record {
-  entries = served.entries;
-  left = served.left;
-  logged = served.logged;
-  inputs = served.inputs;
-  few = served.few;
-  all = λ other. served.all (by other);
-  moments = served.moments;
-  timed = served.timed;
-  arrived = served.arrived;
-  lawful = served.lawful;
-}
+-- and so each connection takes what is well formed, and shows what is asked for
+pub served_whole : (Cause End Other : Type 0) (most : ℕ) (setting : Setting) (told : Connections) (clock : Change (List ℤ)) (now : Beside) → (Other → End)
+    → ((arrivals : List Arrival) (entry : Entry) → IsLawful Cause setting arrivals entry → Completes Cause setting arrivals entry)
+    → ServedBy (IsLawful Cause setting) (Leaves setting) End most [] told clock now → Served Cause Other most setting [] told clock now
+served_whole Cause End Other most setting told clock now by law =
+    served_by (IsLawful Cause setting) (IsWhole Cause setting) (Leaves setting) End Other most [] told clock now (λ before entry lawful. (lawful, law before entry lawful)) by

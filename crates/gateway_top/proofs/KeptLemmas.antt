@@ -26,21 +26,22 @@ use Rattle.gateway_durable.proofs.DiskLemmas.{survives_none, survives_then, surv
 use Rattle.gateway_durable.proofs.FoundLemmas.{found_kept}
 use Rattle.gateway_server.specs.Crashes.{HoldsOfBodies}
 use Rattle.gateway_server.specs.Holding.{Held, Room}
-use Rattle.gateway_server.specs.Log.{IsLogBy}
+use Rattle.gateway_server.specs.Completeness.{CompletesBy}
+use Rattle.gateway_server.specs.Log.{IsLawfulBy, IsLogBy}
 use Rattle.gateway_server.specs.Durable.{held_of, journal_room}
 use Rattle.gateway_server.specs.Past.{IsLawfulAfter, LeavesPast, Past, StandsFor, is_unkept}
 use Rattle.gateway_server.specs.Serving.{CountsCausesAfter, IsEnd, ServesAllAfter, Tells}
 use Rattle.gateway_server.proofs.CauseLemmas.{caused_wider}
 use Rattle.gateway_server.proofs.LoopLemmas.{log_wider}
-use Rattle.gateway_top.specs.Exits.{is_free}
+use Rattle.file_commands.specs.Exits.{is_free}
 use Rattle.gateway_top.specs.Headline.{HeadlineWith}
-use Rattle.gateway_top.specs.Keeping.{BeginsWith, CountsKeptFaults, EndsKeeping, EndsKept, EndsServed, EndsUnkept, HeadlineKept, HoldsMore, RunsKept, SurvivesRun}
+use Rattle.gateway_top.specs.Keeping.{BeginsWith, CountsKeptFaults, EndsKeeping, EndsKept, EndsServed, EndsUnkept, HeadlineKept, HoldsMore, IsWholeAfter, RunsKept, SurvivesRun}
 use Rattle.gateway_top.specs.Runs.{Doorway, HasFailed}
 use Rattle.gateway_top.specs.Serving.{HasLogged, ServedBy}
-use Rattle.gateway_top.specs.Work.{Directory, IsSettingOf}
-use Rattle.gateway_top.specs.Words.{IsJobWith, Serve, serve_job, with_journal}
-use Rattle.gateway_top.specs.declared.exit.Exit.{Exit}
-use Rattle.gateway_top.proofs.HeadlineLemmas.{after_shows}
+use Rattle.file_commands.specs.Work.{Directory, IsSettingOf}
+use Rattle.command_words.specs.Words.{IsJobWith, Serve, serve_job, with_journal}
+use Rattle.file_commands.specs.declared.exit.Exit.{Exit}
+use Rattle.gateway_top.proofs.HeadlineLemmas.{after_shows, log_as, served_by}
 use Rattle.gateway_top.proofs.PublishedLemmas.{is_setting}
 
 -- ---- keeping a body that failed is the end
@@ -144,16 +145,20 @@ module _ (setting own : Setting) (disk : Change (List ℕ)) (Unkept : Type 0) (d
 
   pub ends_served : (command : Serve) (ended : ℕ) (err : Change (List ℕ)) (End : Type 0)
       → WhereTold disk.before (λ file. BeginsWith setting file past) → past.is_sound ≡ true → EndsKeeping setting past disk ended err doorway → (ended ≡ 0 → End)
+      → ((before : Past) (entry : Entry) → IsLawfulBy (HasFailed doorway.output) (HasFailed disk) (λ body. journal_room.is_full before.end (length body)) setting before.arrivals entry
+      → CompletesBy (HasFailed doorway.output) (HasFailed disk) (λ body. journal_room.is_full before.end (length body)) setting before.arrivals entry)
       → ((told : Connections) → Tells doorway.output.before doorway.before told
       → ServedBy (IsLawfulAfter (HasFailed doorway.output) Unkept journal_room own) (LeavesPast journal_room own) End command.connections past told doorway.clock doorway.now)
       → EndsServed command setting disk ended err doorway
-  ends_served command ended err End begins sound ends by served = record {
+  ends_served command ended err End begins sound ends by law served = record {
     past = past;
     begins = begins;
     sound = sound;
     ends = ends;
     served = λ told tells.
-        served_as (HasFailed doorway.output) Unkept (HasFailed disk) End (ended ≡ 0) journal_room setting own command.connections past told doorway.clock doorway.now same wider by (served told tells);
+        served_by (IsLawfulAfter (HasFailed doorway.output) (HasFailed disk) journal_room setting) (IsWholeAfter (HasFailed doorway.output) (HasFailed disk) setting) (LeavesPast journal_room setting)
+        (ended ≡ 0) (ended ≡ 0) command.connections past told doorway.clock doorway.now (λ before entry lawful. (lawful, law before entry lawful.1)) (λ zero. zero)
+        (served_as (HasFailed doorway.output) Unkept (HasFailed disk) End (ended ≡ 0) journal_room setting own command.connections past told doorway.clock doorway.now same wider by (served told tells));
   }
 
 -- ---- what is shown
@@ -232,7 +237,9 @@ of_kept words command journal disk ended files err doorway accepted has runs = b
                 let begins = ends.begins file here in
                 (begins.bodies, begins.holds, begins.replays));
             shows = after_shows (HasFailed doorway.output) (HasFailed disk) journal_room setting ends.past all.arrived earlier entry later
-                (subst (λ (entries : List Entry). IsLogBy (IsLawfulAfter (HasFailed doorway.output) (HasFailed disk) journal_room setting) (LeavesPast journal_room setting) ends.past entries all.arrived) is all.lawful) shown;
+                (subst (λ (entries : List Entry). IsLogBy (IsLawfulAfter (HasFailed doorway.output) (HasFailed disk) journal_room setting) (LeavesPast journal_room setting) ends.past entries all.arrived) is
+                (log_as (IsWholeAfter (HasFailed doorway.output) (HasFailed disk) setting) (IsLawfulAfter (HasFailed doorway.output) (HasFailed disk) journal_room setting) (LeavesPast journal_room setting)
+                ends.past all.arrived all.entries (λ before one whole. whole.0) all.lawful)) shown;
           };
         }
 

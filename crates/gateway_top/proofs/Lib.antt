@@ -1,12 +1,4 @@
-mod BoardLemmas
-mod DeliveryLemmas
-mod FeedSteps
-mod FormLemmas
+mod CompleteLemmas
 mod HeadlineLemmas
 mod KeptLemmas
-mod MomentLemmas
 mod PublishedLemmas
-mod SampleLemmas
-pub mod StepLemmas
-mod TableLemmas
-mod WordLemmas

@@ -14,14 +14,16 @@ use Rattle.timetable.specs.declared.timetable.Timetable.{Timetable}
 use Rattle.stop_schedule.specs.declared.table_fault.TableFault.{TableFault}
 use Rattle.feed_reading.specs.Tables.{MeansFeed}
 use Rattle.journey_model.specs.FeedReadings.{is_differential}
-use Rattle.gateway_top.specs.Bodies.{differential_end}
-use Rattle.gateway_top.specs.Done.{Done}
+use Rattle.file_commands.specs.Bodies.{differential_end}
+use Rattle.file_commands.specs.Done.{Done}
 use Rattle.gateway_top.specs.Published.{IsFullFeed, IsSetting, IsZone, PublishesWith, PublishesBoard, PublishesCounts, PublishesFeed, PublishesLines, PublishesSiri, PublishesSituations, PublishesTask}
-use Rattle.gateway_top.specs.Tables.{Pair}
-use Rattle.gateway_top.specs.Words.{Board, IsJobWith, Make, NamedZone, Scope, Serve, Show, Task, ToGtfsrt, ToSiri, by_rule, by_file, board_task, gtfsrt_task, make_task, serve_job, show_task, siri_task, sx_task, task_job}
-use Rattle.gateway_top.specs.Work.{Directory, IsBoardWork, IsFileFeed, IsMakeWork, OverFiles, IsSettingOf, IsShowWork, IsTaskWork, IsToGtfsrtWork, IsToSiriSxWork, IsToSiriWork, IsNamedZone, folder, full, further, zone_limit}
-use Rattle.gateway_top.specs.declared.exit.Exit.{Exit}
-use Rattle.gateway_top.specs.declared.exit.Exit.TheVariants.{Refused}
+use Rattle.command_words.specs.Tables.{Pair}
+use Rattle.command_words.specs.Words.{Board, IsJobWith, Make, NamedZone, Scope, Serve, Show, Task, ToGtfsrt, ToSiri, by_rule, by_file, board_task, gtfsrt_task, make_task, serve_job, show_task, siri_task, sx_task, task_job}
+use Rattle.file_commands.specs.Samples.{IsMakeWork}
+use Rattle.file_commands.specs.Tasks.{IsTaskWork, OverFiles}
+use Rattle.file_commands.specs.Work.{Directory, IsBoardWork, IsFileFeed, IsSettingOf, IsShowWork, IsToGtfsrtWork, IsToSiriSxWork, IsToSiriWork, IsNamedZone, folder, full, further, zone_limit}
+use Rattle.file_commands.specs.declared.exit.Exit.{Exit}
+use Rattle.file_commands.specs.declared.exit.Exit.TheVariants.{Refused}
 use Rattle.gateway_core.specs.declared.setting.Setting.{Setting}
 
 -- what a step found, by its answer

@@ -16,9 +16,9 @@ use Rattle.gateway_server.specs.Answers.{answer_of}
 use Rattle.gateway_server.specs.Log.{IsFront, Leaves}
 use Rattle.gateway_top.specs.Published.{IsSetting}
 use Rattle.gateway_top.specs.Serving.{HasLogged}
-use Rattle.gateway_top.specs.Work.{Directory}
-use Rattle.gateway_top.specs.Tables.{Pair}
-use Rattle.gateway_top.specs.Words.{IsJobWith, Serve, serve_job}
+use Rattle.file_commands.specs.Work.{Directory}
+use Rattle.command_words.specs.Tables.{Pair}
+use Rattle.command_words.specs.Words.{IsJobWith, Serve, serve_job}
 
 -- what arrived of connections, one after the other, after what had arrived before them
 abbrev pub HasArrived : Setting → List Arrival → List Entry → List Arrival → Type 0

@@ -1,6 +1,6 @@
 -- How a run of `serve` with a journal ends, in which each body is on a disk before it is acknowledged; and what a crash
 -- leaves of that disk.
-use Rattle.std.specs.Prelude.{◌≡◌, ◌≤◌, ◌⊎◌, ◌++◌, ℕ, List, [], ◌∷◌, codes, decimal, length, take, true, Option, Some, None, Result, Ok, Err, IfSome}
+use Rattle.std.specs.Prelude.{◌≡◌, ◌≤◌, ◌⊎◌, ◌++◌, ℕ, List, [], ◌∷◌, codes, decimal, length, take, false, true, Option, Some, None, Result, Ok, Err, IfSome}
 use Rattle.gw_base.specs.Answers.{UnlessFree}
 use Rattle.gw_base.specs.Chains.{ok_map}
 use Rattle.gw_base.specs.Changes.{Change}
@@ -14,18 +14,19 @@ use Rattle.gateway_durable.specs.Reopening.{RefusesFile}
 use Rattle.gateway_durable.specs.Replays.{Replays}
 use Rattle.gateway_durable.specs.declared.reopen_fault.ReopenFault.{ReopenFault}
 use Rattle.gateway_durable.specs.declared.reopen_fault.ReopenFault.TheVariants.{Damaged, Disk, Memory, NotJournal, Replay}
+use Rattle.gateway_server.specs.Completeness.{CompletesBy}
 use Rattle.gateway_server.specs.Durable.{journal_room}
 use Rattle.gateway_server.specs.Past.{IsLawfulAfter, LeavesPast, Past, is_unkept}
 use Rattle.gateway_server.specs.Serving.{CountsCausesAfter, Tells}
-use Rattle.gateway_top.specs.Exits.{is_free, status_of, text_of}
+use Rattle.file_commands.specs.Exits.{is_free, status_of, text_of}
 use Rattle.gateway_top.specs.Headline.{HeadlineBy, Shows}
 use Rattle.gateway_top.specs.Published.{IsSetting}
-use Rattle.gateway_top.specs.Runs.{Doorway, GotNothing, HasFailed, IsCarriedOut, IsServing, IsTurnedAway, IsUncalled, Outside, TellsEnd}
+use Rattle.gateway_top.specs.Runs.{Doorway, EndsWell, GotNothing, HasFailed, HasNoFault, IsCarriedOut, IsServing, IsTurnedAway, IsUncalled, Outside, TellsEnd}
 use Rattle.gateway_top.specs.Serving.{HasLogged, ServedBy}
-use Rattle.gateway_top.specs.Work.{Directory, IsSettingOf}
-use Rattle.gateway_top.specs.Words.{IsJobWith, Serve, serve_job, with_journal}
-use Rattle.gateway_top.specs.declared.exit.Exit as exits
-use Rattle.gateway_top.specs.declared.exit.Exit.TheVariants as exit
+use Rattle.file_commands.specs.Work.{Directory, IsSettingOf}
+use Rattle.command_words.specs.Words.{IsJobWith, Serve, serve_job, with_journal}
+use Rattle.file_commands.specs.declared.exit.Exit as exits
+use Rattle.file_commands.specs.declared.exit.Exit.TheVariants as exit
 
 -- how a run ends whose journal isn't opened again
 abbrev pub reopen_end : ReopenFault → exits.Exit
@@ -75,6 +76,13 @@ EndsKeeping setting past disk ended err doorway =
     × ((told : Connections) → Tells doorway.output.before doorway.before told
     → (entries : List Entry) (left : Connections) → HasLogged told doorway.now entries left → EndsUnkept entries))
 
+-- an entry that is lawful after what there was before it, and whose connection takes what is well formed and shows what
+-- is asked for, where there is no cause for a shorter output nor for a body that isn't kept, and the body isn't full
+abbrev pub IsWholeAfter : Type 0 → Type 0 → Setting → Past → Entry → Type 0
+IsWholeAfter Cause Unkept setting past entry =
+    IsLawfulAfter Cause Unkept journal_room setting past entry
+    × CompletesBy Cause Unkept (λ body. journal_room.is_full past.end (length body)) setting past.arrivals entry
+
 -- the journal was opened again, and connections were served after what its bodies gave
 pub record EndsServed (command : Serve) (setting : Setting) (disk : Change (List ℕ)) (ended : ℕ) (err : Change (List ℕ))
     (doorway : Doorway) : Type 0 where
@@ -83,7 +91,7 @@ pub record EndsServed (command : Serve) (setting : Setting) (disk : Change (List
   pub sound : past.is_sound ≡ true
   pub ends : EndsKeeping setting past disk ended err doorway
   pub served : (told : Connections) → Tells doorway.output.before doorway.before told
-      → ServedBy (IsLawfulAfter (HasFailed doorway.output) (HasFailed disk) journal_room setting)
+      → ServedBy (IsWholeAfter (HasFailed doorway.output) (HasFailed disk) setting)
       (LeavesPast journal_room setting) (ended ≡ 0) command.connections past told doorway.clock doorway.now
 
 -- a server with a journal ends as what it is to work over comes out: early, before the disk is called; or as its
@@ -94,6 +102,21 @@ EndsKept command disk (Err end) ended err doorway =
 EndsKept command disk (Ok setting) ended err doorway =
     EndsUnopened setting disk ended err doorway ⊎ EndsServed command setting disk ended err doorway
 
+-- a journal is opened again over what the words name: there is no cause to refuse it but a fault of the disk or want of
+-- memory
+abbrev pub Opens : Serve → Directory → List ℕ → Type 0
+Opens command files file =
+    (setting : Setting) → IsSettingOf command.scope (Some command.keep) files (Ok setting)
+    → (why : ReopenFault) → is_free (reopen_end why) ≡ false → ¬ RefusesFile setting file why
+
+-- a server whose words name a setting, and whose journal is opened again, ends with 0, or before its first connection
+-- for want of memory, where no device failed
+abbrev pub CompletesKept : Serve → Change (List ℕ) → ℕ → Change Directory → Doorway → Type 0
+CompletesKept command disk ended files doorway =
+    ¬ HasFailed files → ¬ HasFailed doorway.output → ¬ HasFailed disk
+    → IfSome files.before (λ told. HasNoFault (IsSettingOf command.scope (Some command.keep) told)
+    → (file : List ℕ) → disk.before ≡ Some file → Opens command told file → EndsWell ended doorway)
+
 -- a run of a server with a journal: it opens over the files that are told, and ends early by a failed device only where
 -- the files failed, or for want of memory
 pub record RunsKept (command : Serve) (disk : Change (List ℕ)) (ended : ℕ) (files : Change Directory)
@@ -103,6 +126,7 @@ pub record RunsKept (command : Serve) (disk : Change (List ℕ)) (ended : ℕ) (
       (λ told. UnlessFree is_free answer (IsSettingOf command.scope (Some command.keep) told))
   pub cause : answer ≡ Err exit.Failed → HasFailed files
   pub ends : EndsKept command disk answer ended err doorway
+  pub completes : CompletesKept command disk ended files doorway
 
 -- a run of words of `serve` with a journal
 pub record IsKeeping (words : List (List ℕ)) (disk : Change (List ℕ)) (ended : ℕ) (outside : Outside) : Type 0 where

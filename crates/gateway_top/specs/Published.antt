@@ -23,13 +23,14 @@ use Rattle.gateway_core.specs.Arrivals.{moments_of, present, schedule_at}
 use Rattle.gateway_core.specs.Deliveries.{schedule_in}
 use Rattle.gateway_core.specs.Gives.{GivesEach}
 use Rattle.gateway_core.specs.Recording.{IsRebuiltOf}
-use Rattle.gateway_top.specs.Tables.{Pair}
-use Rattle.gateway_top.specs.Words.{Board, IsJobWith, Job, Make, NamedZone, Scope, Show, Task, ToGtfsrt, ToSiri, by_rule, by_file, board_task, gtfsrt_task, make_task, serve_job, show_task, siri_task, sx_task, task_job}
-use Rattle.gateway_top.specs.Work.{Arrived, Arrives, Directory, IsStop, OverFiles, nothing}
+use Rattle.command_words.specs.Tables.{Pair}
+use Rattle.command_words.specs.Words.{Board, IsJobWith, Job, Make, NamedZone, Scope, Show, Task, ToGtfsrt, ToSiri, by_rule, by_file, board_task, gtfsrt_task, make_task, serve_job, show_task, siri_task, sx_task, task_job}
+use Rattle.file_commands.specs.Samples.{IsCountOfSample}
+use Rattle.file_commands.specs.Tasks.{OverFiles}
+use Rattle.file_commands.specs.Work.{Arrived, Arrives, Directory, IsStop, nothing}
 use Rattle.gateway_core.specs.declared.setting.Setting.{Setting}
-use Rattle.sample_run.specs.Counts.{counts_text}
-use Rattle.sample_run.specs.Sample.{IsCountOfSample}
-use Rattle.sample_run.specs.declared.counts.SampleCounts.{SampleCounts}
+use Rattle.sample_counts.specs.Counts.{counts_text}
+use Rattle.sample_counts.specs.declared.counts.SampleCounts.{SampleCounts}
 
 -- a zone is the one that is named: of a rule, or of the bytes of a file
 abbrev pub IsZone : NamedZone → Directory → Rules → Type 0

@@ -1,19 +1,20 @@
 -- How a run of the program ends: its status, what standard output and standard error got, and what a server did at its
 -- door.
-use Rattle.std.specs.Prelude.{◌≡◌, ◌≤◌, ◌⊎◌, ℕ, ℤ, List, [], ◌++◌, length, take, codes, decimal, Some, Result, Ok, Err, IfSome}
+use Rattle.std.specs.Prelude.{◌≡◌, ◌≤◌, ◌⊎◌, ℕ, ℤ, List, [], ◌++◌, length, take, codes, decimal, false, Some, Result, Ok, Err, IfSome}
 use Rattle.gw_base.specs.Answers.{UnlessFree}
 use Rattle.gw_base.specs.Changes.{Change}
 use Rattle.gw_base.specs.Connections.{Beside, Connections}
 use Rattle.gw_base.specs.Count.{Rose}
 use Rattle.gw_base.specs.Told.{with_bytes, PutsUnless}
-use Rattle.gateway_top.specs.Done.{Done}
-use Rattle.gateway_top.specs.Exits.{is_free, status_of, text_of}
+use Rattle.file_commands.specs.Done.{Done}
+use Rattle.file_commands.specs.Exits.{is_free, status_of, text_of}
 use Rattle.gateway_top.specs.Serving.{HasCounted, Served}
-use Rattle.gateway_top.specs.Work.{Directory, OverFiles, IsSettingOf, IsTaskWork}
-use Rattle.gateway_top.specs.Tables.{Pair}
-use Rattle.gateway_top.specs.Words.{IsJobWith, IsRefusedWith, Serve, Task, serve_job, task_job}
-use Rattle.gateway_top.specs.declared.exit.Exit.{Exit}
-use Rattle.gateway_top.specs.declared.exit.Exit.TheVariants.{Failed}
+use Rattle.file_commands.specs.Tasks.{IsTaskWork, OverFiles}
+use Rattle.file_commands.specs.Work.{Directory, IsSettingOf}
+use Rattle.command_words.specs.Tables.{Pair}
+use Rattle.command_words.specs.Words.{IsJobWith, IsRefusedWith, Serve, Task, serve_job, task_job}
+use Rattle.file_commands.specs.declared.exit.Exit.{Exit}
+use Rattle.file_commands.specs.declared.exit.Exit.TheVariants.{Failed}
 use Rattle.gateway_core.specs.Arrivals.{Arrival}
 use Rattle.gateway_core.specs.declared.setting.Setting.{Setting}
 use Rattle.gateway_server.specs.Serving.{Tells}
@@ -91,6 +92,16 @@ abbrev pub Ends : Result Done Exit → ℕ → Change (List ℕ) → Change (Lis
 Ends (Ok done) ended out err = EndsDone done ended out err ⊎ EndsCutOff done ended out err
 Ends (Err exit) ended out err = EndsEarly (status_of exit) (text_of exit) ended out err
 
+-- work has no stated fault: where it ends early, that says nothing of the input
+abbrev pub HasNoFault : {A : Type 0} → (Result A Exit → Type 0) → Type 0
+HasNoFault Work = (end : Exit) → is_free end ≡ false → ¬ Work (Err end)
+
+-- a command whose work has no stated fault ends with 0, or with 71 for want of memory, where no device failed
+abbrev pub CompletesTask : Task → ℕ → Change Directory → Change (List ℕ) → Change (List ℕ) → Type 0
+CompletesTask task ended files out err =
+    ¬ HasFailed files → ¬ HasFailed out → ¬ HasFailed err
+    → OverFiles task files.before (λ told. HasNoFault (IsTaskWork task told) → (ended ≡ 0) ⊎ (ended ≡ 71))
+
 -- a run of such a command: it ends as its work comes out over the files that are told, and early by a failed device
 -- only where the files failed, or for want of memory; the work of `make` comes out whatever is told
 pub record RunsTask (task : Task) (ended : ℕ) (files : Change Directory) (out err : Change (List ℕ)) : Type 0 where
@@ -98,6 +109,7 @@ pub record RunsTask (task : Task) (ended : ℕ) (files : Change Directory) (out 
   pub work : OverFiles task files.before (λ told. UnlessFree is_free answer (IsTaskWork task told))
   pub cause : answer ≡ Err Failed → HasFailed files
   pub ends : Ends answer ended out err
+  pub completes : CompletesTask task ended files out err
 
 -- a run of words of such a command
 pub record IsCarriedOut (optional : List Pair) (words : List (List ℕ)) (ended : ℕ) (outside : Outside) : Type 0 where
@@ -138,6 +150,17 @@ EndsServer command past (Ok setting) ended err doorway =
     × ((told : Connections) → Tells doorway.output.before doorway.before told
     → Served (HasFailed doorway.output) (ended ≡ 0) command.connections setting past told doorway.clock doorway.now)
 
+-- a server ends with 0, or for want of memory with 71, before its first connection
+abbrev pub EndsWell : ℕ → Doorway → Type 0
+EndsWell ended doorway = (ended ≡ 0) ⊎ ((ended ≡ 71) × IsUncalled doorway)
+
+-- a server whose words name a setting ends so, where no device failed
+abbrev pub CompletesServer : Serve → ℕ → Change Directory → Doorway → Type 0
+CompletesServer command ended files doorway =
+    ¬ HasFailed files → ¬ HasFailed doorway.output
+    → IfSome files.before
+    (λ told. HasNoFault (IsSettingOf command.scope (Some command.keep) told) → EndsWell ended doorway)
+
 -- a run of a server, before which this had arrived: it opens over the files that are told, and ends early by a failed
 -- device only where the files failed, or for want of memory
 pub record RunsServer (command : Serve) (past : List Arrival) (ended : ℕ) (files : Change Directory)
@@ -147,6 +170,7 @@ pub record RunsServer (command : Serve) (past : List Arrival) (ended : ℕ) (fil
       (λ told. UnlessFree is_free answer (IsSettingOf command.scope (Some command.keep) told))
   pub cause : answer ≡ Err Failed → HasFailed files
   pub ends : EndsServer command past answer ended err doorway
+  pub completes : CompletesServer command ended files doorway
 
 -- a run of words of `serve` without a journal, before which nothing had arrived
 pub record IsServing (optional : List Pair) (words : List (List ℕ)) (ended : ℕ) (outside : Outside) : Type 0 where

@@ -6,6 +6,7 @@ use Rattle.gw_base.specs.Count.{Rose}
 use Rattle.gw_base.specs.declared.door.Entry.{Entry}
 use Rattle.gateway_core.specs.Arrivals.{Arrival}
 use Rattle.gateway_core.specs.declared.setting.Setting.{Setting}
+use Rattle.gateway_server.specs.Completeness.{Completes}
 use Rattle.gateway_server.specs.Log.{IsLawful, IsLogBy, Leaves, moments_given}
 use Rattle.gateway_server.specs.Serving.{CountsCauses}
 
@@ -30,10 +31,15 @@ pub record ServedBy {P : Type 0} (Lawful : P → Entry → Type 0) (LeavesThis :
   pub arrived : P
   pub lawful : IsLogBy Lawful LeavesThis past entries arrived
 
+-- an entry that is lawful after what arrived before it, and whose connection takes what is well formed and shows what
+-- is asked for, where there is no cause for a shorter output
+abbrev pub IsWhole : Type 0 → Setting → List Arrival → Entry → Type 0
+IsWhole Cause setting arrivals entry = IsLawful Cause setting arrivals entry × Completes Cause setting arrivals entry
+
 -- over a gateway that keeps no bodies, after what had arrived before
 abbrev pub Served : Type 0 → Type 0 → ℕ → Setting → List Arrival → Connections → Change (List ℤ) → Beside → Type 0
 Served Cause End most setting past told clock now =
-    ServedBy (IsLawful Cause setting) (Leaves setting) End most past told clock now
+    ServedBy (IsWhole Cause setting) (Leaves setting) End most past told clock now
 
 -- each entry that is lost or shorter than its answer, and so many faults besides, have a fault of their own in the
 -- count of the door, and each entry for which the clock failed has one in the clock's

@@ -2,19 +2,14 @@
 ghost use Rattle.std.specs.Prelude.{◌≡◌, ◌≤◌, ◌++◌, codes, decimal, IsErr};
 ghost use Rattle.gw_base.specs.Count.{Rose, Counts};
 ghost use Rattle.gw_base.specs.Told.{PutsUnless};
-ghost use Rattle.gateway_top.specs.Exits.{status_of, text_of};
+ghost use Rattle.file_commands.specs.Exits.{status_of, text_of};
 ghost use Rattle.gateway_top.specs.Runs.{line};
 
-use crate::exit::Exit;
-use arrayvec::ArrayString;
-use gw_base::{Failed, Sink, put_all};
-use itoa::Buffer;
+use file_commands::Exit;
+use gw_base::{Failed, ShortText, Sink, put_all};
 
 /// The words are no command's.
 const BAD_WORDS: u8 = 2;
-
-// Room for the text of a bad word: nine letters and at most 20 digits.
-const BAD_WORD_ROOM: usize = 32;
 
 // Writes a text as the program's line on standard error.
 fn put_line<E: Sink>(err: &mut E, text: &str) -> Result<(), Failed>
@@ -48,10 +43,6 @@ pub fn turned_away<E: Sink>(err: &mut E, at: u64) -> u8
     ensures counts { E.faults err.old ≤ E.faults err.new }
     ensures others { E.beside err.new ≡ E.beside err.old }
 {
-    let mut digits = Buffer::new();
-    let mut text = ArrayString::<BAD_WORD_ROOM>::new();
-    text.push_str("bad word ");
-    text.push_str(digits.format(at));
-    let _ = put_line(err, text.as_str());
+    let _ = put_line(err, ShortText::of_number("bad word ", at).as_str());
     BAD_WORDS
 }

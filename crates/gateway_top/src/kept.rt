@@ -9,13 +9,13 @@ ghost use Rattle.gateway_server.specs.Serving.{Tells};
 ghost use Rattle.gateway_top.specs.Keeping.{HeadlineKept, IsKeptRun, SurvivesRun};
 ghost use Rattle.gateway_top.specs.Published.{PublishesWith};
 ghost use Rattle.gateway_top.specs.Serving.{HasLogged};
-ghost use Rattle.gateway_top.specs.Words.{IsJobWith, Make, Serve, Task, make_task, serve_job, task_job, with_journal};
+ghost use Rattle.command_words.specs.Words.{IsJobWith, Make, Serve, Task, make_task, serve_job, task_job, with_journal};
 
 use crate::ending::turned_away;
 use crate::kept_run::run_kept;
 use crate::server_run::run_server;
 use crate::task_run::run_task;
-use crate::words::{Work, kept_job};
+use command_words::{Work, kept_job};
 use delivery_journal::Disk;
 use gw_base::{Clock, Door, Files, Sink, Text};
 use std::alloc::Global;

@@ -1,6 +1,6 @@
 //! A run of `serve` with a journal: it opens over its files and its journal, and then serves connections. The
 //! definitions are those of `specs/Keeping.antt`.
-ghost use Rattle.std.specs.Prelude.{◌≡◌, ◌≤◌, ◌⊎◌, ◌++◌, ℕ, Bool, List, true, false, decimal, option_map, IfErr, IfOk, IsErr, IsOk, Ok, OnErr, OnOk, Some};
+ghost use Rattle.std.specs.Prelude.{◌≡◌, ◌≤◌, ◌⊎◌, ◌++◌, ℕ, Bool, List, true, false, decimal, length, option_map, IfErr, IfOk, IsErr, IsOk, Ok, OnErr, OnOk, Some};
 ghost use Rattle.gw_base.specs.Changes.{change};
 ghost use Rattle.gw_base.specs.Connections.{Connections};
 ghost use Rattle.gw_base.specs.Count.{Rose};
@@ -19,31 +19,28 @@ ghost use Rattle.gateway_server.specs.Serving.{CountsCausesAfter, Tells, failure
 ghost use Rattle.gateway_top.specs.Keeping as spec;
 ghost use Rattle.gateway_top.specs.Keeping.{BeginsWith, EndsUnkept, RunsKept, SurvivesRun};
 ghost use Rattle.gateway_top.specs.Serving.{HasLogged, ServedBy};
-ghost use Rattle.gateway_top.specs.Windowed.{HasWindow};
-ghost use Rattle.gateway_top.specs.Works.{server_of};
-ghost use Rattle.gateway_top.specs.declared.exit.Exit.TheVariants as exits;
+ghost use Rattle.command_words.specs.Windowed.{HasWindow};
+ghost use Rattle.command_words.specs.Works.{server_of};
+ghost use Rattle.file_commands.specs.declared.exit.Exit.TheVariants as exits;
 
 use crate::ending::ended;
-use crate::exit::{DONE, Exit};
-use crate::words::Server;
-use crate::work::setting;
+use command_words::Server;
 use delivery_journal::Disk;
+use file_commands::{DONE, Exit, setting};
 use gateway_core::Setting;
 use gateway_durable::{Durable, ReopenFault};
-use gateway_server::serve_all_kept;
-use gw_base::{Bytes, Clock, Door, Failed, Files, Sink, Text};
+use gateway_server::{serve_all_kept, what_is_well_formed_is_taken_law};
+use gw_base::{Bytes, Clock, Door, Failed, Files, ShortText, Sink, Text};
 use http_talk::HeadReader;
-use itoa::Buffer;
 use std::alloc::{AllocError, Global};
 
 // The end of a run whose journal is refused, with a number.
 fn numbered(alloc: Global, name: &str, number: u64) -> Result<Exit, AllocError>
+    requires { length name.now ≤ 64 }
     ensures { IfOk result (λ end. end ≡ exits.Refused (name.now ++ decimal number)) }
 {
-    let mut digits = Buffer::new();
-    let mut text = Text::copied(alloc, name)?;
-    text.push(digits.format(number))?;
-    Ok(Exit::Refused(text))
+    let text = ShortText::of_number(name, number);
+    Ok(Exit::Refused(Text::copied(alloc, text.as_str())?))
 }
 
 // How a run ends whose journal isn't opened again.
@@ -171,6 +168,7 @@ pub fn run_kept<F: Files, D: Door, C: Clock, E: Sink, K: Disk>(
         × (D.faults door.old ≤ D.faults door.new) × (C.faults clock.old ≤ C.faults clock.new)
         × (K.faults disk.old ≤ K.faults disk.new) }
 {
+    what_is_well_formed_is_taken_law();
     let setting = match setting(alloc, files, &server.scope, Some(server.keep)) {
         Ok(setting) => setting,
         Err(exit) => return ended(err, &exit),

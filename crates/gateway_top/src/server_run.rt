@@ -4,18 +4,18 @@ ghost use Rattle.std.specs.Prelude.{◌≡◌, ◌≤◌, [], false, IfOk, IsErr
 ghost use Rattle.gw_base.specs.Changes.{change};
 ghost use Rattle.gw_base.specs.Connections.{Connections};
 ghost use Rattle.gw_base.specs.Count.{Rose};
+ghost use Rattle.gateway_server.specs.Log.{IsLawful, Leaves};
 ghost use Rattle.gateway_server.specs.Serving.{Tells, failures};
 ghost use Rattle.gateway_top.specs.Runs.{RunsServer};
-ghost use Rattle.gateway_top.specs.Serving.{HasCounted, Served};
-ghost use Rattle.gateway_top.specs.Windowed.{HasWindow};
-ghost use Rattle.gateway_top.specs.Works.{server_of};
+ghost use Rattle.gateway_top.specs.Serving.{HasCounted, ServedBy};
+ghost use Rattle.command_words.specs.Windowed.{HasWindow};
+ghost use Rattle.command_words.specs.Works.{server_of};
 
 use crate::ending::ended;
-use crate::exit::{DONE, Exit};
-use crate::words::Server;
-use crate::work::setting;
+use command_words::Server;
+use file_commands::{DONE, Exit, setting};
 use gateway_core::{Gateway, Setting};
-use gateway_server::serve;
+use gateway_server::{serve, what_is_well_formed_is_taken_law};
 use gw_base::{Bytes, Clock, Door, Failed, Files, Sink};
 use http_talk::HeadReader;
 use std::alloc::{AllocError, Global};
@@ -32,8 +32,8 @@ fn served<D: Door, C: Clock>(
     requires absent { (D.beside door.old).present ≡ false }
     ensures memory { OnErr result ((door.new ≡ door.old) × (clock.new ≡ clock.old)) }
     ensures served { IfOk result (λ end. (told : Connections) → Tells (D.told door.old) (D.beside door.old) told
-        → Served (Rose (D.faults door.old) (D.faults door.new)) (IsOk end) connections setting [] told
-        (change C.told C.faults clock.old clock.new) (D.beside door.new)) }
+        → ServedBy (IsLawful (Rose (D.faults door.old) (D.faults door.new)) setting) (Leaves setting) (IsOk end)
+        connections [] told (change C.told C.faults clock.old clock.new) (D.beside door.new)) }
     ensures causes { IfOk result (λ end. (told : Connections) → Tells (D.told door.old) (D.beside door.old) told
         → HasCounted setting [] told (D.beside door.new) (failures end) (change D.told D.faults door.old door.new)
         (change C.told C.faults clock.old clock.new)) }
@@ -81,6 +81,7 @@ pub fn run_server<F: Files, D: Door, C: Clock, E: Sink>(
     ensures counts { (F.faults files.old ≤ F.faults files.new) × (E.faults err.old ≤ E.faults err.new)
         × (D.faults door.old ≤ D.faults door.new) × (C.faults clock.old ≤ C.faults clock.new) }
 {
+    what_is_well_formed_is_taken_law();
     let setting = match setting(alloc, files, &server.scope, Some(server.keep)) {
         Ok(setting) => setting,
         Err(exit) => return ended(err, &exit),

@@ -5,15 +5,13 @@ ghost use Rattle.gw_base.specs.Count.{Rose};
 ghost use Rattle.gw_base.specs.Told.{with_bytes, PutsUnless};
 ghost use Rattle.gateway_top.specs.Published.{PublishesTask};
 ghost use Rattle.gateway_top.specs.Runs.{RunsTask};
-ghost use Rattle.gateway_top.specs.Windowed.{CanRun};
-ghost use Rattle.gateway_top.specs.Work.{OverFiles, reads_files};
-ghost use Rattle.gateway_top.specs.Works.{task_of};
+ghost use Rattle.command_words.specs.Windowed.{CanRun, reads_files};
+ghost use Rattle.file_commands.specs.Tasks.{OverFiles};
+ghost use Rattle.command_words.specs.Works.{task_of};
 
-use crate::done::Done;
 use crate::ending::ended;
-use crate::exit::{DONE, Exit};
-use crate::words::Task;
-use crate::work::task_work;
+use command_words::Task;
+use file_commands::{DONE, Done, Exit, task_work};
 use gw_base::{Failed, Files, Sink, put_all};
 use std::alloc::Global;
 

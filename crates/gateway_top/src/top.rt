@@ -8,13 +8,13 @@ ghost use Rattle.gateway_server.specs.Serving.{Tells};
 ghost use Rattle.gateway_top.specs.Headline.{Headline};
 ghost use Rattle.gateway_top.specs.Published.{Publishes};
 ghost use Rattle.gateway_top.specs.Runs.{IsRun, line};
-ghost use Rattle.gateway_top.specs.Words.{IsJob, Make, Task, make_task, task_job};
+ghost use Rattle.command_words.specs.Words.{IsJob, Make, Task, make_task, task_job};
 
 use crate::ending::{ended, turned_away};
-use crate::exit::{DONE, Exit, FAILED};
 use crate::server_run::run_server;
 use crate::task_run::run_task;
-use crate::words::{Work, job};
+use command_words::{Work, job};
+use file_commands::{DONE, Exit, FAILED};
 use gw_base::{Clock, Door, Failed, Files, Sink, Text, put_all};
 use std::alloc::Global;
 

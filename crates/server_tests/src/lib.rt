@@ -20,8 +20,6 @@ mod of_http_talk;
 #[cfg(test)]
 mod of_sample_maker;
 #[cfg(test)]
-mod of_sample_run;
-#[cfg(test)]
 mod of_span_pool;
 #[cfg(test)]
 mod of_tcp_door;

@@ -3,11 +3,11 @@ use Rattle.std.proofs.Common.{ap, inl, inr, refl, []}
 use Rattle.std.specs.Prelude.{option_map}
 use Rattle.gw_base.specs.Changes.{change}
 use Rattle.gw_base.specs.Count.{Rose}
-use Rattle.gateway_top.specs.Words.{with_journal}
-use Rattle.gateway_top.specs.Works.{server_of, task_of}
+use Rattle.command_words.specs.Words.{with_journal}
+use Rattle.command_words.specs.Works.{server_of, task_of}
 use Rattle.gateway_top.proofs.HeadlineLemmas.{of_run}
 use Rattle.gateway_top.proofs.KeptLemmas.{idle_kept, of_bare, of_kept}
-use Rattle.gateway_top.proofs.WordLemmas.{can_run, serves}
+use Rattle.command_words.proofs.WordLemmas.{can_run, serves}
 use Rattle.gateway_top.proofs.kept.gateway_kept.Goals as goal
 
 -- ---- a server with a journal

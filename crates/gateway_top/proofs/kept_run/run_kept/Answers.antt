@@ -1,9 +1,9 @@
 -- A server with a journal that ended before its first connection, and one that served.
-use Rattle.std.proofs.Common.{arith, true, false, List, Result, Ok, Err, refl, ap, sym, ◌∙◌, inl, inr, subst}
+use Rattle.std.proofs.Common.{arith, length, true, false, List, Result, Ok, Err, refl, ap, sym, ◌∙◌, inl, inr, subst}
 use Rattle.std.specs.Prelude.{◌≡◌, ◌≤◌, ℕ, IsOk, option_map}
 use Rattle.delivery_journal.specs.Standing.{opened_file}
 use Rattle.gateway_top.specs.Runs.{Doorway}
-use Rattle.gateway_top.specs.Works.{server_of}
+use Rattle.command_words.specs.Works.{server_of}
 use Rattle.gw_base.specs.Changes.{change}
 use Rattle.gw_base.specs.Connections.{Beside}
 use Rattle.gw_base.specs.Count.{Rose}
@@ -12,9 +12,11 @@ use Rattle.gw_base.proofs.CountLemmas.{rose-after}
 use Rattle.gateway_core.specs.declared.setting.Setting.{Setting}
 use Rattle.gateway_durable.specs.declared.reopen_fault.ReopenFault.TheVariants as why
 use Rattle.gateway_server.specs.Crashes.{HoldsOfBodies}
+use Rattle.gateway_server.specs.Durable.{journal_room}
 use Rattle.gateway_top.specs.Keeping.{SurvivesRun}
-use Rattle.gateway_top.specs.declared.exit.Exit.{Exit}
-use Rattle.gateway_top.specs.declared.exit.Exit.TheVariants.{Failed, Memory}
+use Rattle.file_commands.specs.declared.exit.Exit.{Exit}
+use Rattle.file_commands.specs.declared.exit.Exit.TheVariants.{Failed, Memory}
+use Rattle.gateway_top.proofs.CompleteLemmas.{runs_kept}
 use Rattle.gateway_top.proofs.HeadlineLemmas.{not_turned_away}
 use Rattle.gateway_top.proofs.KeptLemmas.{counts_kept, ends_served, logged as kept_entries, no_entries, same_kept, uncalled, unlogged}
 use Rattle.gateway_top.proofs.kept_run.run_kept.Goals as goal
@@ -40,15 +42,10 @@ not_zero ended is zero = cc
 -- the folder, the zone or the window
 
 pub returns-in-Err-clause-run : goal.returns-in-Err-clause-run
-returns-in-Err-clause-run g c = record {
-  answer = Err c.in-Err.exit;
-  work = c.in-Err.ensures.told;
-  cause = λ is. c.in-Err.ensures.counts.cause cc;
-  ends = (
-    record { status_is = c.ended.ensures.status; told = c.ended.ensures.front },
-    record { output = refl; output_faults = refl; connections = refl; clock = refl; clock_faults = refl },
-  );
-}
+returns-in-Err-clause-run g c = runs_kept _ _ _ _ _ _ (Err c.in-Err.exit) c.in-Err.ensures.told (λ is. c.in-Err.ensures.counts.cause cc) (
+  record { status_is = c.ended.ensures.status; told = c.ended.ensures.front },
+  record { output = refl; output_faults = refl; connections = refl; clock = refl; clock_faults = refl },
+)
 
 pub returns-in-Err-clause-crash : goal.returns-in-Err-clause-crash
 returns-in-Err-clause-crash g c = λ file is told tells entries left logged. (
@@ -66,18 +63,13 @@ returns-in-Err-clause-worded g c = not_turned_away c.in-Err.exit c.ended.result 
 pub returns-in-Err-reopened-clause-run : goal.returns-in-Err-reopened-clause-run
 returns-in-Err-reopened-clause-run g c =
     let fault = c.in-Err-reopened.ensures.fault in
-    record {
-      answer = Ok c.in-Ok.setting;
-      work = c.in-Ok.ensures.told;
-      cause = λ is. absurd (not_failed c.in-Ok.setting is);
-      ends = inl (record {
-        why = fault.0;
-        refused = fault.1;
-        cause = fault.3;
-        ends = rw (← fault.2) (record { status_is = c.ended-in-Err-reopened.ensures.status; told = c.ended-in-Err-reopened.ensures.front });
-        uncalled = record { output = refl; output_faults = refl; connections = refl; clock = refl; clock_faults = refl };
-      });
-    }
+    runs_kept _ _ _ _ _ _ (Ok c.in-Ok.setting) c.in-Ok.ensures.told (λ is. absurd (not_failed c.in-Ok.setting is)) (inl (record {
+      why = fault.0;
+      refused = fault.1;
+      cause = fault.3;
+      ends = rw (← fault.2) (record { status_is = c.ended-in-Err-reopened.ensures.status; told = c.ended-in-Err-reopened.ensures.front });
+      uncalled = record { output = refl; output_faults = refl; connections = refl; clock = refl; clock_faults = refl };
+    }))
 
 pub returns-in-Err-reopened-clause-crash : goal.returns-in-Err-reopened-clause-crash
 returns-in-Err-reopened-clause-crash g c = λ file is told tells entries left logged. (
@@ -104,16 +96,12 @@ returns-then-is_sound-clause-run g c =
     } in
     let disk = change g.K.Disk.told g.K.Disk.faults c.args.disk.now c.served.new.disk in
     let own = c.in-Ok-reopened.durable.gate.setting in
-    record {
-      answer = Ok c.in-Ok.setting;
-      work = c.in-Ok.ensures.told;
-      cause = λ is. absurd (not_failed c.in-Ok.setting is);
-      ends = inr (ends_served c.in-Ok.setting own disk (Rose (g.K.Disk.faults c.reopened.new.disk) (g.K.Disk.faults c.served.new.disk)) doorway begins.0 c.in-Ok-reopened.ensures.setting wider
-          (server_of c.args.server.now) 0 (change g.E.Sink.told g.E.Sink.faults c.args.err.now c.args.err.now) (IsOk c.in-Ok-Ok.field-0 × (c.served.new.durable.journal.is_sound ≡ true)) begins.3 begins.2
-          (inl (refl, refl, counts_kept c.in-Ok.setting own disk (Rose (g.K.Disk.faults c.reopened.new.disk) (g.K.Disk.faults c.served.new.disk)) doorway begins.0 c.in-Ok-reopened.ensures.setting wider 0 (λ told tells entries left entered. rw c.in-Ok-Ok.field-0-is at c.in-Ok-Ok.ensures.causes told tells begins.0 begins.1 entries left entered)))
-          (λ _. (rw c.in-Ok-Ok.field-0-is refl, sym c.is_sound.ensures.value ∙ c.if-is_sound.true))
-          (λ told tells. c.in-Ok-Ok.ensures.served told tells begins.0 begins.1));
-    }
+    runs_kept _ _ _ _ _ _ (Ok c.in-Ok.setting) c.in-Ok.ensures.told (λ is. absurd (not_failed c.in-Ok.setting is)) (inr (ends_served c.in-Ok.setting own disk (Rose (g.K.Disk.faults c.reopened.new.disk) (g.K.Disk.faults c.served.new.disk)) doorway begins.0 c.in-Ok-reopened.ensures.setting wider
+    (server_of c.args.server.now) 0 (change g.E.Sink.told g.E.Sink.faults c.args.err.now c.args.err.now) (IsOk c.in-Ok-Ok.field-0 × (c.served.new.durable.journal.is_sound ≡ true)) begins.3 begins.2
+    (inl (refl, refl, counts_kept c.in-Ok.setting own disk (Rose (g.K.Disk.faults c.reopened.new.disk) (g.K.Disk.faults c.served.new.disk)) doorway begins.0 c.in-Ok-reopened.ensures.setting wider 0 (λ told tells entries left entered. rw c.in-Ok-Ok.field-0-is at c.in-Ok-Ok.ensures.causes told tells begins.0 begins.1 entries left entered)))
+    (λ _. (rw c.in-Ok-Ok.field-0-is refl, sym c.is_sound.ensures.value ∙ c.if-is_sound.true))
+    (λ before entry lawful. c.what_is_well_formed_is_taken_law.ensures.kept (g.D.Sink.faults c.args.door.now) (g.D.Sink.faults c.served.new.door) (g.K.Disk.faults c.args.disk.now) (g.K.Disk.faults c.served.new.disk) (λ body. journal_room.is_full before.end (length body)) c.in-Ok.setting before.arrivals entry lawful)
+    (λ told tells. c.in-Ok-Ok.ensures.served told tells begins.0 begins.1)))
 
 pub returns-then-is_sound-clause-crash : goal.returns-then-is_sound-clause-crash
 returns-then-is_sound-clause-crash g c = λ file is told tells entries left entered.
@@ -138,16 +126,12 @@ returns-in-Ok-Ok-clause-run g c =
     let over = sym c.is_sound.ensures.value ∙ c.if-is_sound.false in
     let disk = change g.K.Disk.told g.K.Disk.faults c.args.disk.now c.served.new.disk in
     let own = c.in-Ok-reopened.durable.gate.setting in
-    record {
-      answer = Ok c.in-Ok.setting;
-      work = c.in-Ok.ensures.told;
-      cause = λ is. absurd (not_failed c.in-Ok.setting is);
-      ends = inr (ends_served c.in-Ok.setting own disk (Rose (g.K.Disk.faults c.reopened.new.disk) (g.K.Disk.faults c.served.new.disk)) doorway begins.0 c.in-Ok-reopened.ensures.setting wider
-          (server_of c.args.server.now) c.ended-else-is_sound.result (change g.E.Sink.told g.E.Sink.faults c.args.err.now c.ended-else-is_sound.new.err) (IsOk c.in-Ok-Ok.field-0 × (c.served.new.durable.journal.is_sound ≡ true)) begins.3 begins.2
-          (inr (inr (wider (c.served.ensures.disk_failed over), record { status_is = c.ended-else-is_sound.ensures.status; told = c.ended-else-is_sound.ensures.front }, counts_kept c.in-Ok.setting own disk (Rose (g.K.Disk.faults c.reopened.new.disk) (g.K.Disk.faults c.served.new.disk)) doorway begins.0 c.in-Ok-reopened.ensures.setting wider 0 (λ told tells entries left entered. rw c.in-Ok-Ok.field-0-is at c.in-Ok-Ok.ensures.causes told tells begins.0 begins.1 entries left entered), λ told tells entries left entered. c.in-Ok-Ok.ensures.unkept over told tells begins.0 begins.1 begins.2 entries left entered)))
-          (λ zero. absurd (not_zero c.ended-else-is_sound.result c.ended-else-is_sound.ensures.status zero))
-          (λ told tells. c.in-Ok-Ok.ensures.served told tells begins.0 begins.1));
-    }
+    runs_kept _ _ _ _ _ _ (Ok c.in-Ok.setting) c.in-Ok.ensures.told (λ is. absurd (not_failed c.in-Ok.setting is)) (inr (ends_served c.in-Ok.setting own disk (Rose (g.K.Disk.faults c.reopened.new.disk) (g.K.Disk.faults c.served.new.disk)) doorway begins.0 c.in-Ok-reopened.ensures.setting wider
+    (server_of c.args.server.now) c.ended-else-is_sound.result (change g.E.Sink.told g.E.Sink.faults c.args.err.now c.ended-else-is_sound.new.err) (IsOk c.in-Ok-Ok.field-0 × (c.served.new.durable.journal.is_sound ≡ true)) begins.3 begins.2
+    (inr (inr (wider (c.served.ensures.disk_failed over), record { status_is = c.ended-else-is_sound.ensures.status; told = c.ended-else-is_sound.ensures.front }, counts_kept c.in-Ok.setting own disk (Rose (g.K.Disk.faults c.reopened.new.disk) (g.K.Disk.faults c.served.new.disk)) doorway begins.0 c.in-Ok-reopened.ensures.setting wider 0 (λ told tells entries left entered. rw c.in-Ok-Ok.field-0-is at c.in-Ok-Ok.ensures.causes told tells begins.0 begins.1 entries left entered), λ told tells entries left entered. c.in-Ok-Ok.ensures.unkept over told tells begins.0 begins.1 begins.2 entries left entered)))
+    (λ zero. absurd (not_zero c.ended-else-is_sound.result c.ended-else-is_sound.ensures.status zero))
+    (λ before entry lawful. c.what_is_well_formed_is_taken_law.ensures.kept (g.D.Sink.faults c.args.door.now) (g.D.Sink.faults c.served.new.door) (g.K.Disk.faults c.args.disk.now) (g.K.Disk.faults c.served.new.disk) (λ body. journal_room.is_full before.end (length body)) c.in-Ok.setting before.arrivals entry lawful)
+    (λ told tells. c.in-Ok-Ok.ensures.served told tells begins.0 begins.1)))
 
 pub returns-in-Ok-Ok-clause-crash : goal.returns-in-Ok-Ok-clause-crash
 returns-in-Ok-Ok-clause-crash g c = λ file is told tells entries left entered.
@@ -171,16 +155,12 @@ returns-in-Ok-Err-clause-run g c =
     } in
     let disk = change g.K.Disk.told g.K.Disk.faults c.args.disk.now c.served.new.disk in
     let own = c.in-Ok-reopened.durable.gate.setting in
-    record {
-      answer = Ok c.in-Ok.setting;
-      work = c.in-Ok.ensures.told;
-      cause = λ is. absurd (not_failed c.in-Ok.setting is);
-      ends = inr (ends_served c.in-Ok.setting own disk (Rose (g.K.Disk.faults c.reopened.new.disk) (g.K.Disk.faults c.served.new.disk)) doorway begins.0 c.in-Ok-reopened.ensures.setting wider
-          (server_of c.args.server.now) c.ended-in-Ok-Err.result (change g.E.Sink.told g.E.Sink.faults c.args.err.now c.ended-in-Ok-Err.new.err) (IsOk c.in-Ok-Err.field-0 × (c.served.new.durable.journal.is_sound ≡ true)) begins.3 begins.2
-          (inr (inl (c.in-Ok-Err.ensures.failed (rw c.in-Ok-Err.field-0-is refl), record { status_is = c.ended-in-Ok-Err.ensures.status; told = c.ended-in-Ok-Err.ensures.front }, counts_kept c.in-Ok.setting own disk (Rose (g.K.Disk.faults c.reopened.new.disk) (g.K.Disk.faults c.served.new.disk)) doorway begins.0 c.in-Ok-reopened.ensures.setting wider 1 (λ told tells entries left entered. rw c.in-Ok-Err.field-0-is at c.in-Ok-Err.ensures.causes told tells begins.0 begins.1 entries left entered))))
-          (λ zero. absurd (not_zero c.ended-in-Ok-Err.result c.ended-in-Ok-Err.ensures.status zero))
-          (λ told tells. c.in-Ok-Err.ensures.served told tells begins.0 begins.1));
-    }
+    runs_kept _ _ _ _ _ _ (Ok c.in-Ok.setting) c.in-Ok.ensures.told (λ is. absurd (not_failed c.in-Ok.setting is)) (inr (ends_served c.in-Ok.setting own disk (Rose (g.K.Disk.faults c.reopened.new.disk) (g.K.Disk.faults c.served.new.disk)) doorway begins.0 c.in-Ok-reopened.ensures.setting wider
+    (server_of c.args.server.now) c.ended-in-Ok-Err.result (change g.E.Sink.told g.E.Sink.faults c.args.err.now c.ended-in-Ok-Err.new.err) (IsOk c.in-Ok-Err.field-0 × (c.served.new.durable.journal.is_sound ≡ true)) begins.3 begins.2
+    (inr (inl (c.in-Ok-Err.ensures.failed (rw c.in-Ok-Err.field-0-is refl), record { status_is = c.ended-in-Ok-Err.ensures.status; told = c.ended-in-Ok-Err.ensures.front }, counts_kept c.in-Ok.setting own disk (Rose (g.K.Disk.faults c.reopened.new.disk) (g.K.Disk.faults c.served.new.disk)) doorway begins.0 c.in-Ok-reopened.ensures.setting wider 1 (λ told tells entries left entered. rw c.in-Ok-Err.field-0-is at c.in-Ok-Err.ensures.causes told tells begins.0 begins.1 entries left entered))))
+    (λ zero. absurd (not_zero c.ended-in-Ok-Err.result c.ended-in-Ok-Err.ensures.status zero))
+    (λ before entry lawful. c.what_is_well_formed_is_taken_law.ensures.kept (g.D.Sink.faults c.args.door.now) (g.D.Sink.faults c.served.new.door) (g.K.Disk.faults c.args.disk.now) (g.K.Disk.faults c.served.new.disk) (λ body. journal_room.is_full before.end (length body)) c.in-Ok.setting before.arrivals entry lawful)
+    (λ told tells. c.in-Ok-Err.ensures.served told tells begins.0 begins.1)))
 
 pub returns-in-Ok-Err-clause-crash : goal.returns-in-Ok-Err-clause-crash
 returns-in-Ok-Err-clause-crash g c = λ file is told tells entries left entered.
@@ -201,24 +181,19 @@ returns-in-Ok-Err-clause-worded g c = not_turned_away Failed c.ended-in-Ok-Err.r
 -- memory for what the first connection needs
 
 pub returns-clause-run : goal.returns-clause-run
-returns-clause-run g c = record {
-  answer = Ok c.in-Ok.setting;
-  work = c.in-Ok.ensures.told;
-  cause = λ is. absurd (not_failed c.in-Ok.setting is);
-  ends = inl (record {
-    why = why.Memory;
-    refused = λ file is. tt;
-    cause = λ is. absurd (not_disk is);
-    ends = record { status_is = c.ended-in-Err-served.ensures.status; told = c.ended-in-Err-served.ensures.front };
-    uncalled = record {
-      output = ap g.D.Sink.told c.in-Err-served.ensures.memory.0;
-      output_faults = ap g.D.Sink.faults c.in-Err-served.ensures.memory.0;
-      connections = ap g.D.Sink.beside c.in-Err-served.ensures.memory.0;
-      clock = ap g.C.Clock.told c.in-Err-served.ensures.memory.1;
-      clock_faults = ap g.C.Clock.faults c.in-Err-served.ensures.memory.1;
-    };
-  });
-}
+returns-clause-run g c = runs_kept _ _ _ _ _ _ (Ok c.in-Ok.setting) c.in-Ok.ensures.told (λ is. absurd (not_failed c.in-Ok.setting is)) (inl (record {
+  why = why.Memory;
+  refused = λ file is. tt;
+  cause = λ is. absurd (not_disk is);
+  ends = record { status_is = c.ended-in-Err-served.ensures.status; told = c.ended-in-Err-served.ensures.front };
+  uncalled = record {
+    output = ap g.D.Sink.told c.in-Err-served.ensures.memory.0;
+    output_faults = ap g.D.Sink.faults c.in-Err-served.ensures.memory.0;
+    connections = ap g.D.Sink.beside c.in-Err-served.ensures.memory.0;
+    clock = ap g.C.Clock.told c.in-Err-served.ensures.memory.1;
+    clock_faults = ap g.C.Clock.faults c.in-Err-served.ensures.memory.1;
+  };
+}))
 
 pub returns-clause-crash : goal.returns-clause-crash
 returns-clause-crash g c = λ file is told tells entries left logged.

@@ -3,11 +3,11 @@ use Rattle.std.proofs.Common.{inl, inr, refl, []}
 use Rattle.std.specs.Prelude.{ℕ, ◌≡◌}
 use Rattle.gw_base.specs.Changes.{change}
 use Rattle.gw_base.specs.Count.{Rose}
-use Rattle.gateway_top.specs.Words.{make_task}
-use Rattle.gateway_top.specs.Works.{server_of, task_of}
+use Rattle.command_words.specs.Words.{make_task}
+use Rattle.command_words.specs.Works.{server_of, task_of}
 use Rattle.gateway_top.proofs.HeadlineLemmas.{idle, of_run}
 use Rattle.gateway_top.proofs.PublishedLemmas.{by_server, by_task}
-use Rattle.gateway_top.proofs.WordLemmas.{can_run, not_both, reads_none, serves}
+use Rattle.command_words.proofs.WordLemmas.{can_run, not_both, reads_none, serves}
 use Rattle.gateway_top.proofs.top.gateway.Goals as goal
 
 -- ---- a server

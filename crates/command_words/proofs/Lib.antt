@@ -1,0 +1,4 @@
+mod FormLemmas
+mod MomentLemmas
+mod TableLemmas
+pub mod WordLemmas

@@ -1,0 +1,16 @@
+use Rattle.std.proofs.Common.{sym, ◌∙◌}
+use Rattle.std.proofs.lemmas.List.{take_rest}
+use Rattle.command_words.proofs.WordLemmas.{read_at}
+use Rattle.command_words.proofs.words.to_gtfsrt.Goals as goal
+use Rattle.service_day.specs.Utc.{utc_of}
+
+pub returns : goal.returns
+returns c =
+    let is = c.requires.1 in
+    let words = c.args.words.now in
+    record {
+      name = is.name;
+      scope = c.scope_in.ensures;
+      at = read_at utc_of words 10 _ _ _ is.at c.index-words-10.is (sym c.moment.ensures ∙ c.unwrap.ensures);
+      more = sym (take_rest words 11);
+    }

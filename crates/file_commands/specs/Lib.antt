@@ -1,0 +1,10 @@
+pub mod Bodies
+pub mod Done
+pub mod Exits
+pub mod FolderTexts
+pub mod Made
+pub mod Outputs
+pub mod Samples
+pub mod Served
+pub mod Tasks
+pub mod Work

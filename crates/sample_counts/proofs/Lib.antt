@@ -1,0 +1,3 @@
+mod Merging
+mod StopLemmas
+mod TallyLemmas

@@ -1,7 +1,0 @@
-mod ArrivalLemmas
-mod MadeFacts
-mod Merging
-mod StepLemmas
-mod StopLemmas
-mod TallyLemmas
-mod UpdateLemmas
