@@ -4,7 +4,7 @@ ghost use Rattle.gw_base.specs.declared.messages.Entity.{Entity};
 ghost use Rattle.gw_base.specs.declared.messages.Feed.{Feed};
 ghost use Rattle.timetable.specs.Seen.{seen};
 ghost use Rattle.journey_model.specs.Situations.{AreKnown};
-ghost use Rattle.feed_reading.specs.Tables.{MeansFeed, with_entity};
+ghost use Rattle.feed_reading.specs.Tables.{MeansEntity, MeansFeed, with_entity};
 ghost use Rattle.feed_writing.specs.Written.{written};
 ghost use Rattle.alert_map.specs.Alerts as spec;
 
@@ -41,9 +41,9 @@ fn message(alloc: Global, table: &Timetable, situation: &Situation) -> Result<En
 }
 
 /// The bytes of a situation's entity as a field of a feed (GTFS Realtime reference, FeedEntity), whether it is served
-/// or not: the id `alert:` with the situation's number, and its alert. After the bytes of a feed they mean that feed
-/// with this entity more. The condition is that the timetable has all that is referred to. Err for want of memory, also
-/// where there are more bytes than a buffer can have.
+/// or not: the id `alert:` with the situation's number, and its alert. They mean this entity, and after the bytes of a
+/// feed that feed with it. The condition is that the timetable has all that is referred to. Err for want of memory,
+/// also where there are more bytes than a buffer can have.
 pub fn alert_entity(
     alloc: Global,
     table: &Timetable,
@@ -52,6 +52,7 @@ pub fn alert_entity(
     requires { AreKnown (seen table.now) situation.now.refs }
     ensures bytes { IfOk result
         (λ bytes. bytes ≡ written (spec.alert_message (seen table.now) situation.now)) }
+    ensures is_entity { IfOk result (λ bytes. MeansEntity bytes (spec.alert_message (seen table.now) situation.now)) }
     ensures means { IfOk result (λ bytes. (before : List ℕ) (feed : Feed) → MeansFeed before feed
         → MeansFeed (before ++ bytes)
         (with_entity feed (spec.alert_message (seen table.now) situation.now))) }

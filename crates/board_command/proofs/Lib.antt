@@ -1,3 +1,2 @@
 pub mod ReadLemmas
 pub mod ShownLemmas
-pub mod SortedLemmas

@@ -1,11 +1,10 @@
 -- The journeys of the served feed that is read again are the latest records that say something.
-use Rattle.std.proofs.Common.{◌≡◌, ◌∙◌, ◌∷◌, [], Bool, true, false, List, map, None, Ordering, Less, Equal, Greater, refl, sym, ap, subst}
-use Rattle.std.proofs.lemmas.Bool.{and_parts, false≢true, true≢false}
+use Rattle.std.proofs.Common.{◌≡◌, ◌∙◌, ◌∷◌, [], Bool, true, false, List, map, None, refl, sym, ap, subst}
+use Rattle.std.proofs.lemmas.Bool.{and_parts, true≢false}
 use Rattle.std.proofs.lemmas.List.Sorted.{ranks_by}
 use Rattle.std.specs.Prelude.{filter}
 use Rattle.std.specs.List.{AllByRecursion, list_all, list_any}
 use Rattle.std.specs.List.Sorted.{IsPermutation}
-use Rattle.std.specs.Ordering.{is_eq, is_lt, ordering_reverse}
 use Rattle.gw_base.specs.declared.messages.Feed.{Feed}
 use Rattle.journey_model.specs.FeedReadings.{last_of_each, last_reading}
 use Rattle.journey_model.specs.Records.{Recorded}
@@ -22,43 +21,8 @@ use Rattle.gateway_core.proofs.LatestLemmas.{none_after}
 use Rattle.gateway_core.proofs.OrderedLemmas.{ordered_filter}
 use Rattle.gateway_core.proofs.StandingLemmas.{journeys_by_key}
 use Rattle.gateway_core.proofs.WinnerLemmas.{journeys as journeys_keyed}
-use Rattle.board_command.proofs.SortedLemmas.{IsStrict, only_order, sorted_rises}
-
--- ---- the order of readings, by service day and then trip number
-
-abbrev reading_key : DatedReading → Key
-reading_key one = (one.day, one.trip.0)
-
-abbrev before : DatedReading → DatedReading → Bool
-before a b = is_lt (key_cmp (reading_key a) (reading_key b))
-
-abbrev same : DatedReading → DatedReading → Bool
-same a b = is_eq (key_cmp (reading_key a) (reading_key b))
-
-reversed : (r : Ordering) → r ≡ ordering_reverse r → is_eq r ≡ true
-reversed Less e = absurd (true≢false (ap is_lt e))
-reversed Equal e = refl
-reversed Greater e = absurd (false≢true (ap is_lt e))
-
-less_apart : (r : Ordering) → is_lt r ≡ true → is_eq r ≡ false
-less_apart Less e = refl
-less_apart Equal e = absurd (false≢true e)
-less_apart Greater e = refl
-
-equal_is : (r : Ordering) → is_eq r ≡ true → r ≡ Equal
-equal_is Less e = absurd (false≢true e)
-equal_is Equal e = refl
-equal_is Greater e = absurd (false≢true e)
-
-self : (x : DatedReading) → same x x ≡ true
-self x = reversed (key_cmp (reading_key x) (reading_key x)) (journeys_keyed.total.antisymm (reading_key x) (reading_key x))
-
-apart : (x y : DatedReading) → before x y ≡ true → same x y ≡ false
-apart x y less = less_apart (key_cmp (reading_key x) (reading_key y)) less
-
-moved : (x y z : DatedReading) → same x z ≡ true → before x y ≡ true → before z y ≡ true
-moved x y z equal less =
-    ap is_lt (sym (journeys_keyed.total.congr (reading_key x) (reading_key z) (reading_key y) (equal_is (key_cmp (reading_key x) (reading_key z)) equal))) ∙ less
+use Rattle.gateway_core.proofs.ReadingOrder.{apart, before, moved, reading_key, same, self}
+use Rattle.gateway_core.proofs.SortedLemmas.{IsStrict, only_order, sorted_rises}
 
 -- ---- records in order, and their readings
 

@@ -1,5 +1,5 @@
 //! What takes the body of a POST while it arrives.
-ghost use Rattle.std.specs.Prelude.{◌≡◌, [], length, OnOk};
+ghost use Rattle.std.specs.Prelude.{◌≡◌, ◌≤◌, [], length, vec_capacity, OnOk};
 ghost use Rattle.gw_base.specs.Limits.{body_limit};
 
 use gw_base::{Bytes, Kind, Moment};
@@ -40,13 +40,21 @@ pub trait TakesBody<G> {
         ensures within { taken self.new ≤ taken self.old + length piece.now };
 }
 
+// The bytes taken out of a vector, and room made for so many.
+fn make_room(bytes: &mut Vec<u8>, size: usize) -> Result<(), AllocError>
+    ensures empty { bytes.new.items ≡ [] }
+    ensures room { OnOk result (size ≤ vec_capacity bytes.new) }
+{
+    bytes.clear();
+    bytes.reserve_exact(size)
+}
+
 // Empty bytes with room for so many.
 fn with_room(bytes: Bytes, size: usize) -> (Bytes, Result<(), AllocError>)
     ensures empty { result.0 ≡ [] }
 {
     let mut room = bytes.into_vec();
-    room.clear();
-    let made = room.reserve_exact(size);
+    let made = make_room(&mut room, size);
     (Bytes::from_vec(room), made)
 }
 

@@ -1,5 +1,5 @@
 -- Entries that are gathered in two runs of rows, and what an index will be with them.
-use Rattle.std.proofs.Common.{◌≡◌, ◌∙◌, ◌++◌, ◌∷◌, [], ◌+◌, ℕ, Bool, true, false, List, cond, length, take, drop, Option, Some, None, IsSome, option_map, sym, ap, refl, subst, arith, append_assoc, length-append}
+use Rattle.std.proofs.Common.{◌≡◌, ◌∙◌, ◌++◌, ◌∷◌, [], ◌+◌, ◌-◌, ◌≤◌, ℕ, Bool, true, false, List, cond, length, take, drop, Option, Some, None, IsSome, option_map, sym, ap, refl, subst, arith, append_assoc, length-append}
 use Rattle.std.proofs.lemmas.Bool.{le-ltb, lt-ltb}
 use Rattle.std.proofs.lemmas.List.{length-map, take-append-drop}
 use Rattle.std.proofs.lemmas.List.Sums.{sum_by-append}
@@ -8,12 +8,12 @@ use Rattle.std.specs.Cmp.{IsTotalOrder}
 use Rattle.std.specs.List.{AllByRecursion}
 use Rattle.std.specs.Option.{option_or}
 use Rattle.std.specs.declared.cmp.Ordering.{Ordering}
-use Rattle.span_pool.specs.Spans.{Spans, bytes_of}
+use Rattle.span_pool.specs.Spans.{Spans, bytes_of, live_bytes}
 use Rattle.feed_index.specs.declared.entry.Entry.{Entry}
 use Rattle.feed_index.specs.declared.row.Row.{Row}
-use Rattle.feed_index.specs.Entries.{Rising, put, put_all, total, value_at}
+use Rattle.feed_index.specs.Entries.{Rising, dead_with, most_dead, put, put_all, settled, total, value_at}
 use Rattle.feed_index.specs.Rows.{AreHeld, entries_of, entry_of}
-use Rattle.feed_index.specs.Staged.{AreGathered, gathered}
+use Rattle.feed_index.specs.Staged.{AreGathered, AreStaged, Takes, gathered}
 use Rattle.feed_index.proofs.AllLemmas.{all_one, found, found_all, length-all, length-one, sum-all}
 use Rattle.feed_index.proofs.HeldLemmas.{own_is_live}
 use Rattle.feed_index.proofs.RisingLemmas.{rising_all}
@@ -41,6 +41,29 @@ module _ {K R : Type 0} {cmp : K → K → Ordering} (o : IsTotalOrder cmp) wher
       sum-all (λ (one : Entry K R). one.key) o (λ one. length one.bytes) (take front entries) (drop front entries) h.staged
       ∙ sym (sum_by-append (λ (one : Entry K R). length one.bytes) (take front entries) (drop front entries))
       ∙ ap total (take-append-drop front entries)
+
+  live_gathered : (rows : List (Row K R)) (pool : Spans) (front : ℕ) → AreGathered cmp rows pool front → live_bytes pool.spans ≡ total (gathered cmp rows pool.spans front)
+  live_gathered rows pool front h = h.held.total_is ∙ sym (total_gathered rows pool front h)
+
+  -- the dead bytes after one more item came and the region was packed where these were too many
+  pub dead_taken : (rows given now : List (Row K R)) (pool start after done : Spans) (front next : ℕ) (item : Entry K R) → AreGathered cmp rows pool front → start.spans ≡ pool.spans → start.dead ≡ pool.dead → Takes cmp given start front item now after next
+      → done.spans ≡ after.spans → done.dead ≡ settled (live_bytes after.spans) after.dead → done.dead ≤ most_dead (live_bytes done.spans)
+      → (done.dead ≡ dead_with pool.dead (gathered cmp rows pool.spans front) (length item.bytes) (gathered cmp now done.spans next)) × (done.dead ≤ most_dead (total (gathered cmp now done.spans next)))
+  dead_taken rows given now pool start after done front next item before begins begins_dead takes same dead bounded =
+      let gathers : AreGathered cmp now done next = record {
+        held = subst (λ (s : List (ℕ × List ℕ)). AreHeld now s) (sym same) takes.held;
+        staged = subst (λ (s : List (ℕ × List ℕ)). AreStaged (λ (one : Entry K R). one.key) cmp (take next (entries_of s now)) (drop next (entries_of s now))) (sym same) takes.stages.staged;
+        within = takes.within;
+        bounded = bounded;
+      } in
+      let live_now : live_bytes done.spans ≡ total (gathered cmp now done.spans next) = live_gathered now done next gathers in
+      let live_old : live_bytes start.spans ≡ total (gathered cmp rows pool.spans front) = ap live_bytes begins ∙ live_gathered rows pool front before in
+      let live_after : live_bytes after.spans ≡ total (gathered cmp now done.spans next) = ap live_bytes (sym same) ∙ live_now in
+      let grew : after.dead ≡ pool.dead + (total (gathered cmp rows pool.spans front) + length item.bytes - total (gathered cmp now done.spans next)) =
+      omega (arith, begins_dead, takes.dead.never_falls, takes.dead.sums, live_old, live_after) in (
+        dead ∙ ap (λ n. settled n after.dead) live_after ∙ ap (settled (total (gathered cmp now done.spans next))) grew,
+        subst (λ n. done.dead ≤ most_dead n) live_now bounded,
+      )
 
   map_or : (a b : Option (Entry K R)) → option_map (λ (one : Entry K R). one.value) (option_or a b) ≡ option_or (option_map (λ (one : Entry K R). one.value) a) (option_map (λ (one : Entry K R). one.value) b)
   map_or None b = refl

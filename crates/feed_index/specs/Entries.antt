@@ -1,10 +1,15 @@
 -- What a clause sees of an index: its entries in the order of their keys, and the numbers beside them.
-use Rattle.std.specs.Prelude.{◌≡◌, ◌==◌, ◌+◌, ◌-◌, ℕ, List, ◌++◌, Option, Some, is_some, option_map, count_by, map, find, length, nat_le, sum_by, if◌then◌else◌}
+use Rattle.std.specs.Prelude.{◌≡◌, ◌==◌, ◌+◌, ◌-◌, ◌⊎◌, ℕ, List, [], ◌++◌, Option, Some, is_some, option_map, count_by, map, find, length, nat_le, sum_by, if◌then◌else◌}
 use Rattle.std.specs.Ordering.{is_eq}
 use Rattle.std.specs.declared.cmp.Ordering.{Ordering}
 use Rattle.span_pool.specs.Spans.{bytes_of}
 use Rattle.feed_index.specs.declared.entry.Entry.{Entry}
 use Rattle.feed_index.specs.Order.{AreRising, above, below, with_all, with_one}
+
+-- what is gathered: the entries, and how many bytes are dead
+pub record Gathered (K R : Type 0) : Type 0 where
+  pub entries : List (Entry K R)
+  pub dead : ℕ
 
 -- the entries; how many more entries and how many more bytes can be put without memory; and how many bytes are dead
 pub record Kept (K R : Type 0) : Type 0 where
@@ -53,10 +58,20 @@ most_dead live = live + 65536
 abbrev pub settled : ℕ → ℕ → ℕ
 settled live dead = if nat_le dead (most_dead live) then dead else 0
 
--- the dead bytes after a call that put so many bytes and left these entries: all that were there before and are in no
--- entry now were given back, and are dead unless these would be too many
+-- the dead bytes after a call that found so many beside these entries, put so many bytes and left these entries: all
+-- that were there before and are in no entry now were given back, and are dead unless these would be too many
+abbrev pub dead_with : {K R : Type 0} → ℕ → List (Entry K R) → ℕ → List (Entry K R) → ℕ
+dead_with dead before added entries = settled (total entries) (dead + (total before + added - total entries))
+
 abbrev pub dead_after : {K R : Type 0} → Kept K R → ℕ → List (Entry K R) → ℕ
-dead_after before added entries = settled (total entries) (before.dead + (total before.entries + added - total entries))
+dead_after before added entries = dead_with before.dead before.entries added entries
+
+-- the dead bytes after what was gathered was put: those of a call that put its bytes; or, where nothing was there,
+-- those that are dead in its region, which is taken as it is
+abbrev pub IsDeadAfter : {K R : Type 0} → Kept K R → Gathered K R → List (Entry K R) → ℕ → Type 0
+IsDeadAfter before batch entries dead =
+    (dead ≡ dead_after before (total batch.entries) entries)
+    ⊎ ((before.entries ≡ []) × (before.dead ≡ 0) × (dead ≡ settled (total entries) batch.dead))
 
 -- the live spans of a pool are those of the entries: each entry has a slot whose span has its bytes, each slot that has
 -- a live span is that of one entry, and each other slot that of none

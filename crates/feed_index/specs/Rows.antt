@@ -1,5 +1,5 @@
 -- How an index keeps its entries: rows in the order of their keys, whose bytes are spans of a pool.
-use Rattle.std.specs.Prelude.{◌≡◌, ◌==◌, ◌+◌, ◌<◌, ◌≤◌, ℕ, suc, List, [], is_some, unwrap_or, length, map, count_by, take, drop, slice_index_or, if◌then◌else◌}
+use Rattle.std.specs.Prelude.{◌≡◌, ◌==◌, ◌+◌, ◌<◌, ◌≤◌, ◌⊎◌, ℕ, suc, List, [], is_some, unwrap_or, length, map, count_by, take, drop, slice_index_or, if◌then◌else◌}
 use Rattle.std.specs.declared.cmp.Ordering.{Ordering}
 use Rattle.std.specs.declared.cmp.Ordering.TheVariants.{Equal}
 use Rattle.span_pool.specs.Spans.{Spans, bytes_of, live_bytes}
@@ -54,6 +54,12 @@ module _ {K R : Type 0} where
 pub record GaveBack (before : Spans) (added : ℕ) (now : Spans) : Type 0 where
   pub never_falls : before.dead ≤ now.dead
   pub sums : now.dead + live_bytes now.spans ≡ before.dead + live_bytes before.spans + added
+
+-- the bytes that were given back while so many came from another pool are dead; or nothing was there, and the other
+-- pool is there as it was
+abbrev pub MergesDead : {X : Type 0} → Spans → Spans → ℕ → List X → Spans → Type 0
+MergesDead before from added rows now =
+    GaveBack before added now ⊎ ((rows ≡ []) × (before.dead ≡ 0) × (now.dead ≡ from.dead))
 
 -- nothing is there, and so many rows in a list of this capacity, with their pool, have its room and that of more rows
 pub record MayReplace {X : Type 0} (rows : List X) (pool : Spans) (len capacity : ℕ) (from : Spans) (more : ℕ)

@@ -3,10 +3,10 @@ use Rattle.std.specs.Prelude.{◌≡◌, ◌≤◌, ◌+◌, ◌++◌, ℕ, fals
 use Rattle.std.specs.List.{AllByRecursion}
 use Rattle.std.specs.Ordering.{is_eq}
 use Rattle.std.specs.declared.cmp.Ordering.{Ordering}
-use Rattle.span_pool.specs.Spans.{Spans}
+use Rattle.span_pool.specs.Spans.{Spans, live_bytes}
 use Rattle.feed_index.specs.declared.entry.Entry.{Entry}
 use Rattle.feed_index.specs.declared.row.Row.{Row}
-use Rattle.feed_index.specs.Entries.{put_all}
+use Rattle.feed_index.specs.Entries.{most_dead, put_all}
 use Rattle.feed_index.specs.Order.{AreRising, with_all, with_one}
 use Rattle.feed_index.specs.Rows.{AreHeld, GaveBack, entries_of}
 
@@ -41,6 +41,7 @@ module _ {K R : Type 0} (cmp : K → K → Ordering) where
     pub held : AreHeld rows pool.spans
     pub staged : RowsAreStaged rows pool front
     pub within : front ≤ length rows
+    pub bounded : pool.dead ≤ most_dead (live_bytes pool.spans)
 
   -- rows and their pool after one more item came
   pub record Takes (rows : List (Row K R)) (pool : Spans) (front : ℕ) (item : Entry K R)

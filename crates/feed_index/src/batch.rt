@@ -1,6 +1,6 @@
 //! Entries that are put at once.
-ghost use Rattle.std.specs.Prelude.{◌≡◌, [], length, option_map, OnErr, OnOk};
-ghost use Rattle.feed_index.specs.Entries.{put, total, value_at};
+ghost use Rattle.std.specs.Prelude.{◌≡◌, ◌≤◌, [], length, option_map, OnErr, OnOk};
+ghost use Rattle.feed_index.specs.Entries.{dead_with, most_dead, put, total, value_at};
 ghost use Rattle.feed_index.specs.Rows.{AreHeld, AreSorted, entries_of};
 
 use crate::change::settle;
@@ -13,7 +13,8 @@ use std::alloc::{AllocError, Global};
 use std::marker::Model;
 
 /// Entries with distinct keys, gathered in any order, which an index takes all at once. Their bytes stand in one
-/// region. A contract sees the list of them in the order of the keys.
+/// region, which is packed as an index packs its own. A contract sees the list of them in the order of the keys, and
+/// the dead bytes.
 #[derive(Drop)]
 pub struct Batch<K: Ord, R> {
     // two runs in the order of the keys: the rows before the front, and those from there on
@@ -23,14 +24,16 @@ pub struct Batch<K: Ord, R> {
 }
 
 impl<K: Ord, R> Model for Batch<K, R> {
-    ghost use Rattle.std.specs.Prelude.{List};
-    ghost use Rattle.feed_index.specs.declared.entry.Entry.{Entry};
+    ghost use Rattle.feed_index.specs.Entries.{Gathered};
 
-    ghost Value = { List (Entry K R) };
+    ghost Value = { Gathered K R };
 
     ghost use Rattle.feed_index.specs.Staged.{AreGathered, gathered};
 
-    ghost view = { λ b. gathered K.cmp b.rows.items b.pool.spans b.front };
+    ghost view = { λ b. record {
+      entries = gathered K.cmp b.rows.items b.pool.spans b.front;
+      dead = b.pool.dead;
+    } };
 
     ghost invariant = { λ b. AreGathered K.cmp b.rows.items b.pool b.front };
 }
@@ -38,7 +41,7 @@ impl<K: Ord, R> Model for Batch<K, R> {
 impl<K: Ord, R> Batch<K, R> {
     /// A batch without entries, which takes no memory.
     pub fn new(alloc: Global) -> Batch<K, R>
-        ensures empty { result ≡ [] }
+        ensures empty { result ≡ record { entries = []; dead = 0 } }
     {
         Batch {
             rows: Vec::new(alloc),
@@ -49,21 +52,21 @@ impl<K: Ord, R> Batch<K, R> {
 
     /// How many entries there are.
     pub fn len(&self) -> u64
-        ensures value { result ≡ length self.now }
+        ensures value { result ≡ length self.now.entries }
     {
         self.rows.len() as u64
     }
 
     /// The bytes of all entries together.
     pub fn total_bytes(&self) -> u64
-        ensures value { result ≡ total self.now }
+        ensures value { result ≡ total self.now.entries }
     {
         self.pool.live()
     }
 
     /// The value of a key, if it has an entry.
     pub fn find(&self, key: &K) -> Option<&R>
-        ensures value { option_map (λ it. it.now) result ≡ value_at K.cmp self.now key.now }
+        ensures value { option_map (λ it. it.now) result ≡ value_at K.cmp self.now.entries key.now }
     {
         let (before, after) = self.rows.split_at(self.front);
         match value_in(after, key) {
@@ -74,7 +77,8 @@ impl<K: Ord, R> Batch<K, R> {
 
     /// The rows in the order of the keys, and the region of their bytes. Takes no memory.
     pub(crate) fn into_rows(self) -> (Vec<Row<K, R>>, SpanPool)
-        ensures entries { entries_of result.1.spans result.0.items ≡ self }
+        ensures entries { entries_of result.1.spans result.0.items ≡ self.entries }
+        ensures dead { result.1.dead ≡ self.dead }
         ensures held { AreHeld result.0.items result.1.spans }
         ensures sorted { AreSorted K.cmp result.0.items }
     {
@@ -89,10 +93,14 @@ impl<K: Ord, R> Batch<K, R> {
 }
 
 impl<K: Ord + Drop, R: Drop> Batch<K, R> {
-    /// Puts an entry at its key. For want of memory the batch stays as it was.
+    /// Puts an entry at its key, and packs the region where its dead bytes would be over 65,536 more than those that
+    /// live. For want of memory the batch stays as it was.
     pub fn put(&mut self, key: K, value: R, bytes: &[u8]) -> Result<(), AllocError>
-        ensures put { OnOk result
-            (self.new ≡ put K.cmp self.old (record { key = key; value = value; bytes = bytes.now })) }
+        ensures put { OnOk result (self.new.entries
+            ≡ put K.cmp self.old.entries (record { key = key; value = value; bytes = bytes.now })) }
+        ensures dead { OnOk result (self.new.dead
+            ≡ dead_with self.old.dead self.old.entries (length bytes.now) self.new.entries) }
+        ensures bounded { OnOk result (self.new.dead ≤ most_dead (total self.new.entries)) }
         ensures kept { OnErr result (self.new ≡ self.old) }
     {
         self.rows.reserve(1)?;

@@ -1,7 +1,7 @@
 //! What an index will be: entries that are to be put at once, found beside those that it has.
 ghost use Rattle.std.specs.Prelude.{◌≡◌, ◌≤◌, [], drop, length, option_map, if◌then◌else◌, OnErr, OnOk};
 ghost use Rattle.feed_index.specs.Drafts.{after};
-ghost use Rattle.feed_index.specs.Entries.{put, put_all, value_at};
+ghost use Rattle.feed_index.specs.Entries.{dead_with, most_dead, put, put_all, total, value_at};
 
 use crate::batch::Batch;
 use crate::index::FeedIndex;
@@ -17,7 +17,7 @@ fn counted(len: u64, more: u64, stays: bool, grew: bool) -> u64
 }
 
 /// Entries that are to be put into an index whose first entries go, gathered in any order. A contract sees the entries
-/// that stay and those that are to be put, of one for each key.
+/// that stay, those that are to be put, of one for each key, and the dead bytes beside these.
 #[derive(Drop)]
 pub struct Draft<'a, K: Ord, R> {
     index: &'a FeedIndex<K, R>,
@@ -35,12 +35,16 @@ impl<'a, K: Ord, R> Model for Draft<'a, K, R> {
 
     ghost Value = { Drafted K R };
 
-    ghost view = { λ d. record { kept = drop d.gone d.index.now.entries; items = d.batch } };
+    ghost view = { λ d. record {
+      kept = drop d.gone d.index.now.entries;
+      items = d.batch.entries;
+      dead = d.batch.dead;
+    } };
 
     ghost invariant = { λ d. (d.gone ≤ length d.index.now.entries)
         × Rising K.cmp d.index.now.entries
-        × Rising K.cmp d.batch
-        × (d.len ≡ length (put_all K.cmp (drop d.gone d.index.now.entries) d.batch)) };
+        × Rising K.cmp d.batch.entries
+        × (d.len ≡ length (put_all K.cmp (drop d.gone d.index.now.entries) d.batch.entries)) };
 }
 
 impl<'a, K: Ord, R> Draft<'a, K, R> {
@@ -49,6 +53,7 @@ impl<'a, K: Ord, R> Draft<'a, K, R> {
         requires within { gone ≤ length index.now.entries }
         ensures kept { result.kept ≡ drop gone index.now.entries }
         ensures empty { result.items ≡ [] }
+        ensures dead { result.dead ≡ 0 }
     {
         index.soundness_law();
         Draft {
@@ -78,7 +83,7 @@ impl<'a, K: Ord, R> Draft<'a, K, R> {
 
     /// What is to be put, for `FeedIndex::merge`. Takes no memory.
     pub fn into_batch(self) -> Batch<K, R>
-        ensures after { put_all K.cmp self.entry.kept result ≡ after K.cmp self.entry }
+        ensures after { put_all K.cmp self.entry.kept result.entries ≡ after K.cmp self.entry }
     {
         self.batch
     }
@@ -91,6 +96,9 @@ impl<'a, K: Ord + Drop, R: Drop> Draft<'a, K, R> {
         ensures put { OnOk result
             (after K.cmp self.new
             ≡ put K.cmp (after K.cmp self.old) (record { key = key; value = value; bytes = bytes })) }
+        ensures dead { OnOk result (self.new.dead
+            ≡ dead_with self.old.dead self.old.items (length bytes) self.new.items) }
+        ensures bounded { OnOk result (self.new.dead ≤ most_dead (total self.new.items)) }
         ensures unchanged { OnErr result (self.new ≡ self.old) }
     {
         let Some(more) = self.len.checked_add(1) else {

@@ -4,7 +4,7 @@ ghost use Rattle.gw_base.specs.Count.{Counts, Rose};
 ghost use Rattle.gw_base.specs.Told.{PutsUnless, with_bytes};
 ghost use Rattle.span_pool.specs.Spans.{live_bytes};
 ghost use Rattle.feed_index.specs.Chosen.{chosen};
-ghost use Rattle.feed_index.specs.Entries.{AreSpansOf, Rising, bytes_at, dead_after, most_dead, put, put_all, removed, total, value_at};
+ghost use Rattle.feed_index.specs.Entries.{AreSpansOf, IsDeadAfter, Rising, bytes_at, dead_after, most_dead, put, put_all, removed, total, value_at};
 
 use crate::batch::Batch;
 use crate::change::{cut, settle};
@@ -82,12 +82,12 @@ impl<K: Ord, R> FeedIndex<K, R> {
     pub fn prepare_for(&mut self, batch: &Batch<K, R>) -> Result<(), AllocError>
         ensures same { self.new.entries ≡ self.old.entries }
         ensures dead { self.new.dead ≡ self.old.dead }
-        ensures entries_room { OnOk result (length batch.now ≤ self.new.spare_entries) }
-        ensures bytes_room { OnOk result (total batch.now ≤ self.new.spare_bytes) }
+        ensures entries_room { OnOk result (length batch.now.entries ≤ self.new.spare_entries) }
+        ensures bytes_room { OnOk result (total batch.now.entries ≤ self.new.spare_bytes) }
         ensures no_less_entries { self.old.spare_entries ≤ self.new.spare_entries }
         ensures no_less_bytes { self.old.spare_bytes ≤ self.new.spare_bytes }
-        ensures suffices { length batch.now ≤ self.old.spare_entries → total batch.now ≤ self.old.spare_bytes
-            → IsOk result }
+        ensures suffices { length batch.now.entries ≤ self.old.spare_entries
+            → total batch.now.entries ≤ self.old.spare_bytes → IsOk result }
     {
         self.prepare(batch.len(), batch.total_bytes())
     }
@@ -227,15 +227,16 @@ impl<K: Ord + Drop, R: Drop> FeedIndex<K, R> {
         settle(&mut self.pool);
     }
 
-    /// Puts the entries of a batch, as `put` would one after the other. Takes no memory.
+    /// Puts the entries of a batch, as `put` would one after the other; where nothing was there, the region of the
+    /// batch becomes that of the index. Takes no memory.
     pub fn merge(&mut self, batch: Batch<K, R>)
-        requires entries_room { length batch ≤ self.old.spare_entries }
-        requires bytes_room { total batch ≤ self.old.spare_bytes }
-        ensures entries { self.new.entries ≡ put_all K.cmp self.old.entries batch }
-        ensures dead { self.new.dead ≡ dead_after self.old (total batch) self.new.entries }
+        requires entries_room { length batch.entries ≤ self.old.spare_entries }
+        requires bytes_room { total batch.entries ≤ self.old.spare_bytes }
+        ensures entries { self.new.entries ≡ put_all K.cmp self.old.entries batch.entries }
+        ensures dead { IsDeadAfter self.old batch self.new.entries self.new.dead }
         ensures bounded { self.new.dead ≤ most_dead (total self.new.entries) }
-        ensures spare_entries { self.old.spare_entries ≤ self.new.spare_entries + length batch }
-        ensures spare_bytes { self.old.spare_bytes ≤ self.new.spare_bytes + total batch }
+        ensures spare_entries { self.old.spare_entries ≤ self.new.spare_entries + length batch.entries }
+        ensures spare_bytes { self.old.spare_bytes ≤ self.new.spare_bytes + total batch.entries }
     {
         let (items, from) = batch.into_rows();
         self.spare -= items.len();

@@ -2,7 +2,7 @@
 //! are merged into the others where they are many, and at the end.
 ghost use Rattle.std.specs.Prelude.{◌≡◌, ◌+◌, ◌<◌, ◌≤◌, ⊤, MatchBool, length, take, vec_len, vec_capacity};
 ghost use Rattle.feed_index.specs.Entries.{put_all, total};
-ghost use Rattle.feed_index.specs.Rows.{AreHeld, AreSorted, GaveBack, MayReplace, entries_of};
+ghost use Rattle.feed_index.specs.Rows.{AreHeld, AreSorted, GaveBack, MayReplace, MergesDead, entries_of};
 ghost use Rattle.feed_index.specs.Staged.{IsNew, RowsAreStaged, Takes};
 
 use crate::change::{exchange, insert};
@@ -170,20 +170,19 @@ fn may_replace<K, R>(
         && from.spare_bytes() >= pool.spare_bytes().saturating_sub(from.live())
 }
 
-/// Puts rows and their pool in place of others, without dead bytes.
+/// Puts rows and their pool in place of others.
 fn replace<K: Drop, R: Drop>(
     rows: &mut Vec<Row<K, R>>,
     pool: &mut SpanPool,
     items: Vec<Row<K, R>>,
-    mut from: SpanPool,
+    from: SpanPool,
 )
     ensures rows { rows.new ≡ items }
     ensures spans { pool.new.spans ≡ from.spans }
-    ensures dead { pool.new.dead ≡ 0 }
+    ensures dead { pool.new.dead ≡ from.dead }
     ensures spare_bytes { from.spare_bytes ≤ pool.new.spare_bytes }
     ensures spare_spans { from.spare_spans ≤ pool.new.spare_spans }
 {
-    from.compact();
     *rows = items;
     *pool = from;
 }
@@ -210,7 +209,7 @@ pub fn merge_all<K: Ord + Drop, R: Drop>(
         ≡ put_all K.cmp (entries_of pool.old.spans rows.old.items) (entries_of from.spans items.items) }
     ensures rows_room { vec_len rows.new + spare ≤ vec_capacity rows.new }
     ensures spans_room { spare ≤ pool.new.spare_spans }
-    ensures dead { GaveBack pool.old (total (entries_of from.spans items.items)) pool.new }
+    ensures dead { MergesDead pool.old from (total (entries_of from.spans items.items)) rows.old.items pool.new }
     ensures spare_bytes { pool.old.spare_bytes ≤ pool.new.spare_bytes + total (entries_of from.spans items.items) }
 {
     if may_replace(rows, pool, &items, &from, spare) {

@@ -20,7 +20,7 @@ use Rattle.feed_reading.specs.declared.fault.FeedFault.TheVariants.{Wire, Missin
 use Rattle.feed_reading.specs.declared.feed_reader.state.Body.{Body}
 use Rattle.feed_reading.specs.declared.feed_reader.state.Body.TheVariants as bodies
 use Rattle.feed_reading.specs.declared.feed_reader.state.HeadSoFar.{HeadSoFar}
-use Rattle.feed_reading.specs.Faults.{HasFault, IsFeedFault, IsTold}
+use Rattle.feed_reading.specs.Faults.{HasFault, IsFeedFault}
 use Rattle.feed_reading.specs.FieldFaults.{Faultless}
 use Rattle.feed_reading.specs.FeedPieces.{Seen, OfHeadSoFar, HoldsBody, ReadsOn, StandsFor, feed_of}
 use Rattle.feed_reading.specs.FeedSteps.{head_with, whole_head}
@@ -31,21 +31,19 @@ use Rattle.feed_reading.specs.Tables.{OfFeedEntity, OfFeedHeader, header_of, Mea
 use Rattle.feed_reading.proofs.FieldFaults.{Clear, broken_at_end, missing_header, missing_version, nothing_missing}
 use Rattle.feed_reading.proofs.FeedReading.{same_parts, between_at, in_field_once}
 use Rattle.feed_reading.proofs.LongEntities.{number_once, tag_of_long}
-use Rattle.feed_reading.proofs.Told.{told}
 use Rattle.feed_reading.proofs.WholeMessages.{last_there, text_there}
 
 -- ---- the fault that was found
 
-pub told_at_stop : (s : Seen) (bytes : List ℕ) (given : List Entity) (fault : FeedFault) → s.fault ≡ Some fault
-    → StandsFor s bytes given → IsTold bytes fault
-told_at_stop s bytes given fault found h =
+pub stopped_here : (s : Seen) (bytes : List ℕ) (given : List Entity) (fault : FeedFault) → s.fault ≡ Some fault
+    → StandsFor s bytes given → IsFeedFault bytes fault
+stopped_here s bytes given fault found h =
     elim h.stands [
       | inl r ↦ (let d = sym r.no_fault ∙ found in absurd cc)
       | inr stop ↦
           let same : stop.fault ≡ fault = (let e = sym stop.found ∙ found in cc) in
-          told bytes fault
-          (subst (λ (f : FeedFault). IsFeedFault bytes f) same
-          (subst (λ (l : List ℕ). IsFeedFault l stop.fault) (append-nil bytes) (stop.stays [])))
+          subst (λ (f : FeedFault). IsFeedFault bytes f) same
+          (subst (λ (l : List ℕ). IsFeedFault l stop.fault) (append-nil bytes) (stop.stays []))
     ]
 
 -- ---- an entity that is too long has begun nowhere
@@ -144,10 +142,10 @@ not_long s bytes given r l =
 
 -- ---- the bytes are cut short
 
-pub told_at_cut : (s : Seen) (bytes : List ℕ) (given : List Entity) (fault : WireFault) → s.fault ≡ None
+pub cut_here : (s : Seen) (bytes : List ℕ) (given : List Entity) (fault : WireFault) → s.fault ≡ None
     → ((bytes : List ℕ) → tops.StandsFor s.top bytes → IsBroken bytes fault.at fault.kind) → fault.at ≡ s.top.at
-    → StandsFor s bytes given → IsTold bytes (Wire fault)
-told_at_cut s bytes given fault none broken at h =
+    → StandsFor s bytes given → IsFeedFault bytes (Wire fault)
+cut_here s bytes given fault none broken at h =
     elim h.stands [
       | inl r ↦
           let place : fault.at ≡ length r.front = at ∙ r.place in
@@ -205,7 +203,7 @@ whole_joined (body ∷ others) head version given e h = record {
 abbrev pub Finishes : List ℕ → List Entity → Result FeedHead FeedFault → Type 0
 Finishes bytes given (Ok head) =
     MeansFeed bytes (feed_of head given) × ((fault : FeedFault) → ¬ HasFault bytes fault)
-Finishes bytes given (Err fault) = IsTold bytes fault
+Finishes bytes given (Err fault) = IsFeedFault bytes fault
 
 version_by : (bytes : List ℕ) (given : List Entity) (fields : List WireField) (head : HeadSoFar) (taken : ℕ)
     (version : Option (List ℕ)) → head.version ≡ version → AreFields bytes fields → Faultless bytes
@@ -272,6 +270,6 @@ faultless_said bytes given (Ok head) h = h.1
 faultless_said bytes given (Err fault) h = tt
 
 pub fault_said : (bytes : List ℕ) (given : List Entity) (answer : Result FeedHead FeedFault)
-    → Finishes bytes given answer → IfErr answer (λ fault. IsTold bytes fault)
+    → Finishes bytes given answer → IfErr answer (λ fault. IsFeedFault bytes fault)
 fault_said bytes given (Ok head) h = tt
 fault_said bytes given (Err fault) h = h

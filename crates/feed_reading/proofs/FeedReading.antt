@@ -251,11 +251,13 @@ pub entity_ends : (s new : Seen) (at : ℕ) (body now : List ℕ) (given : List 
 entity_ends s new at body now given (Some entity) h short e =
     let clear = entity_clear h.front h.begun body entity (clear_of h.front h.fields h.read h.faultless) h.spelled short
     e.0 in
-    subst (λ (x : Seen). Ends x now given (Some entity)) (sym e.1)
-    (ended_well s 2 at body now given (given ++ entity ∷ []) (s.given + 1) s.head h clear
-    (messages_new OfFeedEntity 2 h.fields _ given body entity refl e.0 h.entities)
-    (message_same OfHeadSoFar 1 h.fields _ s.head refl h.head)
-    (omega (arith, h.counted, length-append given (entity ∷ []))))
+    subst (λ (x : Seen). Ends x now given (Some entity)) (sym e.1) (
+      ended_well s 2 at body now given (given ++ entity ∷ []) (s.given + 1) s.head h clear
+          (messages_new OfFeedEntity 2 h.fields _ given body entity refl e.0 h.entities)
+          (message_same OfHeadSoFar 1 h.fields _ s.head refl h.head)
+          (omega (arith, h.counted, length-append given (entity ∷ []))),
+      h.at_end,
+    )
 entity_ends s new at body now given None h short e =
     let after = body_after s 2 at body now given h in
     let clear = clear_of h.front h.fields h.read h.faultless in

@@ -90,12 +90,13 @@ pub record StandsFor (reader : Seen) (bytes : List ℕ) (given : List Entity) : 
   pub counted : reader.given ≡ length given
   pub stands : ReadsOn reader bytes given ⊎ StopsAtFault reader bytes given
 
--- what comes of a piece: so many bytes of it were taken, and up to there no entity ended; or one ended there, which is
--- given with its index
+-- what comes of a piece: so many bytes of it were taken, and up to there no entity ended; or one ends just there, which
+-- is given with its index
 abbrev pub GoesOn : Seen → List ℕ → List ℕ → List Entity → ℕ × Option (ℕ × Entity) → Type 0
 GoesOn reader bytes piece given (used, None) = StandsFor reader (bytes ++ take used piece) given
 GoesOn reader bytes piece given (used, Some (index, entity)) =
     (index ≡ length given) × StandsFor reader (bytes ++ take used piece) (given ++ entity ∷ [])
+    × (tops.place_of reader.top ≡ tops.Between)
 
 -- how many bytes may be held at a place among the fields: of a header or an entity no more than its stated length, of
 -- an entity no more than the limit, and of anything else none

@@ -6,7 +6,7 @@ use Rattle.std.specs.Int.{w32, cast_signed}
 use Rattle.gw_base.specs.declared.required.Required.TheVariants.{Header, GtfsRealtimeVersion}
 use Rattle.gw_base.specs.declared.messages.Entity.{Entity}
 use Rattle.gw_base.specs.declared.messages.FeedHead.{FeedHead}
-use Rattle.wire_fields.specs.TopReading.{Top}
+use Rattle.wire_fields.specs.TopReading.{Between, Top, place_of}
 use Rattle.feed_reading.specs.declared.fault.FeedFault.{FeedFault}
 use Rattle.feed_reading.specs.declared.fault.FeedFault.TheVariants.{EntityTooLong, MissingField}
 use Rattle.feed_reading.specs.declared.feed_reader.state.Body.{Body}
@@ -167,11 +167,11 @@ Begins old number at len ended new =
     ((ended ≡ None) × (new ≡ between old old.head (Some (EntityTooLong at))))
     (Proceeds (with_body old (body_of number at len)) [] ended new)
 
--- after these bytes no entity ended, or one did, which has no index yet
+-- after these bytes no entity ended, or one ends just there, which has no index yet
 abbrev pub Ends : Seen → List ℕ → List Entity → Option Entity → Type 0
 Ends reader bytes given None = StandsFor reader bytes given
 Ends reader bytes given (Some entity) =
-    StandsFor (with_given reader (reader.given + 1)) bytes (given ++ entity ∷ [])
+    StandsFor (with_given reader (reader.given + 1)) bytes (given ++ entity ∷ []) × (place_of reader.top ≡ Between)
 
 -- the header at the end of so many bytes that are fields without a fault
 abbrev pub head_with : Option (List ℕ) → HeadSoFar → ℕ → Result FeedHead FeedFault

@@ -6,15 +6,20 @@ use Rattle.gw_base.specs.Answers.{UnlessFree}
 use Rattle.gw_base.specs.Steps.{Then}
 use Rattle.gw_base.specs.declared.messages.Entity.{Entity}
 use Rattle.gw_base.specs.declared.messages.Feed.{Feed}
+use Rattle.feed_reading.specs.Faults.{HasFault, IsTold}
 use Rattle.feed_reading.specs.Tables.{full_dataset}
+use Rattle.feed_reading.specs.declared.fault.FeedFault.{FeedFault}
+use Rattle.feed_reading.specs.declared.fault.FeedFault.TheVariants as faults
 use Rattle.journey_model.specs.Schedules.{Schedule}
 use Rattle.journey_model.specs.declared.report.Report.{Report}
 use Rattle.sample_counts.specs.Counts.{counts_of, made_day, updates_of}
 use Rattle.sample_counts.specs.declared.counts.SampleCounts.{SampleCounts}
 use Rattle.gateway_core.specs.Arrivals.{Arrival, moments_of, schedule_at}
+use Rattle.gateway_core.specs.FeedTexts.{IsFeed}
 use Rattle.gateway_core.specs.Feeds.{IsFeedOf}
 use Rattle.gateway_core.specs.Standing.{Kept}
 use Rattle.gateway_core.specs.declared.setting.Setting.{Setting}
+use Rattle.file_commands.specs.Bodies.{feed_end}
 use Rattle.file_commands.specs.Exits.{is_free}
 use Rattle.command_words.specs.Words.{by_rule}
 use Rattle.file_commands.specs.Made.{HasMadeDay, made, made_at, made_files, made_scope, zone_rule}
@@ -70,11 +75,33 @@ few_updates bytes feed entities is same =
     (subst (λ (all : List ℕ). sum_by updates_of entities ≤ length all) (sym is.bytes) few)
 
 -- the counts over what the deliveries were read over
-pub counts_found : (setting : Setting) (arrivals : List Arrival) (other : Schedule) (bytes : List ℕ) (feed : Feed) (found : SampleCounts) → IsFeedIn made bytes (Ok feed)
+pub counts_found : (setting : Setting) (arrivals : List Arrival) (other : Schedule) (bytes : List ℕ) (feed : Feed) (found : SampleCounts) → IsFeed bytes feed
     → other ≡ schedule_at setting (moments_of arrivals) → found ≡ counts_of other bytes feed
     → IsCountsOf setting arrivals bytes (Ok found)
 counts_found setting arrivals other bytes feed found means same counted =
     (feed, means, ap (λ (counts : SampleCounts). Ok counts) (subst (λ (s : Schedule). found ≡ counts_of s bytes feed) same counted))
+
+-- bytes without a fault end no work but for want of memory
+pub no_end : {A : Type 0} (P : Result A Exit → Type 0) (name bytes : List ℕ) (end : Exit) → ((fault : FeedFault) → ¬ HasFault bytes fault)
+    → UnlessFree {T = Feed} is_free (Err end) (IsFeedIn name bytes) → UnlessFree {T = A} is_free (Err end) P
+no_end P name bytes Failed none told = tt
+no_end P name bytes Memory none told = tt
+no_end {A} P name bytes (Refused text) none told = by told.0 told.1 told.2
+  where
+    by : (fault : FeedFault) → IsTold bytes fault → Refused text ≡ feed_end name fault → UnlessFree {T = A} is_free (Err (Refused text)) P
+    by (faults.EntityTooLong at) has is = absurd (none (faults.EntityTooLong at) has.0)
+    by (faults.Wire fault) has is = absurd (none (faults.Wire fault) has.0)
+    by (faults.NotText at) has is = absurd (none (faults.NotText at) has.0)
+    by (faults.MissingField at field) has is = absurd (none (faults.MissingField at field) has.0)
+    by faults.Memory has is = absurd cc
+no_end {A} P name bytes (Missing text) none told = by told.0 told.1 told.2
+  where
+    by : (fault : FeedFault) → IsTold bytes fault → Missing text ≡ feed_end name fault → UnlessFree {T = A} is_free (Err (Missing text)) P
+    by (faults.EntityTooLong at) has is = absurd (none (faults.EntityTooLong at) has.0)
+    by (faults.Wire fault) has is = absurd (none (faults.Wire fault) has.0)
+    by (faults.NotText at) has is = absurd (none (faults.NotText at) has.0)
+    by (faults.MissingField at field) has is = absurd (none (faults.MissingField at field) has.0)
+    by faults.Memory has is = absurd cc
 
 -- ---- one step after another
 

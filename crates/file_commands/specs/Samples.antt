@@ -2,17 +2,19 @@
 -- then it is counted how the feed reads at every stop (GTFS Realtime, FeedMessage).
 use Rattle.std.specs.Prelude.{◌≡◌, ℕ, List, [], ◌∷◌, codes, None, Result, Ok, Err}
 use Rattle.gw_base.specs.Steps.{◌>>=◌}
+use Rattle.gw_base.specs.declared.messages.Feed.{Feed}
 use Rattle.journey_model.specs.declared.report.Report.{Report}
 use Rattle.sample_counts.specs.Counts.{counts_of, counts_text}
 use Rattle.sample_counts.specs.declared.counts.SampleCounts.{SampleCounts}
 use Rattle.sample_maker.specs.Deliveries.{deliveries}
 use Rattle.gateway_core.specs.Arrivals.{Arrival, Given, moments_of, schedule_at}
+use Rattle.gateway_core.specs.FeedTexts.{IsFeed}
 use Rattle.gateway_core.specs.Recording.{IsRebuiltOf}
 use Rattle.gateway_core.specs.declared.setting.Setting.{Setting}
 use Rattle.command_words.specs.Words.{Make}
 use Rattle.file_commands.specs.Done.{Done}
 use Rattle.file_commands.specs.Made.{made, made_at, made_files, made_scope}
-use Rattle.file_commands.specs.Work.{GivesFile, IsFeedIn, IsFound, IsSettingOf}
+use Rattle.file_commands.specs.Work.{GivesFile, IsFound, IsSettingOf}
 use Rattle.file_commands.specs.declared.exit.Exit.{Exit}
 use Rattle.file_commands.specs.declared.exit.Exit.TheVariants.{Failed, Memory}
 
@@ -45,10 +47,15 @@ abbrev pub IsRebuiltBytes : Setting → List Arrival → Result (List ℕ) Exit 
 IsRebuiltBytes setting arrivals (Ok bytes) = IsRebuiltOf setting made_at arrivals bytes
 IsRebuiltBytes setting arrivals (Err end) = ⊥
 
+-- the feed that bytes mean, which have no fault
+abbrev pub IsMeantBy : List ℕ → Result Feed Exit → Type 0
+IsMeantBy bytes (Ok feed) = IsFeed bytes feed
+IsMeantBy bytes (Err end) = ⊥
+
 -- the counts of bytes: those of the feed that they mean, as it reads over what the deliveries were read over
 abbrev pub IsCountsOf : Setting → List Arrival → List ℕ → Result SampleCounts Exit → Type 0
 IsCountsOf setting arrivals bytes = do
-  feed ← IsFeedIn made bytes
+  feed ← IsMeantBy bytes
   IsFound (counts_of (schedule_at setting (moments_of arrivals)) bytes feed)
 
 -- the counts of the feed of what arrived

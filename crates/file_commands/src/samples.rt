@@ -3,8 +3,11 @@
 ghost use Rattle.std.specs.Prelude.{◌≡◌, [], IfOk, IsErrOf, List};
 ghost use Rattle.gw_base.specs.Answers.{UnlessFree};
 ghost use Rattle.gw_base.specs.declared.messages.Entity as messages;
-ghost use Rattle.gateway_core.specs.Arrivals.{Arrival};
+ghost use Rattle.feed_reading.specs.Faults.{HasFault};
+ghost use Rattle.feed_reading.specs.declared.fault.FeedFault.{FeedFault};
+ghost use Rattle.gateway_core.specs.Arrivals.{Arrival, moments_of, present, schedule_at};
 ghost use Rattle.gateway_core.specs.Feeds.{IsFeedOf};
+ghost use Rattle.gateway_core.specs.Gives.{GivesEach};
 ghost use Rattle.gateway_core.specs.Recording.{IsRebuiltOf};
 ghost use Rattle.gateway_core.specs.Standing.{Stands};
 ghost use Rattle.sample_maker.specs.Deliveries.{deliveries as texts_of};
@@ -64,8 +67,11 @@ fn take_all(alloc: Global, maker: &mut Maker, gate: &mut Gateway) -> Result<(), 
 // The feed of what was taken, in a sink that has just the room for it. A feed that needed more room would be told as
 // want of memory.
 fn written(alloc: Global, gate: &Gateway) -> Result<MemorySink, AllocError>
-    ensures { (arrivals : List Arrival) → Stands gate.now arrivals
+    ensures rebuilt { (arrivals : List Arrival) → Stands gate.now arrivals
         → IfOk result (λ sink. IsRebuiltOf gate.now.setting made_at arrivals sink.written) }
+    ensures gives { (arrivals : List Arrival) → Stands gate.now arrivals
+        → IfOk result (λ sink. GivesEach made_at (schedule_at gate.now.setting (moments_of arrivals))
+        (present gate.now.setting arrivals) sink.written) }
 {
     let at = made_moment();
     let mut sink = MemorySink::make(alloc, gate.feed_len(at), List::new(alloc))?;
@@ -75,11 +81,12 @@ fn written(alloc: Global, gate: &Gateway) -> Result<MemorySink, AllocError>
     }
 }
 
-// The counts of the feed's bytes.
+// The counts of the feed's bytes, which have no fault.
 fn counts_in(alloc: Global, gate: &Gateway, bytes: &[u8]) -> Result<SampleCounts, Exit>
     requires stands { (arrivals : List Arrival) × Stands gate.now arrivals }
     requires day { HasMadeDay gate.now.setting }
     requires feed { (entities : List messages.Entity) × IsFeedOf made_at entities bytes.now }
+    requires faultless { (fault : FeedFault) → ¬ HasFault bytes.now fault }
     ensures told { (arrivals : List Arrival) → Stands gate.now arrivals
         → UnlessFree is_free result (steps.IsCountsOf gate.now.setting arrivals bytes.now) }
     ensures calm { ¬ IsErrOf result Exit.Failed }
@@ -125,7 +132,7 @@ fn deliveries_counted(
 /// The counts of the sample of a seed, so many trips, and so many stops of each: its folder is read from memory (GTFS
 /// Schedule), its deliveries are taken in order at the start of 2024-05-01 (SIRI 2.0, EstimatedTimetableDelivery), and
 /// the feed that is made of them then (GTFS Realtime, FeedMessage) is read again and counted. Each fault comes exactly
-/// where a made text, or the feed, has it; want of memory may come in place of any answer.
+/// where a made text has it, and the feed has none; want of memory may come in place of any answer.
 pub fn run_sample(alloc: Global, seed: u32, trips: u32, stops: u32) -> Result<SampleCounts, Exit>
     requires { IsSample seed trips stops }
     ensures sample { UnlessFree is_free result (steps.IsCountOfSample seed trips stops) }

@@ -13,7 +13,9 @@ use Rattle.alert_map.specs.Alerts.{alert_message}
 use Rattle.gw_base.specs.declared.messages.Entity.{Entity}
 use Rattle.gw_base.specs.declared.messages.Feed.{Feed}
 use Rattle.gw_base.proofs.Elements.{or_assoc, or_none}
-use Rattle.feed_reading.specs.Tables.{full_dataset}
+use Rattle.feed_reading.specs.Tables.{MeansFeed, full_dataset}
+use Rattle.feed_writing.specs.Written.{header}
+use Rattle.timetable.specs.Sound.{IsSound}
 use Rattle.timetable.specs.Table.{Table}
 use Rattle.timetable.specs.declared.stop_row.StopRow.{StopRow}
 use Rattle.journey_model.specs.FeedReadings.{entity_said, given, last_reading, nothing_known, or_nothing}
@@ -35,8 +37,12 @@ use Rattle.latest_store.proofs.EntityLemmas.{messages_none, messages_one}
 use Rattle.gateway_core.specs.Alerts.{alerts}
 use Rattle.gateway_core.specs.Feeds.{IsRebuilt, are_ordered_by, comes_before, entities_of}
 use Rattle.gateway_core.specs.Gives.{GivesEach, says_something}
+use Rattle.gateway_core.specs.Standing.{IsAlertServed}
+use Rattle.gateway_core.proofs.FaultlessLemmas.{faultless}
+use Rattle.gateway_core.proofs.LeastLemmas.{entities_least}
 use Rattle.gateway_core.proofs.OneLemmas.{same_counts}
 use Rattle.gateway_core.proofs.SaidLemmas.{alerts_passed, nothing_aside}
+use Rattle.gateway_core.proofs.ShortLemmas.{entities_short}
 
 -- the readings of the messages of a record
 abbrev dated : Schedule → Recorded → List DatedReading
@@ -195,11 +201,14 @@ all_dated schedule (one ∷ others) servable =
 
 -- the feed of the latest records gives just their readings
 pub gives_each : (at : ℤ) (schedule : Schedule) (records : List Recorded) (situations : List Situation) (bytes : List ℕ) (is : IsRebuilt at schedule records situations bytes)
+    → IsSound schedule.table → MeansFeed (header at) (full_dataset at []) → AllByRecursion (IsAlertServed schedule.table) is.numbered
     → AllByRecursion (SaysItself schedule) is.ordered → AllByRecursion (λ one. IsServable schedule one.trip one.day one.reading) is.ordered
     → GivesEach at schedule records bytes
-gives_each at schedule records situations bytes is says servable = record {
+gives_each at schedule records situations bytes is sound begins good says servable = record {
   entities = entities_of schedule is.ordered is.numbered;
   means = is.is_feed.means;
+  faultless =
+      faultless at (entities_of schedule is.ordered is.numbered) bytes begins (entities_short schedule is.ordered is.numbered sound servable good) is.is_feed.bytes is.is_feed.means;
   gives = λ trip day found latest.
       let entities = entities_of schedule is.ordered is.numbered in
       let same : find (is_of trip day) is.ordered ≡ found =
@@ -214,6 +223,7 @@ gives_each at schedule records situations bytes is says servable = record {
         given_after schedule (full_dataset at (entities_of schedule is.ordered is.numbered)) is.ordered is.numbered says
         ∙ all_dated schedule is.ordered servable;
   };
+  least = entities_least schedule (full_dataset at (entities_of schedule is.ordered is.numbered)) is.ordered is.numbered sound says servable;
   aside = nothing_aside schedule (full_dataset at (entities_of schedule is.ordered is.numbered)) is.ordered is.numbered says;
   passed = alerts_passed schedule (full_dataset at (entities_of schedule is.ordered is.numbered)) is.ordered is.numbered says;
 }

@@ -14,6 +14,7 @@ use Rattle.journey_model.specs.Schedules.{IsServable, Schedule}
 use Rattle.journey_model.specs.declared.situation.Situation.{Situation}
 use Rattle.service_day.specs.declared.moments.Instant.{Instant}
 use Rattle.timetable.specs.Seen.{seen}
+use Rattle.timetable.specs.Sound.{IsSound}
 use Rattle.timetable.specs.Table.{Table}
 use Rattle.alert_map.specs.Alerts.{alert_message}
 use Rattle.latest_store.specs.Entities.{entity, messages}
@@ -198,10 +199,10 @@ module _ (kept : Kept) (arrivals : List Arrival) (at : ℤ) (begins : MeansFeed 
   }
 
   -- and gives each journey of the window just its latest reading
-  pub stands_gives : GivesEach at (schedule_at kept.setting (moments_of arrivals)) (present kept.setting arrivals) (served at kept)
+  pub stands_gives : IsSound (seen kept.setting.table) → GivesEach at (schedule_at kept.setting (moments_of arrivals)) (present kept.setting arrivals) (served at kept)
   unfolding stands_rebuilt
-  stands_gives =
-      gives_each at (schedule_at kept.setting (moments_of arrivals)) (present kept.setting arrivals) (admitted_situations arrivals) (served at kept) stands_rebuilt
+  stands_gives sound =
+      gives_each at (schedule_at kept.setting (moments_of arrivals)) (present kept.setting arrivals) (admitted_situations arrivals) (served at kept) stands_rebuilt sound begins h.situations_are.all_good
       (all_weaker (IsServed (schedule_at kept.setting (moments_of arrivals))) (SaysItself (schedule_at kept.setting (moments_of arrivals))) (λ one its. its.says) h.journeys_are.ordered h.journeys_are.all_good)
       (all_latest key_cmp key_of has_key was_later journeys_keyed comes_before journeys_by_key (journey_entry (schedule_at kept.setting (moments_of arrivals))) (IsServed (schedule_at kept.setting (moments_of arrivals)))
       (λ e. e.key) (λ a. refl) (λ (one : Recorded). IsServable (schedule_at kept.setting (moments_of arrivals)) one.trip one.day one.reading) (present kept.setting arrivals)

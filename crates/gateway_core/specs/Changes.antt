@@ -41,13 +41,13 @@ IsWindowOf setting window =
 
 -- the entries of journeys after news, those of situations, and the SIRI text
 abbrev pub journeys_after : News → List (Entry JourneyKey Instant) → List (Entry JourneyKey Instant)
-journeys_after (Journeys batch) entries = put_all key_order entries batch
+journeys_after (Journeys batch) entries = put_all key_order entries batch.entries
 journeys_after (Situations batch) entries = entries
 journeys_after (Text text) entries = entries
 
 abbrev pub situations_after : News → List (Entry (List ℕ) Edition) → List (Entry (List ℕ) Edition)
 situations_after (Journeys batch) entries = entries
-situations_after (Situations batch) entries = put_all (slice_cmp nat_cmp) entries batch
+situations_after (Situations batch) entries = put_all (slice_cmp nat_cmp) entries batch.entries
 situations_after (Text text) entries = entries
 
 abbrev pub text_after : News → List ℕ → List ℕ
@@ -75,8 +75,8 @@ pub record IsSame (old now : State) : Type 0 where
 -- ---- that there is room
 
 -- an index has room for a batch
-abbrev pub Fits : {K R : Type 0} → index.Kept K R → List (Entry K R) → Type 0
-Fits kept batch = (length batch ≤ kept.spare_entries) × (total batch ≤ kept.spare_bytes)
+abbrev pub Fits : {K R : Type 0} → index.Kept K R → index.Gathered K R → Type 0
+Fits kept batch = (length batch.entries ≤ kept.spare_entries) × (total batch.entries ≤ kept.spare_bytes)
 
 -- and what is kept has room for news
 abbrev pub HasRoom : State → News → Type 0

@@ -24,7 +24,7 @@ pub use gateway::Gateway;
 pub use keys::{Edition, JourneyKey};
 pub use laws::{
     recording_decides_law, serves_what_arrived_law, the_rebuilt_feed_is_one_law,
-    what_is_served_is_one_law,
+    the_siri_text_is_one_law, what_a_body_brings_is_one_law, what_is_served_is_one_law,
 };
 pub use reporting::feed_report;
 pub use setting::Setting;

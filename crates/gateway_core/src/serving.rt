@@ -122,6 +122,7 @@ impl Gateway {
             → GivesEach moment (schedule_at self.now.setting (moments_of arrivals))
             (present self.now.setting arrivals) (served moment self.now) }
     {
+        self.setting.table.soundness_law();
         let header = header_bytes(moment);
         write_entities(
             header.as_slice(),

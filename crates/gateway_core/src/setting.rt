@@ -43,4 +43,3 @@ impl Setting {
         }
     }
 }
-// (a line of this clone alone)

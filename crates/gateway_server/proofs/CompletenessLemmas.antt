@@ -106,7 +106,7 @@ whole : (Cause : Type 0) (output bytes : List ℕ) → ¬ Cause → IsFront Caus
 whole Cause output bytes calm front =
     elim (cases_lt front.0 (length bytes)) as (λ _. output ≡ bytes) [
       | inl less ↦ absurd (calm (front.3 less))
-      | inr all ↦ front.2 ∙ take_all front.0 bytes all
+      | inr all ↦ same_Some output (take front.0 bytes) front.2 ∙ take_all front.0 bytes all
     ]
 
 -- a body that would be taken isn't kept, or it is full

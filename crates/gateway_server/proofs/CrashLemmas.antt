@@ -18,7 +18,7 @@ use Rattle.gateway_server.specs.Crashes.{AreBodies, HoldsOfBodies, IsPostedIn}
 use Rattle.gateway_server.specs.Holding.{Held, IsLeft, IsUnkept, Room, failed_of, taken_of}
 use Rattle.gateway_server.specs.Log.{is_taken}
 use Rattle.gateway_server.specs.Past.{Past, StandsFor, is_unkept}
-use Rattle.gateway_server.specs.Serving.{IsFresh, IsLogged, ServesAfter, Tells}
+use Rattle.gateway_server.specs.Serving.{AsksClock, IsFresh, IsLogged, LogsOne, ServesAfter, Tells}
 use Rattle.gateway_server.specs.Steps.{body_where}
 use Rattle.gateway_server.specs.declared.not_taken.NotTaken.{NotTaken}
 use Rattle.gateway_server.specs.declared.not_taken.NotTaken.TheVariants as not_taken
@@ -128,6 +128,24 @@ logged_one mid new output ends moment told left entry tells input log logs logge
     let logs_same : told.log ++ record { input = told.input; mark = ends; moment = moment; output = found.0 } ∷ [] ≡ told.log ++ entry ∷ [] =
     (λ i. sym log i ++ record { input = sym input i; mark = ends; moment = moment; output = found.0 } ∷ []) ∙ ap (λ (c : Connections). c.log) same in
     (found.0, append_cancel_left told.log (record { input = told.input; mark = ends; moment = moment; output = found.0 } ∷ []) (entry ∷ []) logs_same)
+
+pub marked : (one other : Entry) → one ∷ [] ≡ other ∷ [] → one.mark ≡ other.mark
+marked one other e = let same : one ≡ other = cc in ap (λ (entry : Entry). entry.mark) same
+
+-- and the log grew by one
+pub log_grows : (mid new : Beside) (output : Option (List ℕ)) (ends : Mark) (moment : Option ℤ) (told left : Connections) (clock : Change (List ℤ))
+    → mid.told ≡ Some left → left.coming ≡ told.coming → left.input ≡ told.input → left.log ≡ told.log → Logs mid new output ends moment → AsksClock clock moment
+    → LogsOne told clock new
+log_grows mid new output ends moment told left clock tells coming input log logs asks =
+    let found : (last : List ℕ) × IsOutput output last × (new.told ≡ Some (record { coming = left.coming; input = []; unread = []; log = left.log ++ record { input = left.input; mark = ends; moment = moment; output = last } ∷ [] })) =
+    subst (λ (t : Option Connections). MatchOption t (new.told ≡ None) (λ told. (last : List ℕ) × IsOutput output last × (new.told ≡ Some (record { coming = told.coming; input = []; unread = []; log = told.log ++ record { input = told.input; mark = ends; moment = moment; output = last } ∷ [] })))) tells logs.1 in (
+      record { input = told.input; mark = ends; moment = moment; output = found.0 },
+      record {
+        input = refl;
+        log = found.2 ∙ (λ i. Some (record { coming = coming i; input = []; unread = []; log = log i ++ record { input = input i; mark = ends; moment = moment; output = found.0 } ∷ [] }));
+      },
+      asks,
+    )
 
 -- ---- connections, one after the other
 

@@ -3,6 +3,7 @@ use Rattle.std.proofs.Common.{◌≡◌, ◌∷◌, ℕ, ℤ, true, List, Option
 use Rattle.gw_base.specs.Told.{PutsUnless}
 use Rattle.gw_base.specs.declared.door.Mark.{Mark}
 use Rattle.gw_base.specs.declared.kind.Kind.{Kind}
+use Rattle.gw_base.specs.declared.kind.Kind.TheVariants as kinds
 use Rattle.http_talk.specs.declared.answer.Answer.TheVariants as answer
 use Rattle.http_talk.specs.declared.refusal.BodyFault.{BodyFault}
 use Rattle.journey_model.specs.declared.report.Report.{Report}
@@ -16,6 +17,7 @@ use Rattle.gateway_core.specs.declared.take.body.BodyRefusal.{BodyRefusal}
 use Rattle.gateway_server.specs.Answers.{answer_of, mark_of, refused_with}
 use Rattle.gateway_server.specs.Bodies.{fault_of, mark_for, refusal_for, refusal_of, refused_mark, taken_mark}
 use Rattle.gateway_server.specs.Holding.{Held, IsLeft, IsUnkept, Room, TakesFirst, bare, keeps_none, unless_refused}
+use Rattle.gateway_server.specs.Log.{is_taken}
 use Rattle.gateway_server.specs.Steps.{PutsTaken, full, no_memory, refused, taken, unkept}
 use Rattle.gateway_server.specs.declared.not_taken.NotTaken.{NotTaken}
 use Rattle.gateway_server.specs.declared.not_taken.NotTaken.TheVariants as not_taken
@@ -56,3 +58,14 @@ pub takes_bare : (gate now : Kept) (arrivals : List Arrival) (moment : ℤ) (of 
     → Takes gate arrivals moment of bytes answer now → TakesFirst keeps_none (bare gate) arrivals moment of bytes (unless_refused answer) (bare now)
 takes_bare gate now arrivals moment of bytes (Ok accepted) takes = (refl, refl, takes)
 takes_bare gate now arrivals moment of bytes (Err why) takes = takes
+
+-- a gateway that didn't take a body is as before
+pub same_gate : (held now : Held) (why : NotTaken) → IsLeft held (Err why) now → now.gate ≡ held.gate
+same_gate held now (not_taken.Refused why) left = ap (λ (h : Held). h.gate) left
+same_gate held now not_taken.Unkept left = left.0
+same_gate held now not_taken.Full left = ap (λ (h : Held). h.gate) left
+
+pub mark_is_taken : (kind : Kind) (ends : Mark) → ends ≡ taken_mark kind → is_taken ends ≡ true
+mark_is_taken kinds.Estimated ends e = ap is_taken e
+mark_is_taken kinds.Situations ends e = ap is_taken e
+mark_is_taken kinds.Feed ends e = ap is_taken e

@@ -1,7 +1,8 @@
 -- The log of a server: each connection that was finished, and what arrived of them.
-use Rattle.std.specs.Prelude.{◌≡◌, ◌≤◌, ◌<◌, ◌+◌, ◌⊎◌, ℕ, ℤ, Bool, true, false, List, [], ◌∷◌, length, take, Option, Some, None, Ok}
+use Rattle.std.specs.Prelude.{◌≡◌, ◌≤◌, ◌+◌, ◌⊎◌, ℕ, ℤ, Bool, true, false, List, [], ◌∷◌, Option, Some, None, Ok}
 use Rattle.std.specs.List.{flat_map}
 use Rattle.gw_base.specs.Count.{last_count}
+use Rattle.gw_base.specs.Told.{PutsUnless}
 use Rattle.gw_base.specs.declared.door.Entry.{Entry}
 use Rattle.gw_base.specs.declared.door.Mark.{Mark}
 use Rattle.gw_base.specs.declared.door.Mark.TheVariants as mark
@@ -18,9 +19,9 @@ use Rattle.gateway_server.specs.Answers.{IsAnswered, mark_of, refused_with}
 use Rattle.gateway_core.specs.Bodies.{Brings}
 use Rattle.gateway_core.specs.KeptFirst.{CanBeTaken}
 
--- an output is a prefix of these bytes, and shorter only for this cause
+-- an output is a prefix of these bytes, put after nothing, and shorter only for this cause
 abbrev pub IsFront : Type 0 → List ℕ → List ℕ → Type 0
-IsFront Cause output bytes = (n : ℕ) × (n ≤ length bytes) × (output ≡ take n bytes) × (n < length bytes → Cause)
+IsFront Cause output bytes = PutsUnless Cause (Some []) (Some output) bytes
 
 -- the head of an input is that of a POST, whose length is said
 abbrev pub IsPosted : List ℕ → Type 0

@@ -29,6 +29,10 @@ pub record IsLogged (told : Connections) (now : Beside) (entry : Entry) : Type 0
   pub input : entry.input ≡ told.input
   pub log : now.told ≡ Some (record { coming = told.coming; input = []; unread = []; log = told.log ++ entry ∷ [] })
 
+-- whatever is served, the log has one entry more, whose moment is the one that the clock gave
+abbrev pub LogsOne : Connections → Change (List ℤ) → Beside → Type 0
+LogsOne told clock beside = (entry : Entry) × IsLogged told beside entry × AsksClock clock entry.moment
+
 -- a connection, after which the log has one entry more, which is lawful after what there was before; what there is by
 -- its end is stood for, and nothing is written to the next connection yet
 pub record ServesBy {P : Type 0} (Lawful : P → Entry → Type 0) (LeavesThis : P → Entry → P → Type 0)

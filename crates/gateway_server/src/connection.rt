@@ -7,6 +7,7 @@ ghost use Rattle.gw_base.specs.Limits.{body_limit};
 ghost use Rattle.gw_base.specs.Told.{PutsUnless};
 ghost use Rattle.gw_base.specs.declared.door.Entry.{Entry};
 ghost use Rattle.delivery_journal.specs.Kept.{KeptBody};
+ghost use Rattle.http_talk.specs.declared.refusal.Refusal.TheVariants as refusal;
 ghost use Rattle.door_talk.specs.Requests.{HasRead, IsWithin};
 ghost use Rattle.gateway_core.specs.Arrivals.{Arrival};
 ghost use Rattle.gateway_core.specs.Standing.{Stands};
@@ -16,7 +17,7 @@ ghost use Rattle.gateway_server.specs.Completeness.{Completes};
 ghost use Rattle.gateway_server.specs.Crashes.{HoldsOfBodies};
 ghost use Rattle.gateway_server.specs.Log.{is_taken};
 ghost use Rattle.gateway_server.specs.Past.{Past, StandsFor, is_unkept};
-ghost use Rattle.gateway_server.specs.Serving.{IsFresh, IsLogged, Serves, ServesAfter};
+ghost use Rattle.gateway_server.specs.Serving.{IsFresh, IsLogged, LogsOne, Serves, ServesAfter};
 ghost use Rattle.gateway_server.specs.Steps.{Answers, PutsShown, PutsTaken, body_where, entry_at};
 
 use crate::answers::{put_answer, put_feed, put_refusal, put_siri};
@@ -125,6 +126,7 @@ fn take<K, H: HoldsGateway<K>, S: Sink>(
         (before ++ body_where (is_taken result) (record { kind = kind; moment = moment; body = bytes }))
         (body_where (is_unkept result) (record { kind = kind; moment = moment; body = bytes })) host.new beside.new }
     ensures unkept { (H.held host.new).is_sound ≡ true → is_unkept result ≡ false }
+    ensures unchanged { is_taken result ≡ false → (H.held host.new).gate ≡ (H.held host.old).gate }
     ensures setting { (H.held host.new).gate.setting ≡ (H.held host.old).gate.setting }
     ensures small { H.Body.taken posted.new ≤ H.Body.taken posted.old }
     ensures ready { (H.held host.new).is_sound ≡ true → H.is_ready host.new beside.new }
@@ -166,6 +168,7 @@ fn answer<K, H: HoldsGateway<K>, D: Door>(
         → HoldsOfBodies (λ taken failed. H.keeps first (before ++ taken) failed host.new beside.new)
         (H.held host.new).is_sound (entry_at told.input moment result written ∷ []) }
     ensures reads { (bytes : List ℕ) × HasRead (D.beside door.old) (D.beside door.new) bytes × IsWithin bytes }
+    ensures unchanged { is_taken result ≡ false → (H.held host.new).gate ≡ (H.held host.old).gate }
     ensures small { H.Body.taken posted.new ≤ body_limit }
     ensures setting { (H.held host.new).gate.setting ≡ (H.held host.old).gate.setting }
     ensures ready { (H.held host.new).is_sound ≡ true → H.is_ready host.new beside.new }
@@ -191,6 +194,16 @@ fn answer<K, H: HoldsGateway<K>, D: Door>(
     }
 }
 
+// Answers that there is no moment. Nothing of the request is read.
+fn refuse_unread<D: Door>(door: &mut D)
+    ensures puts { PutsUnless (Rose (D.faults door.old) (D.faults door.new)) (D.told door.old) (D.told door.new)
+        (refused_with refusal.Clock) }
+    ensures counts { D.faults door.old ≤ D.faults door.new }
+    ensures unread { D.beside door.new ≡ D.beside door.old }
+{
+    put_refusal(door, Refusal::Clock);
+}
+
 /// Serves the present connection over what holds a gateway and can take more: the clock is asked once, the request is
 /// read, what is posted is taken and what is asked for is answered, and the connection is finished, whatever fails
 /// (RFC 9112). Where the door tells its connections, the log has one entry more, which is lawful after what there was
@@ -213,6 +226,11 @@ pub fn serve_one_with<K, H: HoldsGateway<K>, D: Door, C: Clock>(
         → ServesAfter (Rose (D.faults door.old) (D.faults door.new)) (Rose (H.faults beside.old) (H.faults beside.new))
         H.room (H.held host.old) past told (change C.told C.faults clock.old clock.new) (D.told door.new)
         (D.beside door.new) (H.held host.new) }
+    ensures logs { (told : Connections) → IsFresh (D.told door.old) (D.beside door.old) told
+        → LogsOne told (change C.told C.faults clock.old clock.new) (D.beside door.new) }
+    ensures unchanged { (told : Connections) → IsFresh (D.told door.old) (D.beside door.old) told
+        → (entry : Entry) → IsLogged told (D.beside door.new) entry → is_taken entry.mark ≡ false
+        → (H.held host.new).gate ≡ (H.held host.old).gate }
     ensures keeps { (told : Connections) → IsFresh (D.told door.old) (D.beside door.old) told
         → (entry : Entry) → IsLogged told (D.beside door.new) entry
         → (first : K) (before : List KeptBody) → H.keeps first before [] host.old beside.old
@@ -234,7 +252,7 @@ pub fn serve_one_with<K, H: HoldsGateway<K>, D: Door, C: Clock>(
             door.finish(mark, Some(moment));
         }
         Err(Failed) => {
-            put_refusal(door, Refusal::Clock);
+            refuse_unread(door);
             door.finish(Mark::ClockFault, None);
         }
     }
@@ -243,7 +261,8 @@ pub fn serve_one_with<K, H: HoldsGateway<K>, D: Door, C: Clock>(
 /// Serves the present connection: the clock is asked once, the request is read, what is posted is taken and what is
 /// asked for is answered, and the connection is finished, whatever fails (RFC 9112). Where the door tells its
 /// connections, the log has one entry more, which is lawful after what arrived before; where no count rose, what is
-/// well formed is taken, and what is asked for is shown. `body` holds at most 16,777,216 bytes, where it did before.
+/// well formed is taken, and what is asked for is shown; and a gateway that took nothing is as before. `body` holds at
+/// most 16,777,216 bytes, where it did before.
 pub fn serve_one<D: Door, C: Clock>(
     alloc: Global,
     gate: &mut Gateway,
@@ -261,6 +280,11 @@ pub fn serve_one<D: Door, C: Clock>(
         → (arrivals : List Arrival) → Stands gate.old arrivals
         → (entry : Entry) → IsLogged told (D.beside door.new) entry
         → Completes (Rose (D.faults door.old) (D.faults door.new)) gate.old.setting arrivals entry }
+    ensures logs { (told : Connections) → IsFresh (D.told door.old) (D.beside door.old) told
+        → LogsOne told (change C.told C.faults clock.old clock.new) (D.beside door.new) }
+    ensures unchanged { (told : Connections) → IsFresh (D.told door.old) (D.beside door.old) told
+        → (entry : Entry) → IsLogged told (D.beside door.new) entry → is_taken entry.mark ≡ false
+        → gate.new ≡ gate.old }
     ensures held { length body.old ≤ body_limit → length body.new ≤ body_limit }
     ensures ended { (D.beside door.new).present ≡ false }
     ensures setting { gate.new.setting ≡ gate.old.setting }

@@ -17,7 +17,7 @@ pub enum PostedBody {
     Estimated(Bytes),
     /// A delivery of situations, whose bytes are kept.
     Situations(Bytes),
-    /// A feed, and the buffer in which the bytes of a delivery are kept.
+    /// A feed, of which no byte is kept, and the empty buffer in which the bytes of a delivery are.
     Feed(FeedTaking, Bytes),
 }
 
@@ -117,7 +117,7 @@ impl TakesBody<Gateway> for PostedBody {
                 *self = PostedBody::Situations(roomy(alloc, buffer, over, moment, kind, size)?);
             }
             Kind::Feed => {
-                *self = PostedBody::Feed(over.begin_feed(alloc, moment)?, buffer);
+                *self = PostedBody::Feed(over.begin_feed(alloc, moment)?, emptied(buffer));
             }
         }
         Ok(())

@@ -1,8 +1,9 @@
 //! The real files and streams. They count their faults and tell nothing of their content, but what is read and written
 //! goes where std's own reads and writes say.
-ghost use Rattle.std.specs.Prelude.{◌≡◌, ◌<◌, ◌≤◌, ◌++◌, ◌+◌, ℕ, List, None, length, take, min, IfOk, IfSome, IsErr, IsErrOf, OnOk};
+ghost use Rattle.std.specs.Prelude.{◌≡◌, ◌<◌, ◌≤◌, ◌++◌, ◌+◌, ℕ, List, None, length, take, min, IfOk, IfSome, IsErr, IsOk, IsErrOf, OnOk};
 ghost use Rattle.std.specs.Io.KnownBytes.{WriteAppends};
 ghost use Rattle.gw_base.specs.Count.{Counts, last_count};
+ghost use Rattle.gateway_top.specs.Devices.{IsAbsent};
 
 use gw_base::{Bytes, Failed, FileFault, Files, Got, Sink};
 use std::fs::File;
@@ -53,6 +54,8 @@ impl<'a, R: std::rt::Files> DirFiles<'a, R> {
     // What a failed read is: a file that isn't there, want of memory, or a fault, which is counted.
     fn failed(&mut self, kind: ErrorKind) -> Result<Got, FileFault>
         ensures missing { IfOk result (λ got. got ≡ Got.Missing) }
+        ensures absent { IsOk result → IsAbsent kind }
+        ensures told { IsAbsent kind → IsOk result }
         ensures counts { Counts (IsErrOf result FileFault.Failed) self.old self.new }
     {
         match kind {

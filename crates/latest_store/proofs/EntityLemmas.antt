@@ -1,11 +1,13 @@
 -- The messages of a record, and the bytes of them.
 use Rattle.std.proofs.Common.{◌≡◌, ◌∙◌, ◌++◌, ◌∷◌, ℕ, zero, suc, List, [], true, false, Result, Ok, Err, Some, refl, sym, ap}
+use Rattle.std.proofs.lemmas.Bool.{true≢false}
 use Rattle.std.proofs.lemmas.Option.{none-some}
 use Rattle.std.proofs.lemmas.List.{append-nil}
-use Rattle.std.specs.Prelude.{IfOk, slice_get}
+use Rattle.std.specs.Prelude.{◌↔◌, Bool, IfOk, slice_get}
 use Rattle.std.specs.List.{flat_map}
 use Rattle.gw_base.specs.declared.messages.Entity.{Entity}
 use Rattle.gw_base.specs.declared.messages.Feed.{Feed}
+use Rattle.wire_fields.specs.Spelling.{seven_bits_each, varint}
 use Rattle.feed_reading.specs.Tables.{MeansFeed, MeansEntity}
 use Rattle.feed_writing.specs.Written.{written}
 use Rattle.feed_reading.proofs.Building.{means_more}
@@ -57,3 +59,13 @@ meant (Err fault) schedule one run entity on silent same means = tt
 pub anyway : {T E : Type 0} (result : Result T E) (P : Type 0) → P → IfOk result (λ value. P)
 anyway (Ok value) P p = p
 anyway (Err fault) P p = tt
+
+-- a message has bytes
+some_bytes : (entity : Entity) → written entity ≡ [] → ⊥
+unfolding varint seven_bits_each
+some_bytes entity e = absurd cc
+
+pub empty_so : {E : Type 0} (result : Result (List ℕ) E) (entity : Entity) (silent : Bool) → silent ≡ false → IfOk result (λ bytes. bytes ≡ written entity)
+    → IfOk result (λ bytes. (bytes ≡ []) ↔ (silent ≡ true))
+empty_so (Ok bytes) entity silent is e = ((λ none. absurd (some_bytes entity (sym e ∙ none))), (λ yes. absurd (true≢false (sym yes ∙ is))))
+empty_so (Err fault) entity silent is e = tt

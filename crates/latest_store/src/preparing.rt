@@ -1,5 +1,5 @@
 //! The bytes with which a record is served. The functions meet `specs/Entities.antt` and `specs/Reads.antt`.
-ghost use Rattle.std.specs.Prelude.{◌≡◌, ◌<◌, ◌++◌, ℕ, Some, List, length, true, IfOk};
+ghost use Rattle.std.specs.Prelude.{◌≡◌, ◌↔◌, ◌<◌, ◌++◌, ℕ, Some, List, [], length, true, IfOk};
 ghost use Rattle.gw_base.specs.declared.messages.Feed.{Feed};
 ghost use Rattle.service_day.specs.DayTexts.{compact_text, day_of};
 ghost use Rattle.service_day.specs.declared.days.DayForm.TheVariants.{Compact};
@@ -69,6 +69,7 @@ fn entity_of(
         ≡ Some (run_of context.now.table dated.now) }
     requires runs { context.now.table.runs rec.now.trip.0 rec.now.day ≡ true }
     ensures bytes { IfOk result (λ bytes. bytes ≡ spec.entity context.now (recorded rec.now)) }
+    ensures empty { IfOk result (λ bytes. (bytes ≡ []) ↔ (spec.is_silent rec.now.reading ≡ true)) }
     ensures means { IfOk result (λ bytes. (before : List ℕ) (feed : Feed) → MeansFeed before feed
         → MeansFeed (before ++ bytes) (with_messages feed
         (spec.messages context.now (recorded rec.now)))) }
@@ -106,6 +107,7 @@ pub fn record_entity(
 ) -> Result<Bytes, AllocError>
     requires { IsServable context.now rec.now.trip.0 rec.now.day rec.now.reading }
     ensures bytes { IfOk result (λ bytes. bytes ≡ spec.entity context.now (recorded rec.now)) }
+    ensures empty { IfOk result (λ bytes. (bytes ≡ []) ↔ (spec.is_silent rec.now.reading ≡ true)) }
     ensures means { IfOk result (λ bytes. (before : List ℕ) (feed : Feed) → MeansFeed before feed
         → MeansFeed (before ++ bytes) (with_messages feed
         (spec.messages context.now (recorded rec.now)))) }
@@ -117,7 +119,8 @@ pub fn record_entity(
     entity_of(alloc, context, &dated, rec)
 }
 
-/// A record with the bytes of its entity, which are those that `record_entity` answers.
+/// A record with the bytes of its entity, which are those that `record_entity` answers: none exactly where nothing is
+/// known of any stop.
 pub fn prepare_record(
     alloc: Global,
     context: &Context<'_>,
@@ -126,6 +129,7 @@ pub fn prepare_record(
     requires { IsServable context.now rec.trip.0 rec.day rec.reading }
     ensures rec { IfOk result (λ made. made.rec ≡ rec) }
     ensures bytes { IfOk result (λ made. made.entity ≡ spec.entity context.now (recorded rec)) }
+    ensures empty { IfOk result (λ made. (made.entity ≡ []) ↔ (spec.is_silent rec.reading ≡ true)) }
     ensures means { IfOk result (λ made. (before : List ℕ) (feed : Feed) → MeansFeed before feed
         → MeansFeed (before ++ made.entity) (with_messages feed
         (spec.messages context.now (recorded rec)))) }

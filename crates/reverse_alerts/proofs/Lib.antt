@@ -23,4 +23,5 @@ pub mod SensesAgain
 pub mod SituationLemmas
 pub mod SituationParts
 pub mod SxLemmas
+pub mod WholeAgain
 pub mod WrittenLemmas

@@ -1,13 +1,13 @@
 -- The SIRI delivery that says what a feed says of journeys (SIRI 2.0, EstimatedTimetableDelivery; GTFS Realtime
 -- reference, FeedMessage).
-use Rattle.std.specs.Prelude.{◌≡◌, ◌<◌, ◌≤◌, ℕ, ℤ, List, length, sum_by, min, MatchBool, Result, Ok, Err}
+use Rattle.std.specs.Prelude.{◌≡◌, ◌<◌, ◌≤◌, All, ℕ, ℤ, List, length, sum_by, min, MatchBool, Result, Ok, Err}
 use Rattle.gw_base.specs.Count.{last_count}
 use Rattle.gw_base.specs.declared.messages.Feed.{Feed}
 use Rattle.journey_model.specs.FeedReadings.{is_differential}
 use Rattle.journey_model.specs.Schedules.{Schedule}
 use Rattle.journey_model.specs.declared.readings.DatedReading.{DatedReading}
 use Rattle.journey_model.specs.declared.report.Report.{Report}
-use Rattle.propagation.specs.Feeds.{IsReading}
+use Rattle.propagation.specs.Feeds.{IsReading, IsServable}
 use Rattle.propagation.specs.declared.feeds.FeedReading.{FeedReading}
 use Rattle.siri_calls.specs.Written.DeliveryTree.{delivery_text}
 use Rattle.siri_calls.specs.Written.SaidAgain.{SaysAgain}
@@ -46,12 +46,13 @@ pub record HasTooMany (schedule : Schedule) (feed : Feed) (calls : ℕ) : Type 0
   pub count : calls ≡ call_count schedule found.journeys
   pub over : most_calls < calls
 
--- what readings are answered: they have so few calls and the text says them, or they have that many; want of memory is
--- free
+-- what readings are answered: they have so few calls and the text says them, also when it is read again, where each of
+-- their trips runs on its day; or they have that many; want of memory is free
 abbrev pub IsReadingsAnswer : Schedule → List DatedReading → ℤ → Result (List ℕ) ReadingsFault → Type 0
 IsReadingsAnswer schedule journeys moment (Ok text) =
     (call_count schedule journeys ≤ most_calls)
-    × (text ≡ delivery_text schedule moment journeys) × SaysAgain schedule moment journeys text
+    × (text ≡ delivery_text schedule moment journeys)
+    × (All (IsServable schedule) journeys → SaysAgain schedule moment journeys text)
 IsReadingsAnswer schedule journeys moment (Err (of_readings.TooManyCalls calls)) =
     (calls ≡ call_count schedule journeys) × (most_calls < calls)
 IsReadingsAnswer schedule journeys moment (Err of_readings.Memory) = Unit {0}

@@ -19,18 +19,16 @@ fn recorded_law(recorded: &Option<Moment>)
 
 // A reading that can be served can be said.
 fn sayable_law(context: &Context<'_>, one: &DatedReading)
-    requires { IsServable context.now one.now }
-    ensures { IsSayable context.now one.now }
+    ensures { IsServable context.now one.now → IsSayable context.now one.now }
 {
     let _ = one.day.number();
     let _ = context.window.start_of(one.day);
     recorded_law(&one.recorded);
 }
 
-/// The readings of a feed, which can be served, can be said. A law, which changes nothing when it runs.
+/// Readings that can be served can be said. A law, which changes nothing when it runs.
 pub(crate) fn all_sayable_law(context: &Context<'_>, journeys: &[DatedReading])
-    requires { All (IsServable context.now) journeys.now }
-    ensures { All (IsSayable context.now) journeys.now }
+    ensures { All (IsServable context.now) journeys.now → All (IsSayable context.now) journeys.now }
 {
     for one in journeys {
         sayable_law(context, one);

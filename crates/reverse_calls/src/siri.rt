@@ -1,6 +1,7 @@
 //! The SIRI delivery of a feed. The functions meet `specs/Siri.antt`.
 ghost use Rattle.std.specs.Prelude.{◌≡◌, All, IfOk};
 ghost use Rattle.gw_base.specs.declared.messages.Feed.{Feed};
+ghost use Rattle.journey_model.specs.Schedules.{FitsSchedule};
 ghost use Rattle.propagation.specs.Feeds.{IsReading, IsServable};
 ghost use Rattle.siri_calls.specs.Written.DeliveryTree.{delivery_text};
 ghost use Rattle.siri_calls.specs.Written.SaidAgain.{SaysAgain};
@@ -20,16 +21,17 @@ use std::alloc::{AllocError, Global};
 /// The most calls that a delivery has.
 const MOST_CALLS: u64 = 400_000;
 
-// The text that says these journeys, and says them when it is read again.
+// The text that says these journeys, and says them when it is read again where each can be served.
 fn said(
     alloc: Global,
     context: &Context<'_>,
     journeys: &[DatedReading],
     moment: Moment,
 ) -> Result<Bytes, AllocError>
-    requires { All (IsServable context.now) journeys.now }
+    requires { All (λ one. FitsSchedule context.now one.trip.0 one.day one.reading) journeys.now }
     ensures text { IfOk result (λ text. text ≡ delivery_text context.now moment journeys.now) }
-    ensures again { IfOk result (SaysAgain context.now moment journeys.now) }
+    ensures again { All (IsServable context.now) journeys.now
+        → IfOk result (SaysAgain context.now moment journeys.now) }
 {
     context.table.soundness_law();
     all_sayable_law(context, journeys);
@@ -39,14 +41,16 @@ fn said(
 
 /// The SIRI delivery that says at that moment the readings of a feed, which `readings_of` or `ReadingFold::finish` of
 /// `propagation` made (SIRI 2.0, EstimatedTimetableDelivery). TooManyCalls exactly where the trips of the journeys have
-/// over 400,000 stops, which are counted before a byte is written; Memory for want of memory.
+/// over 400,000 stops, which are counted before a byte is written; Memory for want of memory. The condition is that of
+/// `write_delivery`: each reading fits the timetable, also where its trip doesn't run on the day, though the text then
+/// isn't read again as it.
 pub fn siri_of_readings(
     alloc: Global,
     context: &Context<'_>,
     reading: &FeedReading,
     moment: Moment,
 ) -> Result<Bytes, ReadingsFault>
-    requires servable { All (IsServable context.now) reading.now.journeys }
+    requires fits { All (λ one. FitsSchedule context.now one.trip.0 one.day one.reading) reading.now.journeys }
     ensures answers { IsReadingsAnswer context.now reading.now.journeys moment result }
     ensures of_feed { (feed : Feed) → IsReading context.now feed reading.now
         → IsTextOfFeed context.now feed moment reading.now.report result }

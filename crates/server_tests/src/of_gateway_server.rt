@@ -51,6 +51,15 @@ static THREE: [Row; 3] = [
     ),
 ];
 
+// A feed without entities.
+static FEED: [Row; 1] = [(
+    b"POST /gtfs-rt HTTP/1.1\r\nContent-Length: 15\r\n\r\n\
+      \x0a\x0d\x0a\x032.0\x10\x00\x18\xe0\xb4\xc7\xb1\x06",
+    Mark::Fed,
+    Answer::Json,
+    b"{\"aside\":[],\"passed\":0,\"taken\":0}",
+)];
+
 // The inputs of rows.
 fn inputs(rt: &impl Abort, alloc: Global, rows: &[Row]) -> List<Bytes> {
     let mut list = List::new(alloc);
@@ -96,24 +105,14 @@ fn door(rt: &impl Abort, alloc: Global, rows: &[Row], most: u64) -> MemoryDoor
     MemoryDoor::make(alloc, inputs, ROOM, most, List::new(alloc)).expect(rt, "memory")
 }
 
-// Serves what comes to a door, at the moment of the tests.
-fn serve_door(rt: &impl Abort, alloc: Global, door: &mut MemoryDoor) -> bool
+// Serves what comes to a door, at the moment of the tests, over a buffer for bodies.
+fn serve_door(rt: &impl Abort, alloc: Global, door: &mut MemoryDoor, body: &mut Bytes) -> bool
     requires { door.old.present ≡ false }
 {
     let mut gate = Gateway::start(alloc, setting(rt, alloc, None)).expect(rt, "memory");
     let mut reader = HeadReader::make(alloc).expect(rt, "memory");
-    let mut body = Bytes::new(alloc);
     let mut clock = MemoryClock::make(moments(rt, alloc, 40), List::new(alloc));
-    serve(
-        alloc,
-        &mut gate,
-        &mut reader,
-        &mut body,
-        door,
-        &mut clock,
-        40,
-    )
-    .is_ok()
+    serve(alloc, &mut gate, &mut reader, body, door, &mut clock, 40).is_ok()
 }
 
 // Serves rows, and looks at each entry.
@@ -121,12 +120,33 @@ fn try_rows(rt: &impl Abort, alloc: Global, rows: &[Row], most: u64)
     requires { 1 ≤ most }
 {
     let mut door = door(rt, alloc, rows, most);
-    assert!(rt; serve_door(rt, alloc, &mut door), "all were served");
+    let mut body = Bytes::new(alloc);
+    assert!(rt;
+        serve_door(rt, alloc, &mut door, &mut body),
+        "all were served"
+    );
     let log = door.log();
     assert_eq!(rt; log.len(), rows.len());
     for (entry, row) in log.iter().zip(rows) {
         assert!(rt; is_entry(entry, row), "an entry of the log");
     }
+}
+
+// The room that is there for bodies once rows were served, over reads of one byte.
+fn room_after(rt: &impl Abort, alloc: Global, rows: &[Row]) -> usize {
+    let mut door = door(rt, alloc, rows, 1);
+    let mut body = Bytes::new(alloc);
+    assert!(rt;
+        serve_door(rt, alloc, &mut door, &mut body),
+        "all were served"
+    );
+    body.into_vec().capacity()
+}
+
+#[test]
+fn a_delivery_has_room_for_its_length_and_a_feed_has_none(rt: HostRuntime) {
+    assert_eq!(&rt; room_after(&rt, rt.alloc(), &THREE), 483);
+    assert_eq!(&rt; room_after(&rt, rt.alloc(), &FEED), 0);
 }
 
 #[test]

@@ -115,6 +115,15 @@ fn late_bytes_tear_no_answer(rt: HostRuntime) -> Result<(), Fail> {
 }
 
 #[test]
+fn the_usual_limits(rt: HostRuntime) {
+    let usual = Limits::usual();
+    assert_eq!(rt; usual.wait, Duration::from_secs(30));
+    assert_eq!(rt; usual.pace, 65_536);
+    assert_eq!(rt; usual.whole, Duration::from_secs(300));
+    assert_eq!(rt; usual.drain, Duration::from_millis(200));
+}
+
+#[test]
 fn a_silent_client_is_left(rt: HostRuntime) -> Result<(), Fail> {
     let (short, usual) = (Duration::from_millis(500), Limits::usual());
     let rows = [

@@ -1,11 +1,11 @@
 //! The reader: one step of the top level after the other, and what each body means. It meets `StandsFor` of
 //! `specs/FeedPieces.antt`.
-ghost use Rattle.std.specs.Prelude.{◌≡◌, [], ◌++◌, ◌+◌, ◌-◌, ◌<◌, ◌≤◌, ℕ, List as Values, length, take, Some, IfOk, IfErr};
+ghost use Rattle.std.specs.Prelude.{◌≡◌, ◌≢◌, [], ◌++◌, ◌+◌, ◌-◌, ◌<◌, ◌≤◌, ℕ, List as Values, length, take, Some, None, IfOk, IfErr};
 ghost use Rattle.gw_base.specs.declared.messages.Entity as entities;
 ghost use Rattle.gw_base.specs.Limits.{body_limit};
 ghost use Rattle.wire_fields.specs.TopReading as tops;
 ghost use Rattle.feed_reading.specs.declared.fault.FeedFault as faults;
-ghost use Rattle.feed_reading.specs.Faults.{HasFault, IsTold};
+ghost use Rattle.feed_reading.specs.Faults.{HasFault, IsFeedFault};
 ghost use Rattle.feed_reading.specs.FeedPieces.{StandsFor, GoesOn, MayHold, feed_of};
 ghost use Rattle.feed_reading.specs.FeedSteps.{IsReadOf, EndsHeader, EndsEntity, Proceeds, Begins, Ends, body_piece, with_held, between, whole_head};
 ghost use Rattle.feed_reading.specs.Pieces.{piece_of};
@@ -75,13 +75,15 @@ impl FeedReader {
         }
     }
 
-    /// Takes bytes from the front of a piece, at least one, and answers how many, and the entity that ends there with
-    /// its index, if one does. So it goes past no entity's end without giving the entity. From the first fault on it
-    /// takes all and gives none. After an error the reader may only be dropped.
+    /// Takes bytes from the front of a piece up to the next end of an entity, which it gives with its index, and
+    /// answers how many; where none ends in the piece, it takes all. From the first fault on it gives none. After an
+    /// error the reader may only be dropped.
     pub fn feed(&mut self, piece: &[u8]) -> Result<(usize, Option<(u64, Entity)>), AllocError>
         requires some { 0 < length piece.now }
         requires few { self.old.taken + length piece.now ≤ body_limit }
         ensures used { IfOk result (λ x. (1 ≤ x.0) × (x.0 ≤ length piece.now)) }
+        ensures all { IfOk result (λ x. x.1 ≡ None → x.0 ≡ length piece.now) }
+        ensures at_fault { self.old.fault ≢ None → IfOk result (λ x. x.1 ≡ None) }
         ensures taken { IfOk result (λ x. self.new.taken ≡ self.old.taken + x.0) }
         ensures gives { (bytes : Values ℕ) (given : Values entities.Entity) → StandsFor self.old bytes given
             → IfOk result (λ x. GoesOn self.new bytes piece.now given x) }
@@ -100,14 +102,15 @@ impl FeedReader {
         Ok((used, None))
     }
 
-    /// The header of the feed that came, or exactly the fault that its bytes have. Takes no memory.
+    /// The header of the feed that came, or exactly the fault that its bytes have, which is never want of memory. Takes
+    /// no memory.
     pub fn finish(self) -> Result<FeedHead, FeedFault>
         ensures head { (bytes : Values ℕ) (given : Values entities.Entity) → StandsFor self bytes given
             → IfOk result (λ head. MeansFeed bytes (feed_of head given)) }
         ensures no_fault { (bytes : Values ℕ) (given : Values entities.Entity) → StandsFor self bytes given
             → IfOk result (λ _. (fault : faults.FeedFault) → ¬ HasFault bytes fault) }
         ensures fault { (bytes : Values ℕ) (given : Values entities.Entity) → StandsFor self bytes given
-            → IfErr result (λ fault. IsTold bytes fault) }
+            → IfErr result (λ fault. IsFeedFault bytes fault) }
     {
         if let Some(fault) = self.fault {
             return Err(fault);
@@ -134,6 +137,8 @@ impl FeedReader {
         ensures used { IfOk result (λ x. (1 ≤ x.0) × (x.0 ≤ length piece.now)) }
         ensures taken { IfOk result (λ x. self.new.taken ≡ self.old.taken + x.0) }
         ensures fewer { IfOk result (λ _. self.new.given + 1 ≤ self.new.taken) }
+        ensures at_fault { self.old.fault ≢ None
+            → IfOk result (λ x. (self.new.fault ≢ None) × (x.1 ≡ None)) }
         ensures steps { (bytes : Values ℕ) (given : Values entities.Entity) → StandsFor self.old bytes given
             → IfOk result (λ x. Ends self.new (bytes ++ take x.0 piece.now) given x.1) }
     {

@@ -50,7 +50,7 @@ fn made_of(
         (map journey_seen (drop expired journeys.now.entries))
         → IfOk result (λ made. spec.MakesJourneys context.now before body.now
         made.accepted.report
-        (map journey_seen (put_all spec.key_order (drop expired journeys.now.entries) made.batch))) }
+        (map journey_seen (put_all spec.key_order (drop expired journeys.now.entries) made.batch.entries))) }
     ensures refuses { IfErr result (spec.RefusesJourneys context.now body.now) }
 {
     let mut taking = JourneyTaking {

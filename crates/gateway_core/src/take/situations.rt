@@ -55,7 +55,7 @@ fn made_of(
     ensures takes { (before : List of_journeys.Situation)
         → KeepsSituations context.now.table before (map situation_seen kept.now.entries)
         → IfOk result (λ made. spec.TakesBody context.now before body.now
-        (map situation_seen (put_all (slice_cmp nat_cmp) kept.now.entries made.batch))
+        (map situation_seen (put_all (slice_cmp nat_cmp) kept.now.entries made.batch.entries))
         made.accepted.report) }
     ensures refuses { IfErr result (spec.IsRefused context.now body.now) }
     ensures text { IfOk result (λ made. made.accepted.text ≡ report_json made.accepted.report) }

@@ -1,3 +1,4 @@
+use Rattle.gateway_core.proofs.OneTextLemmas.{kept_text_one}
 use Rattle.gateway_core.proofs.StateLemmas.{kept_journeys_one, kept_situations_one, served_alike, served_one, window_one}
 use Rattle.gateway_core.proofs.laws.what_is_served_is_one_law.Goals as goal
 
@@ -15,3 +16,6 @@ returns-clause-served c = λ kept other arrivals at same h k. served_one kept ot
 
 pub returns-clause-alike : goal.returns-clause-alike
 returns-clause-alike c = served_alike
+
+pub returns-clause-text : goal.returns-clause-text
+returns-clause-text c = kept_text_one

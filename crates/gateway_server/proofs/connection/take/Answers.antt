@@ -6,7 +6,7 @@ use Rattle.gw_base.specs.declared.door.Mark.{Mark}
 use Rattle.delivery_journal.specs.Kept.{KeptBody}
 use Rattle.gateway_server.specs.Steps.{PutsTaken}
 use Rattle.gateway_server.proofs.CrashLemmas.{failed_so, keeps_not_taken, keeps_taken, kept_not_taken, kept_taken}
-use Rattle.gateway_server.proofs.TakeLemmas.{puts_not_taken, puts_taken}
+use Rattle.gateway_server.proofs.TakeLemmas.{mark_is_taken, puts_not_taken, puts_taken, same_gate}
 use Rattle.gateway_server.proofs.connection.take.Goals as goal
 
 pub returns-in-Ok-clause-takes : goal.returns-in-Ok-clause-takes
@@ -53,3 +53,9 @@ pub returns-in-Err-clause-failed : goal.returns-in-Err-clause-failed
 returns-in-Err-clause-failed g c =
     failed_so (g.H.HoldsGateway.held c.args.host.now) (g.H.HoldsGateway.held c.take.new.self) c.in-Err.why
     (Rose (g.H.HoldsGateway.faults c.args.beside.now) (g.H.HoldsGateway.faults c.take.new.beside)) c.requires.sound c.in-Err.ensures.left c.in-Err.ensures.counts.cause
+
+pub returns-in-Ok-clause-unchanged : goal.returns-in-Ok-clause-unchanged
+returns-in-Ok-clause-unchanged g c = λ e. absurd (true≢false (sym (mark_is_taken c.args.kind c.taken_mark.result c.taken_mark.ensures) ∙ e))
+
+pub returns-in-Err-clause-unchanged : goal.returns-in-Err-clause-unchanged
+returns-in-Err-clause-unchanged g c = λ e. same_gate (g.H.HoldsGateway.held c.args.host.now) (g.H.HoldsGateway.held c.take.new.self) c.in-Err.why c.in-Err.ensures.left

@@ -7,8 +7,8 @@ use Rattle.journey_model.specs.Dated.{run_of}
 use Rattle.journey_model.specs.Readings.{fits_trip}
 use Rattle.journey_model.specs.Runs.{Run}
 use Rattle.journey_model.specs.Schedules.{Schedule}
-use Rattle.latest_store.proofs.EntityLemmas.{anyway, id_found, made, meant, means_none, messages_none}
-use Rattle.latest_store.specs.Entities.{message}
+use Rattle.latest_store.proofs.EntityLemmas.{anyway, empty_so, id_found, made, meant, means_none, messages_none}
+use Rattle.latest_store.specs.Entities.{is_silent, message}
 use Rattle.latest_store.specs.Reads.{SaysItself}
 use Rattle.sparse_planner.specs.Means.{Says}
 use Rattle.sparse_planner.specs.Shortest.{shortest}
@@ -19,6 +19,9 @@ pub returns-then-is_silent-clause-bytes : goal.returns-then-is_silent-clause-byt
 returns-then-is_silent-clause-bytes c =
     let run : Run = run_of c.args.context.now.table c.args.dated.now in
     c.new.ensures.empty ∙ sym (ap (flat_map written) (messages_none c.args.context.now (recorded c.args.rec.now) run c.requires.on_day (sym c.is_silent.ensures ∙ c.if-is_silent.true)))
+
+pub returns-then-is_silent-clause-empty : goal.returns-then-is_silent-clause-empty
+returns-then-is_silent-clause-empty c = ((λ none. sym c.is_silent.ensures ∙ c.if-is_silent.true), (λ silent. c.new.ensures.empty))
 
 pub returns-then-is_silent-clause-means : goal.returns-then-is_silent-clause-means
 returns-then-is_silent-clause-means c = λ before feed h.
@@ -38,6 +41,9 @@ returns-clause-bytes c =
     (rw (← id_found c.args.context.now.table.trips c.args.rec.now.trip.0 c.trip_id.result.now
     (subst (λ (lent : Schedule). slice_get lent.table.trips c.args.rec.now.trip.0 ≡ Some c.trip_id.result.now) c.context.view_is c.trip_id.ensures.value)) at
     (subst (λ (lent : Schedule). c.in_ok-entity.entity ≡ message c.trip_id.result.now (run_of lent.table c.args.dated.now) (recorded c.args.rec.now)) c.context.view_is c.in_ok-entity.ensures.message)) c.entity_bytes.ensures.written
+
+pub returns-clause-empty : goal.returns-clause-empty
+returns-clause-empty c = empty_so c.entity_bytes.result c.in_ok-entity.entity (is_silent c.args.rec.now.reading) (sym c.is_silent.ensures ∙ c.if-is_silent.false) c.entity_bytes.ensures.written
 
 pub returns-clause-means : goal.returns-clause-means
 returns-clause-means c =

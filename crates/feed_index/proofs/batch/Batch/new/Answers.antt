@@ -8,4 +8,5 @@ invariant_of-result g c = rw (c.new.ensures.items, c.make.ensures.empty) (record
   held = record { once = λ slot. refl; total_is = refl };
   staged = record { front_rises = rising_none (λ (one : Entry _ _). one.key) g.K.Ord.cmp; back_rises = rising_none (λ (one : Entry _ _). one.key) g.K.Ord.cmp; apart = tt };
   within = omega arith;
+  bounded = omega arith;
 })

@@ -11,7 +11,7 @@ returns-in-Some g c =
     record {
       value = rw (← c.self.view_is)
           (ap (λ (it : Option _). option_or it (value_at g.K.Ord.cmp kept c.args.key.now)) c.in-Some.ensures.value
-          ∙ sym (value_after g.met.K.Ord.total kept c.self.inside.batch c.args.key.now c.self.invariant.2));
+          ∙ sym (value_after g.met.K.Ord.total kept c.self.inside.batch.entries c.args.key.now c.self.invariant.2));
     }
 
 pub returns-in-None : goal.returns-in-None
@@ -21,5 +21,5 @@ returns-in-None g c =
       value = rw (← c.self.view_is)
           (c.find_after.ensures.value
           ∙ ap (λ (it : Option _). option_or it (value_at g.K.Ord.cmp kept c.args.key.now)) c.in-None.ensures.value
-          ∙ sym (value_after g.met.K.Ord.total kept c.self.inside.batch c.args.key.now c.self.invariant.2));
+          ∙ sym (value_after g.met.K.Ord.total kept c.self.inside.batch.entries c.args.key.now c.self.invariant.2));
     }

@@ -15,8 +15,8 @@ pub invariant_of-self-2 : goal.invariant_of-self-2
 invariant_of-self-2 g c =
     let one : Entry _ _ = record { key = c.args.key; value = c.args.value; bytes = c.args.bytes } in
     let kept = drop c.self.inside.gone c.self.inside.index.now.entries in
-    let items = c.self.inside.batch in
-    let now : c.put.new.self ≡ put g.K.Ord.cmp items one = rw c.as_slice.ensures.same at c.in_ok-put.ensures.put in
+    let items = c.self.inside.batch.entries in
+    let now : c.put.new.self.entries ≡ put g.K.Ord.cmp items one = rw c.as_slice.ensures.same at c.in_ok-put.ensures.put in
     let whole : ℕ = length (put_all g.K.Ord.cmp kept items) in
     let len_is : c.self.inside.len ≡ whole = c.self.invariant.3 in
     let more_is : c.in-Some.more ≡ whole + 1 = c.in-Some.ensures.1 ∙ ap (λ n. n + 1) len_is in
@@ -27,7 +27,7 @@ invariant_of-self-2 g c =
     ap (λ n. nat_lt n c.len.result) c.len-before.ensures.value ∙ ap (nat_lt (length items)) (c.len.ensures.value ∙ ap length now) in
     let kept_rises = rising_drop (λ (each : Entry _ _). each.key) g.met.K.Ord.total c.self.inside.gone c.self.inside.index.now.entries c.self.invariant.1 in
     let count = length_with g.met.K.Ord.total kept items one stays grew kept_rises c.self.invariant.2 stays_is grew_is in
-    let long : c.counted-self-inside.result ≡ length (put_all g.K.Ord.cmp kept c.put.new.self) =
+    let long : c.counted-self-inside.result ≡ length (put_all g.K.Ord.cmp kept c.put.new.self.entries) =
     c.counted-self-inside.ensures.value
     ∙ ap (λ n. cond stays n (cond grew c.in-Some.more n)) len_is
     ∙ ap (λ n. cond stays whole (cond grew n whole)) more_is
@@ -44,6 +44,6 @@ pub returns-clause-put : goal.returns-clause-put
 returns-clause-put g c =
     let one : Entry _ _ = record { key = c.args.key; value = c.args.value; bytes = c.args.bytes } in
     let kept = drop c.self.inside.gone c.self.inside.index.now.entries in
-    let items = c.self.inside.batch in
-    let now : c.put.new.self ≡ put g.K.Ord.cmp items one = rw c.as_slice.ensures.same at c.in_ok-put.ensures.put in
+    let items = c.self.inside.batch.entries in
+    let now : c.put.new.self.entries ≡ put g.K.Ord.cmp items one = rw c.as_slice.ensures.same at c.in_ok-put.ensures.put in
     rw (← c.self.view_is) (ap (put_all g.K.Ord.cmp kept) now ∙ all_one (λ (each : Entry _ _). each.key) g.met.K.Ord.total kept items one c.self.invariant.2)

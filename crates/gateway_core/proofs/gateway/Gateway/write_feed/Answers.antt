@@ -3,6 +3,8 @@ use Rattle.std.proofs.Common.{◌≡◌, ◌∙◌, [], ℕ, List, OnOk, ap, sub
 use Rattle.gw_base.specs.Count.{Rose}
 use Rattle.gw_base.specs.Told.{PutsUnless, with_bytes}
 use Rattle.feed_reading.specs.Tables.{MeansFeed, full_dataset}
+use Rattle.timetable.specs.Seen.{seen}
+use Rattle.timetable.specs.Sound.{IsSound}
 use Rattle.gateway_core.specs.Standing.{Kept}
 use Rattle.gateway_core.proofs.ServingLemmas.{all_written, stands_gives, stands_rebuilt}
 use Rattle.gateway_core.proofs.gateway.Gateway.write_feed.Goals as goal
@@ -32,3 +34,4 @@ pub returns-clause-gives : goal.returns-clause-gives
 returns-clause-gives g c = λ arrivals stands.
     stands_gives c.args.self.now arrivals c.args.moment
     (subst (λ (head : List ℕ). MeansFeed head (full_dataset c.args.moment [])) c.header_bytes-header.ensures.written c.header_bytes-header.ensures.means) stands
+    (subst (λ (k : Kept). IsSound (seen k.setting.table)) c.self.view_is c.soundness_law.ensures)

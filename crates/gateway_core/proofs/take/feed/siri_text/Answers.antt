@@ -1,6 +1,7 @@
 -- What the end of the feed is answered, once its bytes have no fault; or the fault.
 use Rattle.std.proofs.Common.{subst, sym}
 use Rattle.feed_reading.specs.FeedPieces.{feed_of}
+use Rattle.feed_reading.proofs.Told.{told}
 use Rattle.gateway_core.specs.FeedTexts.{IsRefusedFeed}
 use Rattle.gateway_core.specs.declared.accepted.FeedRefusal.{FeedRefusal}
 use Rattle.gateway_core.proofs.FeedAnswers.{bytes_refused, ended_refuses, ended_says}
@@ -21,4 +22,4 @@ returns-in-Ok-clause-refuses c = λ bytes h.
 pub returns-in-Err-clause-refuses : goal.returns-in-Err-clause-refuses
 returns-in-Err-clause-refuses c = λ bytes h.
     subst (λ (one : FeedRefusal). IsRefusedFeed c.args.context.now bytes one) (sym c.of_bytes.ensures)
-    (bytes_refused c.args.context.now bytes c.in-Err.fault (c.in-Err.ensures.fault bytes h.given h.read))
+    (bytes_refused c.args.context.now bytes c.in-Err.fault (told bytes c.in-Err.fault (c.in-Err.ensures.fault bytes h.given h.read)))

@@ -34,4 +34,4 @@ returns-clause-makes c = λ before h.
     c.into_report-report.ensures has)
     reads in
     subst (λ (es : List JourneyEntry). MakesJourneys schedule before c.args.body.now c.into_report-report.result es)
-    (seen_put c.hand_on_journeys.new.taker.draft kept c.into_batch.result same c.into_batch.ensures.after) made
+    (seen_put c.hand_on_journeys.new.taker.draft kept c.into_batch.result.entries same c.into_batch.ensures.after) made

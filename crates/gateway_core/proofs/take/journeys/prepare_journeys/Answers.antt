@@ -22,8 +22,8 @@ returns-in-Ok-prepare-clause-answers c = λ arrivals h now changed.
     journeys_accepted (kept_of c.args.setting.now c.args.state.now) (kept_of c.args.setting.now now)
     arrivals c.args.moment c.args.body.now c.args.setting.now c.window_move-window.result.window
     refl (c.window_move-window.ensures.rolls arrivals h)
-    c.in-Ok.made.accepted c.args.state.now.journeys.entries c.in-Ok.made.batch gone h
+    c.in-Ok.made.accepted c.args.state.now.journeys.entries c.in-Ok.made.batch.entries gone h
     refl (c.window_move-window.ensures.keeps arrivals h) (rw c.context_over-context.ensures at c.in-Ok.ensures.makes) refl changed.window_is
     (ap (map journey_seen)
-    (changed.journeys_are ∙ ap (λ (all : List (Entry JourneyKey Instant)). put_all key_order (drop gone all) c.in-Ok.made.batch) c.prepare.ensures.same.journeys_are))
+    (changed.journeys_are ∙ ap (λ (all : List (Entry JourneyKey Instant)). put_all key_order (drop gone all) c.in-Ok.made.batch.entries) c.prepare.ensures.same.journeys_are))
     (ap (map situation_seen) (changed.situations_are ∙ c.prepare.ensures.same.situations_are)) (changed.text_is ∙ c.prepare.ensures.same.text_is)

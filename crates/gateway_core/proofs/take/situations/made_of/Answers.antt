@@ -36,6 +36,6 @@ returns-in-Ok-with_text-clause-takes c = λ before h.
     (subst (λ (es : List SituationEntry). KeepsSituations schedule.table before es) (sym (alerts_over c.over.result kept c.over.ensures.kept c.over.ensures.empty)) h)
     c.into_report.ensures has)
     reads in
-    subst (λ (report : Report). TakesBody schedule before c.args.body.now (map situation_seen (put_all (slice_cmp nat_cmp) kept c.into_batch.result)) report) (sym c.in-Ok-with_text.ensures.report)
+    subst (λ (report : Report). TakesBody schedule before c.args.body.now (map situation_seen (put_all (slice_cmp nat_cmp) kept c.into_batch.result.entries)) report) (sym c.in-Ok-with_text.ensures.report)
     (subst (λ (es : List SituationEntry). TakesBody schedule before c.args.body.now es c.into_report.result)
-    (alerts_put c.hand_on_situations.new.taker.draft kept c.into_batch.result same c.into_batch.ensures.after) made)
+    (alerts_put c.hand_on_situations.new.taker.draft kept c.into_batch.result.entries same c.into_batch.ensures.after) made)

@@ -26,7 +26,7 @@ returns-in-Ok-prepare-clause-answers c = λ arrivals h now changed.
     let left : drop gone (map journey_seen old.journeys.entries) ≡ map journey_seen now.journeys.entries =
     journeys_drop old.journeys.entries gone ∙ ap (map journey_seen) (sym (changed.journeys_are ∙ ap (drop gone) c.prepare.ensures.same.journeys_are)) in
     answer_taken (kept_of setting old) (kept_of setting now) arrivals c.args.moment c.args.body.now c.in-Ok.made.accepted c.window_move-window.result.window
-    (map situation_seen (put_all (slice_cmp nat_cmp) old.situations.entries c.in-Ok.made.batch)) h (c.window_move-window.ensures.rolls arrivals h)
+    (map situation_seen (put_all (slice_cmp nat_cmp) old.situations.entries c.in-Ok.made.batch.entries)) h (c.window_move-window.ensures.rolls arrivals h)
     ((rw c.context_over-context.ensures at c.in-Ok.ensures.takes) (admitted_situations arrivals) h.situations_are)
     refl changed.window_is
     (subst
@@ -34,5 +34,5 @@ returns-in-Ok-prepare-clause-answers c = λ arrivals h now changed.
     KeepsJourneys (schedule_at setting (c.args.moment ∷ moments_of arrivals)) (filter (is_within (window_at setting (c.args.moment ∷ moments_of arrivals))) (admitted setting arrivals)) entries)
     left (c.window_move-window.ensures.keeps arrivals h))
     (ap (map situation_seen)
-    (sym (changed.situations_are ∙ ap (λ (ready : List (Entry (List ℕ) Edition)). put_all (slice_cmp nat_cmp) ready c.in-Ok.made.batch) c.prepare.ensures.same.situations_are)))
+    (sym (changed.situations_are ∙ ap (λ (ready : List (Entry (List ℕ) Edition)). put_all (slice_cmp nat_cmp) ready c.in-Ok.made.batch.entries) c.prepare.ensures.same.situations_are)))
     (changed.text_is ∙ c.prepare.ensures.same.text_is)

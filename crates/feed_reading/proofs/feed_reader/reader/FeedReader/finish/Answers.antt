@@ -1,16 +1,16 @@
 -- The end of the bytes says what the reader answers.
-use Rattle.feed_reading.proofs.FeedEnds.{told_at_stop, told_at_cut, finishes, none_of, head_said, faultless_said, fault_said}
+use Rattle.feed_reading.proofs.FeedEnds.{stopped_here, cut_here, finishes, none_of, head_said, faultless_said, fault_said}
 use Rattle.feed_reading.proofs.feed_reader.reader.FeedReader.finish.Goals as goal
 
 pub returns-in-Some-clause-fault : goal.returns-in-Some-clause-fault
 returns-in-Some-clause-fault c =
-    rw (← c.self.view_is) (λ bytes given h. told_at_stop _ bytes given c.in-Some.fault c.in-Some.is h)
+    rw (← c.self.view_is) (λ bytes given h. stopped_here _ bytes given c.in-Some.fault c.in-Some.is h)
 
 pub returns-in-Some-end-clause-fault : goal.returns-in-Some-end-clause-fault
 returns-in-Some-end-clause-fault c =
     rw (← c.self.view_is)
     (λ bytes given h.
-    told_at_cut _ bytes given c.in-Some-end.fault (none_of c.self.inside.fault c.in_default.not-Some)
+    cut_here _ bytes given c.in-Some-end.fault (none_of c.self.inside.fault c.in_default.not-Some)
     (λ b s. (c.in-Some-end.ensures.says b s).0) c.in-Some-end.ensures.at.0 h)
 
 pub returns-clause-head : goal.returns-clause-head
